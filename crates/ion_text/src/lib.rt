@@ -4,3 +4,6 @@
 mod writing;
 
 pub use writing::write;
+
+#[cfg(test)]
+mod tests;
