@@ -1,3 +1,6 @@
 pub mod Numeral
-pub mod Token
+pub mod Quoted
 pub mod Read
+pub mod Timestamp
+pub mod Token
+pub mod Write

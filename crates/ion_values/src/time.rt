@@ -1,3 +1,5 @@
+ghost use Rattle.std.specs.Prelude.{◌≡◌};
+
 use std::marker::Model;
 
 /// How far a timestamp goes.
@@ -44,4 +46,13 @@ impl Model for IonTime {
     ghost view = { λ t. t.parts };
 
     ghost inverse = { λ p. record { parts = p } };
+}
+
+impl IonTime {
+    /// The parts. It takes no memory.
+    pub fn parts(&self) -> TimeParts
+        ensures { result ≡ self.now }
+    {
+        self.parts
+    }
 }

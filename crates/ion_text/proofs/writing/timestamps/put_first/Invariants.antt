@@ -1,0 +1,9 @@
+use Rattle.std.proofs.Common.{◌≡◌, ◌++◌}
+use Rattle.ion_forms.specs.Timestamp.{first_digits}
+use Rattle.ion_text.proofs.writing.timestamps.put_first.Given as goal
+
+abbrev pub invariant-loop-left : goal.invariant-loop-left
+invariant-loop-left l = l.out ++ first_digits l.left l.rest ≡ l.initial.out ++ first_digits l.initial.left l.initial.rest
+
+abbrev pub decreases-loop-left : goal.decreases-loop-left
+decreases-loop-left l = l.left

@@ -1,0 +1,115 @@
+//! Values with all that is in them.
+ghost use Rattle.std.specs.Prelude.{◌≡◌, ◌++◌, ◌<◌, map, IfOk, OnOk};
+ghost use Rattle.std.specs.List.{flat_map};
+ghost use Rattle.ion_forms.specs.Write.{annotation_text, body_text, field_text, joined, parted, value_text};
+
+use super::quoted::{put_ascii, put_clob, put_string, put_symbol};
+use super::scalars::{put_blob, put_bool, put_decimal, put_int, put_null};
+use super::timestamps::put_timestamp;
+use ion_values::{Body, Field, Names, Value};
+use lists::{OutOfMemory, Text};
+use std::alloc::Global;
+
+/// The value's text, in the one spelling that values have when they are written.
+pub fn write(alloc: Global, v: &Value) -> Result<Text, OutOfMemory>
+    ensures { IfOk result (λ text. text ≡ value_text v.now) }
+{
+    let mut out = Text::new(alloc);
+    put_value(alloc, &mut out, v)?;
+    Ok(out)
+}
+
+#[cycle(write)]
+fn put_value(alloc: Global, out: &mut Text, value: &Value) -> Result<(), OutOfMemory>
+    ensures { OnOk result (out.new ≡ out.old ++ value_text value.now) }
+{
+    put_annotations(out, &value.annotations)?;
+    put_body(alloc, out, &value.body)
+}
+
+fn put_annotations(out: &mut Text, names: &Names) -> Result<(), OutOfMemory>
+    ensures { OnOk result (out.new ≡ out.old ++ flat_map annotation_text names.now) }
+{
+    for name in names.as_slice() {
+        put_symbol(out, name.as_str())?;
+        out.push_str("::")?;
+    }
+    Ok(())
+}
+
+#[cycle(write)]
+fn put_body(alloc: Global, out: &mut Text, body: &Body) -> Result<(), OutOfMemory>
+    ensures { OnOk result (out.new ≡ out.old ++ body_text body.now) }
+{
+    match body {
+        Body::Null(kind) => put_null(out, *kind),
+        Body::Bool(truth) => put_bool(out, *truth),
+        Body::Int(number) => put_int(alloc, out, *number),
+        Body::Decimal(number) => put_decimal(alloc, out, number),
+        Body::Timestamp(time) => put_timestamp(out, time),
+        Body::Symbol(text) => put_symbol(out, text.as_str()),
+        Body::String(text) => put_string(out, text.as_str()),
+        Body::Clob(bytes) => put_clob(out, bytes.as_slice()),
+        Body::Blob(bytes) => put_blob(alloc, out, bytes.as_slice()),
+        Body::List(values) => {
+            out.push_str("[")?;
+            put_values(alloc, out, b',', values.as_slice())?;
+            out.push_str("]")
+        }
+        Body::Sexp(values) => {
+            out.push_str("(")?;
+            put_values(alloc, out, b' ', values.as_slice())?;
+            out.push_str(")")
+        }
+        Body::Struct(fields) => {
+            out.push_str("{")?;
+            put_fields(alloc, out, fields.as_slice())?;
+            out.push_str("}")
+        }
+    }
+}
+
+#[cycle(write)]
+fn put_values(
+    alloc: Global,
+    out: &mut Text,
+    separator: u8,
+    values: &[Value],
+) -> Result<(), OutOfMemory>
+    requires { separator < 128 }
+    ensures { OnOk result (out.new ≡ out.old ++ parted separator (map value_text values.now)) }
+{
+    let [first, more @ ..] = values else {
+        return Ok(());
+    };
+    put_value(alloc, out, first)?;
+    for value in more {
+        put_ascii(out, separator)?;
+        put_value(alloc, out, value)?;
+    }
+    Ok(())
+}
+
+#[cycle(write)]
+fn put_field(alloc: Global, out: &mut Text, field: &Field) -> Result<(), OutOfMemory>
+    ensures { OnOk result (out.new ≡ out.old ++ field_text field.now) }
+{
+    put_symbol(out, field.name.as_str())?;
+    out.push_str(":")?;
+    put_value(alloc, out, &field.value)
+}
+
+#[cycle(write)]
+fn put_fields(alloc: Global, out: &mut Text, fields: &[Field]) -> Result<(), OutOfMemory>
+    ensures { OnOk result (out.new ≡ out.old ++ joined (map field_text fields.now)) }
+{
+    let [first, more @ ..] = fields else {
+        return Ok(());
+    };
+    put_field(alloc, out, first)?;
+    for field in more {
+        out.push_str(",")?;
+        put_field(alloc, out, field)?;
+    }
+    Ok(())
+}
