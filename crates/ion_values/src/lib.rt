@@ -1,0 +1,18 @@
+//! Values of Amazon Ion 1.0 without floats.
+#![tactic(auto)]
+
+mod copies;
+mod decimal;
+mod fault;
+mod time;
+mod value;
+
+pub use copies::copy;
+pub use decimal::Decimal;
+pub use fault::{IonFault, IonKind};
+pub use lists::{Bytes, OutOfMemory, Text};
+pub use time::{BadTime, IonTime, Precision, TimeParts};
+pub use value::{Body, Field, Fields, Key, Kind, Names, Value, Values};
+
+#[cfg(test)]
+mod tests;
