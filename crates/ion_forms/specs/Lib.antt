@@ -1,0 +1,3 @@
+pub mod Numeral
+pub mod Token
+pub mod Read

@@ -1,0 +1,14 @@
+//! What lies outside the program: its input, its output, the store of its journal, its clock and the
+//! gate before each step, as traits; forms of them in memory, whose calls can be made to fail; and
+//! adapters over the real streams, files and clock.
+#![tactic(auto)]
+
+mod adapters;
+mod memory;
+mod plan;
+mod traits;
+
+pub use adapters::{InputSource, OutputSink};
+pub use memory::{MemorySink, MemorySource};
+pub use plan::Failing;
+pub use traits::{OutFault, Sink, Source};
