@@ -35,8 +35,9 @@ fn copy_body(alloc: Global, body: &Body) -> Result<Body, OutOfMemory>
     }
 }
 
+/// Values that equal the given ones, in order.
 #[cycle(copy)]
-fn copy_values(alloc: Global, values: &[Value]) -> Result<Values, OutOfMemory>
+pub fn copy_values(alloc: Global, values: &[Value]) -> Result<Values, OutOfMemory>
     ensures { IfOk result (λ new. new ≡ values.now) }
 {
     let mut new = Sequence::new(alloc);

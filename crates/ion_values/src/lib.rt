@@ -7,7 +7,7 @@ mod fault;
 mod time;
 mod value;
 
-pub use copies::copy;
+pub use copies::{copy, copy_values};
 pub use decimal::Decimal;
 pub use fault::{IonFault, IonKind};
 pub use lists::{Bytes, OutOfMemory, Text};

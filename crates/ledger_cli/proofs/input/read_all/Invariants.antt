@@ -1,0 +1,14 @@
+use Rattle.std.proofs.Common.{◌≤◌, ◌-◌, length}
+use Rattle.std.specs.Io.KnownBytes.{Consumes}
+use Rattle.ledger_cli.proofs.input.read_all.Given as goal
+
+-- what was read so far was taken
+abbrev pub invariant-pieces : goal.invariant-pieces
+invariant-pieces g l = record {
+  few : length l.all.items ≤ 16777217;
+  later : g.So.Source.fault_count l.initial.source ≤ g.So.Source.fault_count l.source;
+  so_far : Consumes (g.So.Source.left l.initial.source) (g.So.Source.left l.source) l.all.items;
+}
+
+abbrev pub decreases-pieces : goal.decreases-pieces
+decreases-pieces g l = 16777217 - length l.all.items

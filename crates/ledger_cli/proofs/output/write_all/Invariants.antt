@@ -1,0 +1,14 @@
+use Rattle.std.proofs.Common.{length, take, ◌-◌, ◌≤◌}
+use Rattle.std.specs.Io.KnownBytes.{Appends}
+use Rattle.ledger_cli.proofs.output.write_all.Given as goal
+
+-- the text in front of `at` was written
+abbrev pub invariant-pieces : goal.invariant-pieces
+invariant-pieces g l = record {
+  within : l.at ≤ length l.text;
+  later : g.Si.Sink.fault_count l.initial.sink ≤ g.Si.Sink.fault_count l.sink;
+  so_far : Appends (g.Si.Sink.written l.initial.sink) (g.Si.Sink.written l.sink) (take l.at l.text);
+}
+
+abbrev pub decreases-pieces : goal.decreases-pieces
+decreases-pieces g l = length l.text - l.at

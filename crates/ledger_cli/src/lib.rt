@@ -1,0 +1,13 @@
+//! The top call of the ledger: it reads a script, runs it and writes its report.
+#![tactic(auto)]
+
+mod answer;
+mod input;
+mod output;
+mod report;
+mod run;
+mod script;
+mod served;
+mod transaction;
+mod view;
+mod words;

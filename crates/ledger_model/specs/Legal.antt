@@ -1,0 +1,30 @@
+-- When a list of blocks is a history: each block is what its transaction's statements mean on the blocks before it.
+use Rattle.std.specs.Prelude.{◌≡◌, ℕ, List, [], ◌∷◌, map, take, drop}
+use Rattle.ql_types.specs.Ids.{raw_id}
+use Rattle.ledger_model.specs.declared.block.Said.{Said}
+use Rattle.ledger_model.specs.declared.block.Block.{Block}
+use Rattle.ledger_model.specs.declared.script.Request.{Request}
+use Rattle.ledger_model.specs.State.{State, state, after}
+use Rattle.ledger_model.specs.Run.{Begun, Progress, run, ran, final_revisions}
+
+-- what was asked, without the answers
+abbrev pub asked_in : List Said → List Request
+asked_in said = map (λ s. record { text = s.text; params = s.params }) said
+
+-- the block is what its transaction's statements mean on this state
+pub record Means (mask : ℕ) (s : State) (b : Block) : Type 0 where
+  pub number : ℕ
+  pub progress : Progress
+  pub id : b.tx.raw ≡ raw_id mask number 0
+  pub runs : run (record { mask = mask; number = number }) s (asked_in b.info.said) ≡ ran progress
+  pub said : b.info.said ≡ progress.said
+  pub schema : b.info.schema ≡ progress.schema
+  pub revisions : b.revisions ≡ final_revisions progress
+
+abbrev pub LegalFrom : ℕ → State → List Block → Type 0
+LegalFrom mask s [] = Unit {0}
+LegalFrom mask s (b ∷ bs) = Means mask s b × LegalFrom mask (after s b) bs
+
+-- from a place on, each block is what its transaction means at its place
+abbrev pub Legal : ℕ → List Block → ℕ → Type 0
+Legal mask blocks from = LegalFrom mask (state (take from blocks)) (drop from blocks)

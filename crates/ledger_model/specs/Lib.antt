@@ -1,0 +1,9 @@
+pub mod Values
+pub mod State
+pub mod Views
+pub mod Statements
+pub mod Run
+pub mod Legal
+pub mod Script
+pub mod Unbuilt
+pub mod Report

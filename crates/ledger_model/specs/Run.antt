@@ -1,0 +1,129 @@
+-- What a transaction's statements mean, one after another, on a state and the changes that pend so far.
+use Rattle.std.specs.Prelude.{◌≡◌, ℕ, ◌+◌, List, [], ◌∷◌, ◌++◌, map, codes, Option, Some, None, Result, Ok, Err}
+use Rattle.ion_values.specs.declared.value.Value.{Value}
+use Rattle.ion_values.specs.declared.value.Kind.{Kind}
+use Rattle.ion_values.specs.declared.value.Kind.TheVariants as kind
+use Rattle.ion_values.specs.declared.value.Body.{Body, out-Body}
+use Rattle.ion_values.specs.declared.value.Field.{Field}
+use Rattle.ion_values.specs.declared.value.Body.TheOpen.{Body-F}
+use Rattle.ql_types.specs.Ids.{raw_id}
+use Rattle.ql_types.specs.declared.TableId.{TableId}
+use Rattle.ledger_model.specs.declared.block.Said.{Said}
+use Rattle.ledger_model.specs.declared.block.Schema.{Schema}
+use Rattle.ledger_model.specs.declared.block.Schema.TheVariants.{Create}
+use Rattle.ledger_model.specs.declared.block.Draft.{Draft}
+use Rattle.ledger_model.specs.declared.block.Content.TheVariants.{Kept}
+use Rattle.ledger_model.specs.declared.script.Request.{Request}
+use Rattle.ledger_model.specs.declared.outcome.Refusal.{Refusal}
+use Rattle.ledger_model.specs.declared.outcome.Refusal.TheVariants.{NoSuchTable, TableExists, NotADocument}
+use Rattle.ledger_model.specs.Values.{kind_of, named_id}
+use Rattle.ledger_model.specs.State.{State, all_changed, active_table}
+use Rattle.ledger_model.specs.Views.{user_view, latest}
+use Rattle.ledger_model.specs.Statements.{Statement, create_table, insert_into, select_all, statement_of}
+
+-- the mask of the journal's ids and the number of the transaction
+pub record Begun : Type 0 where
+  pub mask : ℕ
+  pub number : ℕ
+
+-- what a transaction's statements have done so far: what was said, the changes of the schema, the pending
+-- revisions in order, and how many ids were made
+pub record Progress : Type 0 where
+  pub said : List Said
+  pub schema : List Schema
+  pub log : List Draft
+  pub made : ℕ
+
+abbrev pub start : Progress
+start = record { said = []; schema = []; log = []; made = 0 }
+
+-- what one statement does: its answer, and what it adds
+pub record Effect : Type 0 where
+  pub rows : List Value
+  pub schema : List Schema
+  pub log : List Draft
+  pub made : ℕ
+
+-- the number of the next id
+abbrev pub next_id : Begun → Progress → ℕ
+next_id b p = raw_id b.mask b.number (p.made + 1)
+
+abbrev pub created : List ℕ → ℕ → Option TableId → Result Effect Refusal
+created name id (Some there) = Err (TableExists name)
+created name id None = Ok (record {
+  rows = named_id (codes "tableId") id ∷ [];
+  schema = Create name (record { raw = id }) ∷ [];
+  log = [];
+  made = 1;
+})
+
+-- a struct is a document
+abbrev pub stored : ℕ → TableId → Value → Body-F Body Field Value → Result Effect Refusal
+stored id table v (Body-F.Struct fields) = Ok (record {
+  rows = named_id (codes "documentId") id ∷ [];
+  schema = [];
+  log = record { table = table; id = record { raw = id }; version = 0; content = Kept v } ∷ [];
+  made = 1;
+})
+stored id table v other = Err (NotADocument (kind_of other))
+
+abbrev pub inserted : List ℕ → ℕ → Value → Option TableId → Result Effect Refusal
+inserted name id v None = Err (NoSuchTable name)
+inserted name id v (Some table) = stored id table v (out-Body v.body)
+
+abbrev pub selected : List ℕ → List Draft → List Draft → Option TableId → Result Effect Refusal
+selected name committed pending None = Err (NoSuchTable name)
+selected name committed pending (Some table) = Ok (record {
+  rows = map (λ row. row.value) (user_view table committed pending);
+  schema = [];
+  log = [];
+  made = 0;
+})
+
+-- the active table of a name, the transaction's own changes counted
+abbrev pub table_now : State → Progress → List ℕ → Option TableId
+table_now s p name = active_table (all_changed s.tables p.schema) name
+
+abbrev pub effect_of : Begun → State → Progress → Statement → Result Effect Refusal
+effect_of b s p (create_table name) = created name (next_id b p) (table_now s p name)
+effect_of b s p (insert_into name v) = inserted name (next_id b p) v (table_now s p name)
+effect_of b s p (select_all name) = selected name s.revisions p.log (table_now s p name)
+
+abbrev pub if_read : (Statement → Result Effect Refusal) → Result Statement Refusal → Result Effect Refusal
+if_read f (Ok statement) = f statement
+if_read f (Err cause) = Err cause
+
+-- the statement, said, and what it added
+abbrev pub recorded : Progress → Request → Result Effect Refusal → Result Progress Refusal
+recorded p r (Err cause) = Err cause
+recorded p r (Ok e) = Ok (record {
+  said = p.said ++ record { text = r.text; params = r.params; answer = record { rows = e.rows } } ∷ [];
+  schema = p.schema ++ e.schema;
+  log = p.log ++ e.log;
+  made = p.made + e.made;
+})
+
+-- one statement
+abbrev pub step : Begun → State → Progress → Request → Result Progress Refusal
+step b s p r = recorded p r (if_read (effect_of b s p) (statement_of r))
+
+-- how a transaction's statements end: all were done, or this one was refused, counted from 1
+pub data Ran : Type 0 where
+  ran : Progress → Ran
+  refused : (statement : ℕ) (cause : Refusal) → Ran
+
+abbrev pub then_run : ℕ → Result Progress Refusal → (Progress → Ran) → Ran
+then_run j (Err cause) rest = refused j cause
+then_run j (Ok p) rest = rest p
+
+abbrev pub run_from : Begun → State → ℕ → Progress → List Request → Ran
+run_from b s j p [] = ran p
+run_from b s j p (r ∷ rs) = then_run j (step b s p r) (λ q. run_from b s (j + 1) q rs)
+
+-- the whole transaction
+abbrev pub run : Begun → State → List Request → Ran
+run b s asked = run_from b s 1 start asked
+
+-- one revision for each document that was touched, with its final content, in order of first touch
+abbrev pub final_revisions : Progress → List Draft
+final_revisions p = latest p.log

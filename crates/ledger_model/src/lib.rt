@@ -1,0 +1,13 @@
+//! What the ledger keeps and answers: scripts, answers, blocks, refusals and outcomes. Their meaning stands in
+//! the definitions in specs/, which the contracts of the crates above cite.
+#![tactic(auto)]
+
+mod block;
+mod outcome;
+mod script;
+
+pub use block::{
+    Answer, Block, Blocks, Content, Draft, Drafts, Info, Row, Said, SaidList, Schema, SchemaList,
+};
+pub use outcome::{Outcome, Outcomes, PlacedOutcome, Refusal};
+pub use script::{Asked, Job, Request, Script, Session};
