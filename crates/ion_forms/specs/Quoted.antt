@@ -1,5 +1,5 @@
 -- The one spelling of strings, symbols and clobs (Ion 1.0 text, "Strings", "Escape Characters", "Symbols" and "Clobs"). Texts
--- are UTF-8. Each byte is spelled by itself, and a byte of 80 or above stands as it is.
+-- are UTF-8. Each byte is spelled by itself, and one that is no ASCII stands as it is.
 use Rattle.std.specs.Prelude.{ℕ, ◌/◌, ◌%◌, ◌==◌, ◌&&◌, ◌||◌, not, Bool, false, nat_lt, nat_le, List, [], ◌∷◌, ◌++◌, codes, if◌then◌else◌}
 use Rattle.std.specs.Char.{digit_char}
 use Rattle.std.specs.List.{flat_map, list_all}
@@ -9,7 +9,7 @@ use Rattle.std.specs.Str.{bytes_eq}
 abbrev pub hex_escape : ℕ → List ℕ
 hex_escape b = 92 ∷ 120 ∷ digit_char (b / 16) ∷ digit_char (b % 16) ∷ []
 
--- below 20, and 7F
+-- below 20 in hexadecimal, and 7F
 abbrev pub is_control : ℕ → Bool
 is_control b = nat_lt b 32 || b == 127
 

@@ -1,4 +1,5 @@
--- The one spelling in which values are written in Ion 1.0's text format.
+-- The one spelling in which values are written (Ion 1.0 text, "Null Values" to "Structures" and "Type Annotations"). No white
+-- space stands in it but one space between the members of a sexp.
 use Rattle.std.specs.Prelude.{ℕ, Bool, true, false, List, [], ◌∷◌, ◌++◌, codes, if◌then◌else◌}
 use Rattle.std.specs.Fmt.{signed_decimal}
 use Rattle.std.specs.List.{flat_map}
