@@ -1,0 +1,4 @@
+pub mod Numeral
+pub mod Skip
+pub mod Ascii
+pub mod Tokens
