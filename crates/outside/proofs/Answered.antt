@@ -1,7 +1,6 @@
 -- The answers of a clock in memory grow by what it answers next.
-use Rattle.std.proofs.Common.{◌≡◌, ℕ, ◌+◌, ◌-◌, ◌^◌, ◌<◌, ◌≤◌, inl, inr, ℤ, List, [], ◌∷◌, ◌++◌, length, get_or, take, arith, append-nil, append_assoc}
-use Rattle.std.proofs.Math.ListN.{replicate}
-use Rattle.std.proofs.lemmas.Bool.Decides.{leb_tells, eqb_tells}
+use Rattle.std.proofs.Common.{◌≡◌, ℕ, ◌+◌, ◌-◌, ◌<◌, ◌≤◌, inl, inr, ℤ, List, [], ◌∷◌, ◌++◌, length, get_or, arith, append-nil, append_assoc}
+use Rattle.std.proofs.lemmas.Bool.Decides.{leb_tells}
 use Rattle.std.proofs.lemmas.Grind.{common_steps}
 use Rattle.std.proofs.lemmas.List.{take_more, take_all, get_or_past, replicate_more}
 use Rattle.outside.specs.Clocks.{ClockHeld, AddsAnswer, last_time, next_time, clock_after, first_answers, told_answers}
@@ -18,8 +17,14 @@ past : (times : List ℤ) (calls : ℕ) → length times ≤ calls
 past times calls h =
     let more : calls + 1 - length times ≡ calls - length times + 1 = omega arith in
     let over : length times ≤ calls + 1 = omega arith in
-    rw (more, take_all (calls + 1) times over, take_all calls times h, get_or_past times calls (last_time times) h,
-        append_assoc, replicate_more)
+    rw (
+      more,
+      take_all (calls + 1) times over,
+      take_all calls times h,
+      get_or_past times calls (last_time times) h,
+      append_assoc,
+      replicate_more,
+    )
 
 next_first : (times : List ℤ) (calls : ℕ)
     → first_answers times (calls + 1) ≡ first_answers times calls ++ get_or times calls (last_time times) ∷ []

@@ -1,5 +1,5 @@
 -- A store that tells nothing of its content leaves nothing to show of it.
-use Rattle.std.proofs.Common.{◌≡◌, ℕ, List, Option, None, Result, Ok, Err, IfOk, inl, refl}
+use Rattle.std.proofs.Common.{ℕ, List, None, Result, Ok, Err, IfOk, inl, refl}
 use Rattle.std.specs.Prelude.{⊤}
 use Rattle.outside.specs.declared.traits.OutFault.{OutFault}
 use Rattle.outside.specs.declared.traits.OutFault.TheVariants.{Failed, OutOfMemory}

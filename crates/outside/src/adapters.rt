@@ -11,3 +11,6 @@ pub use clock::SystemClock;
 pub use files::FileStore;
 pub use input::InputSource;
 pub use output::OutputSink;
+
+#[cfg(test)]
+mod tests;

@@ -178,10 +178,7 @@ fn read_from<R: Files>(rt: &R, path: &str, at: u64, out: &mut [u8]) -> io::Resul
 /// Appends the whole piece. An error after a part of it was written is a short write, whatever its kind: only want of
 /// memory before that leaves the file as it was.
 fn append_to<R: Files>(rt: &R, path: &str, piece: &[u8]) -> io::Result<()> {
-    let mut file = OpenOptions::new()
-        .append(true)
-        .create(true)
-        .open(rt, path)?;
+    let mut file = OpenOptions::new().append(true).create(true).open(rt, path)?;
     let mut at = 0;
     while at < piece.len() {
         match retry::write(&mut file, &piece[at..]) {

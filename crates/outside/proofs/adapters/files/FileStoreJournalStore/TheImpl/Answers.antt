@@ -9,7 +9,7 @@ size-tells g c = record {
   bytes = refl;
   synced = refl;
   last = c.ensures.last;
-  cause = c.ensures.cause
+  cause = c.ensures.cause;
 }
 
 pub read_at-tells : goal.read_at-tells
@@ -20,7 +20,7 @@ read_at-tells g c = record {
   bytes = refl;
   synced = refl;
   last = c.ensures.last;
-  cause = c.ensures.cause
+  cause = c.ensures.cause;
 }
 
 pub append-tells : goal.append-tells
@@ -28,7 +28,7 @@ append-tells g c = record {
   bytes = append_untold c.result c.args.piece.now;
   synced = refl;
   last = c.ensures.last;
-  cause = c.ensures.cause
+  cause = c.ensures.cause;
 }
 
 pub cut-tells : goal.cut-tells
@@ -36,7 +36,7 @@ cut-tells g c = record {
   bytes = cut_untold c.result c.args.size;
   synced = cut_synced_untold c.result c.args.size;
   last = c.ensures.last;
-  cause = c.ensures.cause
+  cause = c.ensures.cause;
 }
 
 pub sync-tells : goal.sync-tells
@@ -44,5 +44,5 @@ sync-tells g c = record {
   bytes = refl;
   synced = sync_untold c.result;
   last = c.ensures.last;
-  cause = c.ensures.cause
+  cause = c.ensures.cause;
 }

@@ -7,5 +7,5 @@ pub now-tells : goal.now-tells
 now-tells c = record {
   told = adds_next c.args.self.now c.new.self.now c.result c.ensures.after c.ensures.answer;
   one = tt;
-  kept = refl
+  kept = refl;
 }
