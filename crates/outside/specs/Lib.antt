@@ -1,3 +1,6 @@
 pub mod Causes
+pub mod Clocks
 pub mod FailPlan
 pub mod Memory
+pub mod Store
+pub mod StoreForms

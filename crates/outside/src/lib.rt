@@ -8,7 +8,10 @@ mod memory;
 mod plan;
 mod traits;
 
-pub use adapters::{InputSource, OutputSink};
-pub use memory::{MemorySink, MemorySource};
+pub use adapters::{FileStore, InputSource, OutputSink, SystemClock};
+pub use memory::{FreeGate, MemorySink, MemorySource, MemoryStore, SetClock, SureStore};
 pub use plan::Failing;
-pub use traits::{OutFault, Sink, Source};
+pub use traits::{Clock, Gate, JournalStore, OutFault, Sink, Source, Step};
+
+#[cfg(test)]
+mod tests;

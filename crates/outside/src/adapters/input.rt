@@ -14,8 +14,8 @@ const PIECE: usize = 4096;
 /// A source over a reader, as standard input. It tells nothing of its content.
 #[derive(Drop)]
 pub struct InputSource<R> {
-    inner: R,
-    faults: FaultCount,
+    pub(super) inner: R,
+    pub(super) faults: FaultCount,
 }
 
 impl<R> InputSource<R> {

@@ -11,8 +11,8 @@ use std::io::Write;
 /// A sink over a writer, as standard output. It tells nothing of its content.
 #[derive(Drop)]
 pub struct OutputSink<W> {
-    inner: W,
-    faults: FaultCount,
+    pub(super) inner: W,
+    pub(super) faults: FaultCount,
 }
 
 impl<W> OutputSink<W> {

@@ -1,0 +1,29 @@
+-- A store that tells nothing of its content leaves nothing to show of it.
+use Rattle.std.proofs.Common.{ℕ, List, None, Result, Ok, Err, IfOk, inl, refl}
+use Rattle.std.specs.Prelude.{⊤}
+use Rattle.outside.specs.declared.traits.OutFault.{OutFault}
+use Rattle.outside.specs.declared.traits.OutFault.TheVariants.{Failed, OutOfMemory}
+use Rattle.outside.specs.Store.{AppendLeaves, CutLeaves, CutSynced, SyncSynced}
+
+pub untold : {T E : Type 0} (r : Result T E) → IfOk r (λ _. ⊤)
+untold (Ok x) = tt
+untold (Err e) = tt
+
+pub append_untold : {T : Type 0} (r : Result T OutFault) (piece : List ℕ) → AppendLeaves r None None piece
+append_untold (Ok x) piece = refl
+append_untold (Err Failed) piece = (0, refl)
+append_untold (Err OutOfMemory) piece = refl
+
+pub cut_untold : {T : Type 0} (r : Result T OutFault) (size : ℕ) → CutLeaves r None None size
+cut_untold (Ok x) size = refl
+cut_untold (Err Failed) size = inl refl
+cut_untold (Err OutOfMemory) size = refl
+
+pub cut_synced_untold : {T : Type 0} (r : Result T OutFault) (size : ℕ) → CutSynced r None None size
+cut_synced_untold (Ok x) size = refl
+cut_synced_untold (Err Failed) size = refl
+cut_synced_untold (Err OutOfMemory) size = refl
+
+pub sync_untold : {T : Type 0} (r : Result T OutFault) → SyncSynced r None None None
+sync_untold (Ok x) = tt
+sync_untold (Err fault) = refl

@@ -1,0 +1,80 @@
+//! The bytes of a store in memory.
+ghost use Rattle.std.specs.Prelude.{◌≡◌, OnOk, OnErr, length};
+ghost use Rattle.outside.specs.StoreForms.{content_of, appended, lowered, cut_to, synced_whole, count_at, piece_read};
+
+use std::alloc::AllocError;
+use std::marker::Model;
+
+/// The bytes that are held, and the length at the last sync, lowered by each cut below it since.
+#[derive(Drop)]
+pub(super) struct Content {
+    bytes: Vec<u8>,
+    synced: usize,
+}
+
+impl Model for Content {
+    ghost use Rattle.outside.specs.StoreForms.{Content};
+
+    ghost Value = { Content };
+
+    ghost view = { λ c. record { bytes = c.bytes.items; synced = c.synced } };
+}
+
+impl Content {
+    pub(super) fn new(bytes: Vec<u8>) -> Content
+        ensures { result ≡ content_of bytes.items }
+    {
+        let synced = bytes.len();
+        Content { bytes, synced }
+    }
+
+    pub(super) fn as_slice(&self) -> &[u8]
+        ensures { result.now ≡ self.now.bytes }
+    {
+        self.bytes.as_slice()
+    }
+
+    pub(super) fn size(&self) -> u64
+        ensures { result ≡ length self.now.bytes }
+    {
+        self.bytes.len() as u64
+    }
+
+    /// Reads from a place, and answers how many bytes it gave.
+    pub(super) fn read_at(&self, at: u64, out: &mut [u8]) -> usize
+        ensures count { result ≡ count_at self.now at (length out.old) }
+        ensures piece { out.new ≡ piece_read self.now at out.old }
+    {
+        let start = self.bytes.len().min(at as usize);
+        let count = out.len().min(self.bytes.len() - start);
+        out[..count].copy_from_slice(&self.bytes[start..start + count]);
+        count
+    }
+
+    pub(super) fn append(&mut self, piece: &[u8]) -> Result<(), AllocError>
+        ensures ok { OnOk result (self.new ≡ appended self.old piece.now) }
+        ensures err { OnErr result (self.new ≡ self.old) }
+    {
+        self.bytes.extend_from_slice(piece)
+    }
+
+    /// Lowers the synced length to this size, as a cut does that leaves the bytes.
+    pub(super) fn lower(&mut self, size: u64)
+        ensures { self.new ≡ lowered self.old size }
+    {
+        self.synced = self.synced.min(size as usize);
+    }
+
+    pub(super) fn cut(&mut self, size: u64)
+        ensures { self.new ≡ cut_to self.old size }
+    {
+        self.bytes.truncate(size as usize);
+        self.synced = self.synced.min(size as usize);
+    }
+
+    pub(super) fn sync(&mut self)
+        ensures { self.new ≡ synced_whole self.old }
+    {
+        self.synced = self.bytes.len();
+    }
+}
