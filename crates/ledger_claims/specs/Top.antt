@@ -37,12 +37,16 @@ pub record IsReportOf (script : List (List Job)) (text : List ℕ) : Type 0 wher
   pub fits : Fits told
   pub text_is : text ≡ report told.after told.outcomes
 
--- the whole input was read, it is a script that is served, and this is the report of its run
-pub record Ran (left_before left_after : Option (List ℕ)) (text : List ℕ) : Type 0 where
+-- the whole input was read, and it spells this script, which is served
+pub record HasScript (left_before left_after : Option (List ℕ)) (script : List (List Job)) : Type 0 where
   pub input : List ℕ
   pub read : WasRead left_before left_after input
-  pub script : List (List Job)
   pub served_is : served input ≡ Some script
+
+-- the whole input was read, it spells a script that is served, and this is the report of its run
+pub record Ran (left_before left_after : Option (List ℕ)) (text : List ℕ) : Type 0 where
+  pub script : List (List Job)
+  pub has : HasScript left_before left_after script
   pub reported : IsReportOf script text
 
 -- what was written is the report

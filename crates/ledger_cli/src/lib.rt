@@ -8,6 +8,9 @@ mod report;
 mod run;
 mod script;
 mod served;
+mod top;
 mod transaction;
 mod view;
 mod words;
+
+pub use top::{Ended, ledger_top};

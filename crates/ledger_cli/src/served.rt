@@ -2,10 +2,11 @@
 ghost use Rattle.std.specs.Prelude.{◌≡◌, ◌&&◌, length, count_by, nat_le, IfOk};
 ghost use Rattle.std.specs.List.{list_all};
 ghost use Rattle.ledger_model.specs.Values.{bare};
-ghost use Rattle.ledger_model.specs.Unbuilt.{is_int_or_string, is_small, has_small, is_create, is_insert, is_insert_or_select, are_built, is_built};
+ghost use Rattle.ledger_model.specs.Unbuilt.{is_int_or_string, is_small, has_small, is_create, is_insert, is_insert_or_select, are_built, is_built, served};
 
-use crate::script::fields_in;
-use ion_text::write;
+use crate::input::LONGEST;
+use crate::script::{fields_in, script_of};
+use ion_text::{read_plain, write};
 use ion_values::{Body, Field, OutOfMemory, Value};
 use ledger_model::{Request, Script};
 use std::alloc::Global;
@@ -15,6 +16,9 @@ const LONGEST_DOCUMENT: usize = 131_072;
 
 /// The most inserts of a transaction.
 const MOST_INSERTS: usize = 40;
+
+/// The deepest nesting of an input.
+const DEEPEST: u32 = 80;
 
 fn is_int_or_string(v: &Value) -> bool
     ensures { result ≡ is_int_or_string (bare v.now) }
@@ -117,7 +121,7 @@ fn are_built(alloc: Global, asked: &[Request]) -> Result<bool, OutOfMemory>
 }
 
 /// Whether the script is one session of one transaction of the statements that are served.
-pub fn is_built(alloc: Global, script: &Script) -> Result<bool, OutOfMemory>
+fn is_built(alloc: Global, script: &Script) -> Result<bool, OutOfMemory>
     ensures { IfOk result (λ built. built ≡ is_built script.now) }
 {
     let [session] = script.as_slice() else {
@@ -130,4 +134,24 @@ pub fn is_built(alloc: Global, script: &Script) -> Result<bool, OutOfMemory>
         return Ok(false);
     }
     are_built(alloc, job.statements.as_slice())
+}
+
+/// The script that the input spells, or None where it spells no script that is served.
+pub fn served(alloc: Global, input: &[u8]) -> Result<Option<Script>, OutOfMemory>
+    ensures { IfOk result (λ script. script ≡ served input.now) }
+{
+    if input.len() > LONGEST {
+        return Ok(None);
+    }
+    let Some(values) = read_plain(alloc, input, DEEPEST)? else {
+        return Ok(None);
+    };
+    let Some(script) = script_of(alloc, values.as_slice())? else {
+        return Ok(None);
+    };
+    if is_built(alloc, &script)? {
+        Ok(Some(script))
+    } else {
+        Ok(None)
+    }
 }

@@ -20,11 +20,11 @@ returns c =
       before = refl;
       fits = told-Fits c.args.job.now b (progress_of t) c.requires.commits
           (ap (run (record { mask = 0; number = 1 }) empty) (sym c.as_slice.ensures) ∙ c.in_ok-transaction.ensures.ran) (record {
-        tx = ap (λ x. x.raw) c.in_ok-block.ensures.tx ∙ ap (λ g. raw_id g.mask g.number 0) c.in_ok-transaction.ensures.begun;
-        place = c.in_ok-block.ensures.place;
-        said = c.in_ok-block.ensures.said;
-        schema = c.in_ok-block.ensures.schema;
-        revisions = c.in_ok-block.ensures.revisions;
-      });
+            tx = ap (λ x. x.raw) c.in_ok-block.ensures.tx ∙ ap (λ g. raw_id g.mask g.number 0) c.in_ok-transaction.ensures.begun;
+            place = c.in_ok-block.ensures.place;
+            said = c.in_ok-block.ensures.said;
+            schema = c.in_ok-block.ensures.schema;
+            revisions = c.in_ok-block.ensures.revisions;
+          });
       text_is = c.in_ok-text.ensures ∙ ap (λ bs. report bs c.push-2.new.self) blocks ∙ ap (report (b ∷ [])) outcomes;
     }
