@@ -14,3 +14,6 @@ mod view;
 mod words;
 
 pub use top::{Ended, ledger_top};
+
+#[cfg(test)]
+mod tests;

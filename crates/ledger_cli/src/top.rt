@@ -17,6 +17,7 @@ use std::sync::Wait;
 use std::thread::Threads;
 
 /// What a command ends with: its exit status, and the store and the clock that it was given.
+#[derive(Drop)]
 pub struct Ended<St, C> {
     pub status: u8,
     pub store: St,

@@ -8,4 +8,4 @@ returns-in-Err-SourceFailed-clause-source_line g c is =
     let sink = c.args.sink.now in
     let after = c.end_by_source_line.new.sink in
     subst (λ (faults : ℕ). WritesLine (g.Si.Sink.written sink) (g.Si.Sink.written after) (g.Si.Sink.fault_count sink) (g.Si.Sink.fault_count after) (source_line faults))
-        c.faults.ensures (c.end_by_source_line.ensures.line is)
+    c.faults.ensures (c.end_by_source_line.ensures.line is)
