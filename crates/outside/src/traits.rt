@@ -82,7 +82,7 @@ pub trait JournalStore {
     /// since, where the store tells it.
     ghost synced: { Self → Option ℕ };
 
-    /// Whether the last call by `&mut` answered `Failed`.
+    /// Whether the last call by `&mut` answered `Failed`. Want of memory is another answer.
     ghost last_failed: { Self → Bool };
 
     /// How often the store has failed.
@@ -154,8 +154,11 @@ pub trait Clock {
 /// The step of a transaction that a worker is about to make.
 #[derive(Clone, Copy, Debug, PartialEq, Eq)]
 pub enum Step {
+    /// It begins the transaction next.
     BeforeBegin,
+    /// It executes the next statement.
     BeforeExecute,
+    /// It commits the transaction next.
     BeforeCommit,
 }
 

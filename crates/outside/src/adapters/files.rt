@@ -15,7 +15,8 @@ use std::{fs, io};
 /// The most that one call reads.
 const PIECE: usize = 4096;
 
-/// A store over a file. It tells nothing of its content. A missing file has the size 0, and the first append makes it.
+/// A store over a file, which each call opens anew. It tells nothing of its content. A missing file has the size 0,
+/// and the first append makes it.
 #[derive(Drop)]
 pub struct FileStore<'a, R> {
     rt: &'a R,
@@ -27,6 +28,7 @@ pub struct FileStore<'a, R> {
 impl<'a, R> FileStore<'a, R> {
     /// A store over the file at this path, which is not touched yet.
     pub fn new(rt: &'a R, path: &'a str) -> FileStore<'a, R>
+        ensures path { result.path.now ≡ path.now }
         ensures count { result.faults.count ≡ 0 }
         ensures last { result.last_failed ≡ false }
     {

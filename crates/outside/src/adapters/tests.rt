@@ -92,6 +92,8 @@ fn store_over_a_missing_folder(rt: HostRuntime) {
 
 #[test]
 fn clock_of_the_system(rt: HostRuntime) {
+    let mut clock = SystemClock::new(&rt);
+    crosses_threads(&clock);
     // Any day on which this runs lies past the year 2020.
-    assert!(rt; SystemClock::new(&rt).now() > 1_577_836_800_000);
+    assert!(rt; clock.now() > 1_577_836_800_000);
 }

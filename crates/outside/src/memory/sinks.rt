@@ -8,7 +8,7 @@ use crate::traits::{OutFault, Sink};
 use std::alloc::Global;
 use std::marker::Model;
 
-/// A sink into memory. It takes each piece whole.
+/// A sink into memory. It takes each piece whole. A write that wants memory leaves the list of failing calls as it was.
 #[derive(Drop)]
 pub struct MemorySink {
     bytes: Vec<u8>,

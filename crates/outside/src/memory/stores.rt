@@ -8,7 +8,7 @@ use crate::plan::{Failing, Plan};
 use crate::traits::{JournalStore, OutFault};
 use std::marker::Model;
 
-/// A store over bytes in memory, whose calls fail by a list.
+/// A store over bytes in memory, whose calls fail by a list. An append that wants memory leaves the list as it was.
 #[derive(Drop)]
 pub struct MemoryStore {
     content: Content,
@@ -25,7 +25,8 @@ impl Model for MemoryStore {
 }
 
 impl MemoryStore {
-    /// A store of these bytes, all of them synced, whose calls by `&mut` fail by this list.
+    /// A store of these bytes, all of them synced, whose calls by `&mut` fail by this list. It grows by the
+    /// allocator of its bytes.
     pub fn new(bytes: Vec<u8>, fails: Vec<Failing>) -> MemoryStore
         ensures { result ≡ store_of bytes.items (plan_of fails.items) }
     {

@@ -21,7 +21,7 @@ impl Model for SureStore {
 }
 
 impl SureStore {
-    /// A store of these bytes, all of them synced.
+    /// A store of these bytes, all of them synced. It grows by the allocator of its bytes.
     pub fn new(bytes: Vec<u8>) -> SureStore
         ensures { result ≡ content_of bytes.items }
     {
