@@ -32,9 +32,9 @@ fn a_value_is_copied(rt: HostRuntime) -> Result<(), Fail> {
         annotations: names,
         body: Body::Struct(fields),
     };
-    let copied = copy(alloc, &value)?;
-    assert_eq!(rt; copied.annotations.len(), 1);
-    let Body::Struct(copied) = copied.body else {
+    let Value { annotations, body } = copy(alloc, &value)?;
+    assert_eq!(rt; annotations.len(), 1);
+    let Body::Struct(copied) = body else {
         panic!(rt; "a struct is copied as a struct");
     };
     assert_eq!(rt; copied.len(), 1);
