@@ -3,12 +3,14 @@
 
 mod copies;
 mod decimal;
+mod depths;
 mod fault;
 mod time;
 mod value;
 
 pub use copies::copy;
 pub use decimal::Decimal;
+pub use depths::depth;
 pub use fault::{IonFault, IonKind};
 pub use lists::{Bytes, OutOfMemory, Text};
 pub use time::{BadTime, IonTime, Precision, TimeParts};
