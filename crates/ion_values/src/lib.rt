@@ -6,6 +6,7 @@ mod decimal;
 mod depths;
 mod fault;
 mod time;
+mod time_ranges;
 mod value;
 
 pub use copies::copy;
