@@ -61,7 +61,7 @@ start_of year = days_from_civil (pos year) 1 1 *ℤ pos 1440
 abbrev pub is_in_years : ℤ → Bool
 is_in_years minutes = int_le (start_of 1) minutes && int_lt minutes (start_of 10000)
 
-abbrev pub is_time : TimeParts → Bool
+unfoldable pub is_time : TimeParts → Bool
 is_time t =
     is_date t.year t.month t.day && is_clock t && is_offset t.offset && is_fraction t.digits t.nanos && ends_at t.precision t
     && is_in_years (utc_minutes t)

@@ -81,6 +81,7 @@ impl IonTime {
 
     /// The moment at which the written precision begins, in billionths of a second since 1970 in
     /// UTC. The unknown offset counts as UTC. It takes no memory.
+    #[tactic(auto, unfolding(crate::specs::Time::is_time))]
     pub fn instant(&self) -> i128
         ensures { result ≡ instant_of self.now }
     {

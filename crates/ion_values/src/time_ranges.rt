@@ -13,6 +13,7 @@ const START_OF_1: i64 = -719_162 * 1440;
 const START_OF_10000: i64 = 2_932_897 * 1440;
 
 /// Whether each part is in its range.
+#[tactic(auto, unfolding(crate::specs::Time::is_time))]
 pub fn is_time(t: &TimeParts) -> bool
     ensures { result ≡ spec.is_time t.now }
 {
