@@ -1,1 +1,4 @@
+pub mod Equivalence
+pub mod Induction
+pub mod Matching
 pub mod Years
