@@ -28,10 +28,10 @@ pub taken : {A : Type 0} (like : A → Bool) (ys zs : List A) → without like y
 taken like [] zs h = let bad : ⊥ = cc in absurd bad
 taken like (y ∷ ys) zs h = taken_at like y ys zs (λ ws. taken like ys ws) (like y) refl (without like ys) refl h
 
-count-cons : {A : Type 0} (p : A → Bool) (x : A) (xs : List A) → count_by p (x ∷ xs) ≡ cond (p x) 1 0 + count_by p xs
+pub count-cons : {A : Type 0} (p : A → Bool) (x : A) (xs : List A) → count_by p (x ∷ xs) ≡ cond (p x) 1 0 + count_by p xs
 count-cons p x xs = sum_by-cons (λ y. cond (p y) 1 0) x xs
 
-count-append : {A : Type 0} (p : A → Bool) (xs ys : List A) → count_by p (xs ++ ys) ≡ count_by p xs + count_by p ys
+pub count-append : {A : Type 0} (p : A → Bool) (xs ys : List A) → count_by p (xs ++ ys) ≡ count_by p xs + count_by p ys
 count-append p xs ys = sum_by-append (λ y. cond (p y) 1 0) xs ys
 
 none_at : {A : Type 0} (like : A → Bool) (y : A) (ys : List A) → (without like ys ≡ None → count_by like ys ≡ 0) → (b : Bool) → like y ≡ b → (w : Option (List A)) → without like ys ≡ w → (if b then Some ys else option_map (λ zs. y ∷ zs) w) ≡ None → cond b 1 0 + count_by like ys ≡ 0

@@ -18,7 +18,7 @@ use Rattle.ion_values.specs.declared.value.Field.{Field}
 use Rattle.ion_values.specs.declared.time.Precision.{Precision}
 use Rattle.ion_values.specs.declared.time.TimeParts.{TimeParts}
 use Rattle.ion_values.specs.declared.value.Body.TheOpen.{Body-F, Field-F, Value-F}
-use Rattle.ion_values.specs.declared.value.Body.TheFolds.{fold-Value, fold-Field}
+use Rattle.ion_values.specs.declared.value.Body.TheFolds.{fold-Value, fold-Field, fold-Body}
 use denote.Enum.Bare.{sameb}
 
 -- `==` on kinds and on precisions
@@ -100,3 +100,11 @@ is_equivalent = fold-Value (Body → Bool) (Field → Bool) (Value → Bool) bod
 
 abbrev pub is_equivalent_field : Field → Field → Bool
 is_equivalent_field = fold-Field (Body → Bool) (Field → Bool) (Value → Bool) body_step field_step value_step
+
+abbrev pub is_equivalent_body : Body → Body → Bool
+is_equivalent_body = fold-Body (Body → Bool) (Field → Bool) (Value → Bool) body_step field_step value_step
+
+-- both lists have a first member, and these aren't equivalent
+abbrev pub differ_first : List Field → List Field → Bool
+differ_first (x ∷ xs) (y ∷ ys) = not (is_equivalent_field x y)
+differ_first _ _ = false

@@ -4,6 +4,7 @@
 mod copies;
 mod decimal;
 mod depths;
+mod equivalence;
 mod fault;
 mod time;
 mod time_ranges;
@@ -12,6 +13,7 @@ mod value;
 pub use copies::copy;
 pub use decimal::Decimal;
 pub use depths::depth;
+pub use equivalence::equivalent;
 pub use fault::{IonFault, IonKind};
 pub use lists::{Bytes, OutOfMemory, Text};
 pub use time::{BadTime, IonTime, Precision, TimeParts};

@@ -164,7 +164,7 @@ own_value =
 pub own_field : (f : Field) → is_equivalent_field f f ≡ true
 own_field f = own_at_field f (own_value f.value)
 
-good_field : (f : Field) → Good is_equivalent f.value → Good is_equivalent_field f
+pub good_field : (f : Field) → Good is_equivalent f.value → Good is_equivalent_field f
 good_field f good g u h =
     let h' : (bytes_eq f.name g.name && is_equivalent f.value g.value) ≡ true = sym (at_field f g) ∙ h in
     let name : f.name ≡ g.name = (bytes_decides _ _).0 (first _ _ h') in
