@@ -1,6 +1,6 @@
 -- The serialization and the hash of a value (Ion Hash 1.0 specification, "Algorithm" and "Serialization"), with SHA-256
 -- (FIPS 180-4) as the hash function. Frames and escapes alone tell apart what stands side by side.
-use Rattle.std.specs.Prelude.{ℕ, ◌+◌, ◌==◌, ◌&&◌, ◌||◌, not, Bool, true, false, List, [], ◌∷◌, ◌++◌, ℤ, pos, negsuc, suc, unsigned_abs, if◌then◌else◌}
+use Rattle.std.specs.Prelude.{ℕ, ◌==◌, ◌&&◌, ◌||◌, not, Bool, List, [], ◌∷◌, ◌++◌, ℤ, unsigned_abs, if◌then◌else◌}
 use Rattle.std.specs.List.{flat_map}
 use Rattle.std.specs.Ordering.{nat_cmp, is_lt}
 use Rattle.std.specs.Cmp.Lexicographic.{slice_cmp}

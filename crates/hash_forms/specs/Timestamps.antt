@@ -1,6 +1,6 @@
 -- A timestamp as the Ion Hash specification has it: the fields of the Ion 1.0 binary encoding ("6: Timestamp"), of
 -- which all but the offset are in UTC. The calendar is that of ISO 8601, the Gregorian one.
-use Rattle.std.specs.Prelude.{ℕ, ◌+◌, ◌-◌, ◌*◌, ◌/◌, ◌%◌, ◌^◌, ◌==◌, nat_lt, nat_le, Bool, true, false, List, [], ◌∷◌, ◌++◌, ℤ, pos, negsuc, ◌+ℤ◌, ◌-ℤ◌, int_lt, unsigned_abs, Option, Some, None, if◌then◌else◌}
+use Rattle.std.specs.Prelude.{ℕ, ◌+◌, ◌-◌, ◌*◌, ◌/◌, ◌%◌, ◌^◌, ◌==◌, nat_lt, true, false, List, [], ◌++◌, ℤ, pos, ◌+ℤ◌, ◌-ℤ◌, int_lt, unsigned_abs, Option, Some, None, if◌then◌else◌}
 use Rattle.std.specs.Option.{unwrap_or}
 use Rattle.jiff_core.specs.Calendar.{days_in_month}
 use Rattle.ion_values.specs.declared.time.TimeParts.{TimeParts}
@@ -27,8 +27,8 @@ day_before d =
     else record { year = d.year - 1; month = 12; day = 31 })
 
 -- the minutes from the beginning of the local date to the moment, as UTC counts them; the unknown offset is UTC
-abbrev pub utc_minutes : TimeParts → ℤ
-utc_minutes t = pos (t.hour * 60 + t.minute) -ℤ unwrap_or t.offset (pos 0)
+abbrev pub minutes_from_local_date : TimeParts → ℤ
+minutes_from_local_date t = pos (t.hour * 60 + t.minute) -ℤ unwrap_or t.offset (pos 0)
 
 abbrev pub local_date : TimeParts → Date
 local_date t = record { year = t.year; month = t.month; day = t.day }
@@ -36,14 +36,14 @@ local_date t = record { year = t.year; month = t.month; day = t.day }
 -- the date in UTC is the local one, or the one before or after it
 abbrev pub utc_date : TimeParts → Date
 utc_date t =
-    if int_lt (utc_minutes t) (pos 0) then day_before (local_date t)
-    else (if int_lt (utc_minutes t) (pos 1440) then local_date t else day_after (local_date t))
+    if int_lt (minutes_from_local_date t) (pos 0) then day_before (local_date t)
+    else (if int_lt (minutes_from_local_date t) (pos 1440) then local_date t else day_after (local_date t))
 
 -- the minutes since that date began
 abbrev pub utc_clock : TimeParts → ℕ
 utc_clock t = unsigned_abs (
-    if int_lt (utc_minutes t) (pos 0) then utc_minutes t +ℤ pos 1440
-    else (if int_lt (utc_minutes t) (pos 1440) then utc_minutes t else utc_minutes t -ℤ pos 1440))
+    if int_lt (minutes_from_local_date t) (pos 0) then minutes_from_local_date t +ℤ pos 1440
+    else (if int_lt (minutes_from_local_date t) (pos 1440) then minutes_from_local_date t else minutes_from_local_date t -ℤ pos 1440))
 
 -- the offset in minutes; a negative zero stands for the unknown one
 abbrev pub offset_bytes : Option ℤ → List ℕ

@@ -158,9 +158,10 @@ in_order-same (x ∷ xs) z =
 -- each hash of a sorted list is at most those after it
 ascends_from : (xs : Hashes) → ((i j : ℕ) (d : List ℕ) → i ≤ j → j < length xs → below (get_or xs j d) (get_or xs i d) ≡ false) → Ascends xs
 ascends_from [] far = tt
-ascends_from (x ∷ xs) far =
-    (each x xs (λ j below_length. far 0 (suc j) x (omega arith) (omega arith)),
-    ascends_from xs (λ i j d h g. far (suc i) (suc j) d (omega arith) (omega arith)))
+ascends_from (x ∷ xs) far = (
+  each x xs (λ j below_length. far 0 (suc j) x (omega arith) (omega arith)),
+  ascends_from xs (λ i j d h g. far (suc i) (suc j) d (omega arith) (omega arith)),
+)
   where
     each : (x : List ℕ) (ys : Hashes) → ((j : ℕ) → j < length ys → below (get_or ys j x) x ≡ false) → From x ys
     each x [] h = tt

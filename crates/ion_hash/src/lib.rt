@@ -8,3 +8,6 @@ mod timestamps;
 mod values;
 
 pub use values::{hash, serialize};
+
+#[cfg(test)]
+mod tests;

@@ -1,7 +1,7 @@
 //! Timestamps.
 ghost use Rattle.std.specs.Prelude.{◌≡◌, ◌++◌, ◌<◌, pos, OnOk};
 ghost use Rattle.jiff_core.specs.Calendar.{days_in_month, is_leap_year};
-ghost use Rattle.hash_forms.specs.Timestamps.{clock_bytes, day_after, day_before, day_bytes, fields_to, fraction_bytes, minute_bytes, month_bytes, offset_bytes, second_bytes, timestamp_bytes, utc_clock, utc_date, utc_minutes};
+ghost use Rattle.hash_forms.specs.Timestamps.{clock_bytes, day_after, day_before, day_bytes, fields_to, fraction_bytes, minute_bytes, month_bytes, offset_bytes, second_bytes, timestamp_bytes, utc_clock, utc_date, minutes_from_local_date};
 ghost use Rattle.ion_hash.specs.Dates.{date_of};
 
 use super::numbers::{put_int_field, put_var_int, put_var_uint};
@@ -40,11 +40,23 @@ fn next_day(date: Day) -> Day
 {
     let Day { year, month, day } = date;
     if day < month_length(year, month) {
-        Day { year, month, day: day + 1 }
+        Day {
+            year,
+            month,
+            day: day + 1,
+        }
     } else if month < 12 {
-        Day { year, month: month + 1, day: 1 }
+        Day {
+            year,
+            month: month + 1,
+            day: 1,
+        }
     } else {
-        Day { year: year + 1, month: 1, day: 1 }
+        Day {
+            year: year + 1,
+            month: 1,
+            day: 1,
+        }
     }
 }
 
@@ -53,17 +65,29 @@ fn day_ahead(date: Day) -> Day
 {
     let Day { year, month, day } = date;
     if 1 < day {
-        Day { year, month, day: day - 1 }
+        Day {
+            year,
+            month,
+            day: day - 1,
+        }
     } else if 1 < month {
-        Day { year, month: month - 1, day: month_length(year, month - 1) }
+        Day {
+            year,
+            month: month - 1,
+            day: month_length(year, month - 1),
+        }
     } else {
-        Day { year: year.saturating_sub(1), month: 12, day: 31 }
+        Day {
+            year: year.saturating_sub(1),
+            month: 12,
+            day: 31,
+        }
     }
 }
 
 // The minutes from the beginning of the local date to the moment, as UTC counts them.
 fn minutes_of(t: &TimeParts) -> i32
-    ensures { result ≡ utc_minutes t.now }
+    ensures { result ≡ minutes_from_local_date t.now }
 {
     let local = t.hour as i32 * 60 + t.minute as i32;
     let offset = t.offset.unwrap_or(0);
@@ -170,11 +194,19 @@ fn put_fields(out: &mut Bytes, t: &TimeParts, date: Day) -> Result<(), OutOfMemo
     }
 }
 
+fn put_parts(out: &mut Bytes, t: &TimeParts) -> Result<(), OutOfMemory>
+    ensures { OnOk result (out.new ≡ out.old ++ timestamp_bytes t.now) }
+{
+    put_offset(out, t.offset)?;
+    put_fields(out, t, date_in_utc(t))
+}
+
 /// Puts the representation of a timestamp.
 pub fn put_timestamp(out: &mut Bytes, time: &IonTime) -> Result<(), OutOfMemory>
     ensures { OnOk result (out.new ≡ out.old ++ timestamp_bytes time.now) }
 {
-    let parts = time.parts();
-    put_offset(out, parts.offset)?;
-    put_fields(out, &parts, date_in_utc(&parts))
+    put_parts(out, &time.parts())
 }
+
+#[cfg(test)]
+mod tests;

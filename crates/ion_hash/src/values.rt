@@ -5,7 +5,9 @@ ghost use Rattle.sha2.specs.Sha256.{sha256};
 ghost use Rattle.hash_forms.specs.Serialize.{annotated, field_digest, field_hash, hash_of, joined, serialize, serialize_body, symbol_bytes};
 
 use super::fields::{ordered, put_hashes};
-use super::scalars::{BEGIN, END, put_decimal, put_int, put_null, put_scalar, put_symbol, put_time};
+use super::scalars::{
+    BEGIN, END, put_decimal, put_int, put_null, put_scalar, put_symbol, put_time,
+};
 use ion_values::{Body, Field, Names, Value};
 use lists::{Bytes, OutOfMemory, Sequence};
 use ql_types::Hash32;
