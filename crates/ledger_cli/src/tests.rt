@@ -16,7 +16,7 @@ struct Told {
 }
 
 /// Runs a command on an input, where these calls of the source and of the sink fail.
-fn told<R: Threads + Wait + Sync>(
+fn run_command<R: Threads + Wait + Sync>(
     rt: &R,
     alloc: Global,
     words: &[&str],
@@ -99,7 +99,7 @@ fn words_and_scripts(rt: HostRuntime) -> Result<(), Fail> {
         ([].as_slice(), FIRST, 1, "{status:1}\n"),
     ] {
         let input = input.as_bytes().to_vec(alloc)?;
-        let got = told(&rt, alloc, words, input, Vec::new(alloc), Vec::new(alloc))?;
+        let got = run_command(&rt, alloc, words, input, Vec::new(alloc), Vec::new(alloc))?;
         assert_eq!(rt; got.status, status);
         assert_eq!(rt; got.output.as_str(), output);
         assert!(rt; got.store_is_as_before);
@@ -129,7 +129,7 @@ fn failing_source_and_sink(rt: HostRuntime) -> Result<(), Fail> {
         let failed_reads = reads.len() as u64;
         let failed_writes = writes.len() as u64;
         let input = FIRST.as_bytes().to_vec(alloc)?;
-        let got = told(&rt, alloc, &RUN[..words], input, reads, writes)?;
+        let got = run_command(&rt, alloc, &RUN[..words], input, reads, writes)?;
         assert_eq!(rt; got.status, status);
         assert_eq!(rt; got.output.as_str(), output);
         assert_eq!(rt; got.source_faults, failed_reads);
@@ -177,7 +177,7 @@ fn limits(rt: HostRuntime) -> Result<(), Fail> {
         (spaces, 2),
         (padded, 0),
     ] {
-        let got = told(&rt, alloc, &RUN, input, Vec::new(alloc), Vec::new(alloc))?;
+        let got = run_command(&rt, alloc, &RUN, input, Vec::new(alloc), Vec::new(alloc))?;
         assert_eq!(rt; got.status, status);
         assert!(rt; got.store_is_as_before);
         if status == 2 {
