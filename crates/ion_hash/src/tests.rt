@@ -1,7 +1,7 @@
 ghost use Rattle.ion_values.specs.Decimal.{IsDecimal};
 
 use crate::{hash, serialize};
-use ion_values::{Body, Decimal, Field, Kind, Value};
+use ion_values::{Body, Decimal, Field, IonTime, Kind, Precision, TimeParts, Value};
 use lists::{Sequence, Text};
 use std::alloc::Global;
 use std::process::Abort;
@@ -129,6 +129,30 @@ fn decimals(rt: HostRuntime) -> Result<(), Fail> {
         ],
     )?;
     Ok(())
+}
+
+#[test]
+fn a_timestamp(rt: HostRuntime) -> Result<(), Fail> {
+    let time = IonTime::new(TimeParts {
+        precision: Precision::Second,
+        year: 2000,
+        month: 1,
+        day: 1,
+        hour: 0,
+        minute: 0,
+        second: 0,
+        digits: 0,
+        nanos: 0,
+        offset: Some(0),
+    })?;
+    gives(
+        &rt,
+        rt.alloc(),
+        Body::Timestamp(time),
+        &[
+            0x0b, 0x60, 0x80, 0x0f, 0xd0, 0x81, 0x81, 0x80, 0x80, 0x80, 0x0e,
+        ],
+    )
 }
 
 #[test]
