@@ -1,11 +1,11 @@
 -- Structs are equivalent where each field stands as often in the one as in the other.
-use Rattle.std.proofs.Common.{◌≡◌, ◌≢◌, ℕ, suc, ◌+◌, ◌<◌, ◌==◌, ◌&&◌, Bool, true, false, not, cond, List, [], ◌∷◌, ◌++◌, map, length, drop, take, get_or, refl, sym, ap, ◌∙◌, subst, arith, true≢false, add-one, drop-cons, length-drop, ◌-◌, ◌≤◌, IsTrue}
+use Rattle.std.proofs.Common.{◌≡◌, ◌≢◌, ℕ, ◌+◌, ◌<◌, ◌==◌, ◌&&◌, Bool, true, false, not, cond, List, [], ◌∷◌, ◌++◌, length, drop, take, get_or, refl, sym, ap, ◌∙◌, subst, arith, true≢false, add-one, drop-cons, length-drop, ◌-◌, ◌≤◌, IsTrue}
 use Rattle.std.proofs.lemmas.List.{take-append-drop, take_rest, drop-drop, drop_all}
 use Rattle.std.specs.List.{AllByRecursion, count_by, list_all}
 use Rattle.std.proofs.lemmas.Bool.Decides.{Decides-eqb}
 use Rattle.ion_values.specs.declared.value.Field.{Field}
-use Rattle.ion_values.specs.Equivalent.{differ_first, in_any_order, is_equivalent_field}
-use Rattle.ion_values.proofs.Matching.{first, second, matches, matches-length, counted, from_counts, count-cons, count-append, Good, map_all}
+use Rattle.ion_values.specs.Equivalent.{differ_first, is_equivalent_field}
+use Rattle.ion_values.proofs.Matching.{first, second, matches, matches-length, counted, from_counts, count-cons, count-append, Good}
 use Rattle.ion_values.proofs.Relation.{good_field, good_value, own_field}
 
 pub good : (f : Field) → Good is_equivalent_field f
@@ -77,7 +77,7 @@ first_told a b from x l d high is =
     let eb : drop from b ≡ y ∷ ys = drop-cons b from x (omega arith) ∙ ap (λ n. get_or b from x ∷ drop n b) (sym (add-one from)) in
     let apart : is_equivalent_field x y ≡ false = not_so _ (subst IsTrue (λ i. differ_first (opens a from x high is i) (eb i)) d) in
     let right : count_by (is_equivalent_field x) (take (length b - (from + 1)) (drop (from + 1) b)) ≡ count_by (is_equivalent_field x) (drop from b) =
-        ap (count_by (is_equivalent_field x)) (take_rest b (from + 1)) ∙ sym (count-other x y ys apart) ∙ ap (count_by (is_equivalent_field x)) (sym eb) in
+    ap (count_by (is_equivalent_field x)) (take_rest b (from + 1)) ∙ sym (count-other x y ys apart) ∙ ap (count_by (is_equivalent_field x)) (sym eb) in
     λ i. count_by (is_equivalent_field x) (pieces a from from x (omega arith) high is i) == right i
 
 pub within_first : (a b : List Field) (from : ℕ) → IsTrue (differ_first (drop from a) (drop from b)) → from < length a

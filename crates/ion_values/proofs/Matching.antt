@@ -5,7 +5,7 @@ use Rattle.std.specs.declared.option.Option.TheVariants.{None, Some}
 use Rattle.std.specs.Option.{option_map, option_map_or}
 use Rattle.std.specs.List.{AllByRecursion, count_by}
 use Rattle.std.proofs.lemmas.List.Sums.{sum_by-cons, sum_by-append}
-use Rattle.ion_values.specs.Equivalent.{in_order, without, is_none_left, in_any_order}
+use Rattle.ion_values.specs.Equivalent.{in_order, without, in_any_order}
 
 -- the item is the first that passes, and zs are the others
 pub record Taken {A : Type 0} (like : A → Bool) (ys zs : List A) : Type 0 where
@@ -168,15 +168,16 @@ module _ {A : Type 0} (r : A → A → Bool) where
             let t : Taken (r x) ys zs = taken (r x) ys zs is in
             later zs (omega (arith, l, taken-length (r x) ys zs t))
             (map_both (λ f gf k.
-                let e : cond {A = ℕ} (r f x) 1 0 ≡ cond {A = ℕ} (r f t.item) 1 0 = ap (λ b. cond b 1 0) (same_test x t.item f g.0 gf t.passes) in
-                let a : count_by (r f) (x ∷ xs) ≡ cond (r f x) 1 0 + count_by (r f) xs = count-cons (r f) x xs in
-                omega (arith, taken-count (r x) ys zs t (r f), k)) xs g.1 h.1)
+            let e : cond {A = ℕ} (r f x) 1 0 ≡ cond {A = ℕ} (r f t.item) 1 0 = ap (λ b. cond b 1 0) (same_test x t.item f g.0 gf t.passes) in
+            let a : count_by (r f) (x ∷ xs) ≡ cond (r f x) 1 0 + count_by (r f) xs = count-cons (r f) x xs in
+            omega (arith, taken-count (r x) ys zs t (r f), k)) xs g.1 h.1)
 
     pub in_any_order_good : (xs ys zs : List A) → AllByRecursion Good xs → matches xs ys ≡ true → matches xs zs ≡ matches ys zs
     in_any_order_good xs ys zs g h = both (matches xs zs) (matches ys zs) refl refl
       where
         gs : AllByRecursion Good ys
         gs = good_right xs ys g h
+
         both : (a b : Bool) → matches xs zs ≡ a → matches ys zs ≡ b → a ≡ b
         both true true ea eb = refl
         both false false ea eb = refl

@@ -1,7 +1,7 @@
 -- `is_equivalent` is an equivalence relation on values, and on fields.
-use Rattle.std.proofs.Common.{◌≡◌, ℕ, ℤ, ◌==◌, eqb, eqb→eq, Bool, true, false, ◌&&◌, List, [], ◌∷◌, map, refl, sym, ap, ◌∙◌, subst, true≢false, rules}
+use Rattle.std.proofs.Common.{◌≡◌, ℕ, ℤ, ◌==◌, Bool, true, false, ◌&&◌, List, map, refl, sym, ap, ◌∙◌, true≢false, rules}
 use Rattle.std.specs.Str.{bytes_eq}
-use Rattle.ion_values.specs.declared.value.Value.{Value, roll-Value}
+use Rattle.ion_values.specs.declared.value.Value.{Value}
 use Rattle.ion_values.specs.declared.value.Field.{Field}
 use Rattle.ion_values.specs.declared.value.Body.{Body, roll-Body, out-Body, out-roll-Body}
 use Rattle.ion_values.specs.declared.value.Body.TheOpen.{Body-F}
@@ -203,10 +203,10 @@ pub good_value : (v : Value) → Good is_equivalent v
 good_value =
     by_members (Good is_equivalent)
     (λ annotations b good w u h.
-        let h' : (same_names annotations w.annotations && same_level b (out-Body w.body)) ≡ true = sym (at_roll annotations b w) ∙ h in
-        let names : annotations ≡ w.annotations = names_are _ _ (first _ _ h') in
-        let level : same_level b (out-Body u.body) ≡ same_level (out-Body w.body) (out-Body u.body) = level_good b (out-Body w.body) (out-Body u.body) good (second _ _ h') in
-        at_roll annotations b u ∙ (λ i. same_names (names i) u.annotations && level i) ∙ sym (at_value w u))
+    let h' : (same_names annotations w.annotations && same_level b (out-Body w.body)) ≡ true = sym (at_roll annotations b w) ∙ h in
+    let names : annotations ≡ w.annotations = names_are _ _ (first _ _ h') in
+    let level : same_level b (out-Body u.body) ≡ same_level (out-Body w.body) (out-Body u.body) = level_good b (out-Body w.body) (out-Body u.body) good (second _ _ h') in
+    at_roll annotations b u ∙ (λ i. same_names (names i) u.annotations && level i) ∙ sym (at_value w u))
 
 pub symmetric : (v w : Value) → is_equivalent v w ≡ true → is_equivalent w v ≡ true
 symmetric v w h = sym (good_value v w v h) ∙ own_value v

@@ -1,6 +1,6 @@
 -- Timestamps (Ion 1.0, "Timestamps"): which parts there may be, and the instant that they name. The calendar is that of
 -- ISO 8601, the Gregorian one.
-use Rattle.std.specs.Prelude.{ℕ, ◌+◌, ◌-◌, ◌*◌, ◌%◌, ◌^◌, ◌&&◌, ◌==◌, Bool, true, false, nat_lt, nat_le, ℤ, pos, negsuc, ◌+ℤ◌, ◌-ℤ◌, ◌*ℤ◌, int_lt, int_le, is_none, IsTrue}
+use Rattle.std.specs.Prelude.{ℕ, ◌+◌, ◌-◌, ◌*◌, ◌%◌, ◌^◌, ◌&&◌, ◌==◌, Bool, true, nat_lt, nat_le, ℤ, pos, negsuc, ◌+ℤ◌, ◌-ℤ◌, ◌*ℤ◌, int_lt, int_le, is_none, IsTrue}
 use Rattle.std.specs.Option.{unwrap_or, option_map_or}
 use Rattle.std.specs.declared.option.Option.{Option}
 use Rattle.jiff_core.specs.Calendar.{days_in_month, days_from_civil}

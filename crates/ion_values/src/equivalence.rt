@@ -9,6 +9,9 @@ use lists::Text;
 /// Whether the values are equivalent by Ion's data model: annotations agree in order, structs are
 /// compared as multisets of fields and lists and sexps in order, decimals by coefficient, exponent
 /// and sign of zero, timestamps by each of their parts. It takes no memory.
+///
+/// Fields in equal order are compared once each. In any other order n fields cost about n * n
+/// comparisons of names, and of values too where the names are equal.
 #[cycle(equivalent)]
 pub fn equivalent(a: &Value, b: &Value) -> bool
     ensures { result ≡ is_equivalent a.now b.now }

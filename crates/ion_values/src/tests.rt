@@ -1,6 +1,8 @@
 ghost use Rattle.ion_values.specs.Decimal.{IsDecimal};
 
-use crate::{Body, Decimal, Field, IonTime, Kind, Precision, Text, TimeParts, Value, copy, depth};
+use crate::{
+    Body, Decimal, Field, IonTime, Kind, Precision, Text, TimeParts, Value, copy, depth, equivalent,
+};
 use lists::Sequence;
 use std::alloc::Global;
 use std::test::Fail;
@@ -56,6 +58,99 @@ fn the_depth_counts_containers(rt: HostRuntime) -> Result<(), Fail> {
     fields.push(field(alloc, "a", Body::List(inner))?)?;
     fields.push(field(alloc, "b", Body::Int(2))?)?;
     assert_eq!(rt; depth(&plain(alloc, Body::Struct(fields))), 2);
+    Ok(())
+}
+
+fn struct_of(alloc: Global, fields: [(&str, i128); 3]) -> Result<Value, Fail> {
+    let mut all = Sequence::new(alloc);
+    for (name, number) in fields {
+        all.push(field(alloc, name, Body::Int(number))?)?;
+    }
+    Ok(plain(alloc, Body::Struct(all)))
+}
+
+#[test]
+fn structs_are_equivalent_as_multisets(rt: HostRuntime) -> Result<(), Fail> {
+    let alloc = rt.alloc();
+    let rows = [
+        (
+            [("a", 1), ("b", 2), ("c", 3)],
+            [("a", 1), ("b", 2), ("c", 3)],
+            true,
+        ),
+        (
+            [("a", 1), ("b", 2), ("c", 3)],
+            [("c", 3), ("a", 1), ("b", 2)],
+            true,
+        ),
+        (
+            [("a", 1), ("b", 2), ("c", 3)],
+            [("a", 1), ("c", 3), ("b", 3)],
+            false,
+        ),
+        (
+            [("a", 1), ("a", 1), ("a", 2)],
+            [("a", 2), ("a", 1), ("a", 1)],
+            true,
+        ),
+        (
+            [("a", 1), ("a", 1), ("a", 2)],
+            [("a", 2), ("a", 2), ("a", 1)],
+            false,
+        ),
+        (
+            [("a", 1), ("b", 1), ("b", 1)],
+            [("b", 1), ("a", 1), ("a", 1)],
+            false,
+        ),
+    ];
+    for (left, right, same) in rows {
+        let left = struct_of(alloc, left)?;
+        let right = struct_of(alloc, right)?;
+        assert_eq!(rt; equivalent(&left, &right), same);
+    }
+    Ok(())
+}
+
+#[test]
+fn scalars_and_lists_are_equivalent_as_written(rt: HostRuntime) -> Result<(), Fail> {
+    let alloc = rt.alloc();
+    let one = plain(alloc, decimal(10, -1, false));
+    assert!(rt; equivalent(&one, &plain(alloc, decimal(10, -1, false))));
+    assert!(rt; !equivalent(&one, &plain(alloc, decimal(100, -2, false))));
+    let zero = plain(alloc, decimal(0, 0, false));
+    assert!(rt; !equivalent(&zero, &plain(alloc, decimal(0, 0, true))));
+    assert!(rt; !equivalent(&zero, &plain(alloc, Body::Int(0))));
+    let null = plain(alloc, Body::Null(Kind::Null));
+    assert!(rt; !equivalent(&null, &plain(alloc, Body::Null(Kind::Int))));
+    let mut named = plain(alloc, Body::Int(0));
+    named.annotations.push(Text::from_text(alloc, "x")?)?;
+    assert!(rt; !equivalent(&named, &plain(alloc, Body::Int(0))));
+    let mut up = Sequence::new(alloc);
+    up.push(plain(alloc, Body::Int(1)))?;
+    up.push(plain(alloc, Body::Int(2)))?;
+    let mut down = Sequence::new(alloc);
+    down.push(plain(alloc, Body::Int(2)))?;
+    down.push(plain(alloc, Body::Int(1)))?;
+    assert!(rt;
+        !equivalent(
+            &plain(alloc, Body::List(up)),
+            &plain(alloc, Body::List(down))
+        )
+    );
+    let day = IonTime::new(minute_of(2000, 1, 1))?;
+    let hour = IonTime::new(TimeParts {
+        hour: 1,
+        offset: Some(60),
+        ..minute_of(2000, 1, 1)
+    })?;
+    assert_eq!(rt; day.instant(), hour.instant());
+    assert!(rt;
+        !equivalent(
+            &plain(alloc, Body::Timestamp(day)),
+            &plain(alloc, Body::Timestamp(hour))
+        )
+    );
     Ok(())
 }
 

@@ -1,4 +1,4 @@
-use Rattle.std.proofs.Common.{arith, to_z-of_z, refl}
+use Rattle.std.proofs.Common.{to_z-of_z, refl}
 use Rattle.ion_values.proofs.Years.{first_day, day_after_last}
 use Rattle.ion_values.proofs.time_ranges.is_in_years.Goals as goal
 
