@@ -1,8 +1,12 @@
+ghost use Rattle.std.specs.Prelude.{◌≡◌, IfOk};
 ghost use Rattle.ion_values.specs.Decimal.{IsDecimal};
 
 use crate::{hash, serialize};
-use ion_values::{Body, Decimal, Field, IonTime, Kind, Precision, TimeParts, Value};
+use ion_values::{
+    Body, Decimal, Field, IonTime, Kind, OutOfMemory, Precision, TimeParts, Value, copy,
+};
 use lists::{Sequence, Text};
+use ql_types::Hash32;
 use std::alloc::Global;
 use std::process::Abort;
 use std::test::Fail;
@@ -227,6 +231,24 @@ fn a_struct_with_repeated_fields_has_a_hash(rt: HostRuntime) -> Result<(), Fail>
                 0x6c, 0xef, 0x19, 0x4f
             ]
     );
+    Ok(())
+}
+
+// The hash of a value, and that of its parts put together again: one hash, by the contracts alone.
+fn hash_and_hash_again(alloc: Global, value: &Value) -> Result<(Hash32, Hash32), OutOfMemory>
+    ensures { IfOk result (λ hashes. hashes.0 ≡ hashes.1) }
+{
+    let Value { annotations, body } = copy(alloc, value)?;
+    let again = Value { annotations, body };
+    Ok((hash(alloc, value)?, hash(alloc, &again)?))
+}
+
+#[test]
+fn a_hash_is_that_of_the_parts(rt: HostRuntime) -> Result<(), Fail> {
+    let alloc = rt.alloc();
+    let value = plain(alloc, Body::String(Text::from_text(alloc, "a")?));
+    let (found, again) = hash_and_hash_again(alloc, &value)?;
+    assert!(rt; found == again);
     Ok(())
 }
 
