@@ -1,9 +1,10 @@
--- A value's numbers, texts and bytes are within the ranges of their types. In a law a number is unbounded, so a law
+-- A value's numbers, timestamps, texts and bytes are within the ranges of their types. In a law a number is unbounded, so a law
 -- about values that are written or read speaks of those within.
 use Rattle.std.specs.Prelude.{ℕ, ℤ, pos, negsuc, ◌^◌, ◌&&◌, ◌==◌, Bool, true, false, nat_lt, nat_le, List, [], ◌∷◌, length, if◌then◌else◌}
 use Rattle.std.specs.List.{list_all}
 use Rattle.std.specs.Str.Lossy.{utf8_valid_len}
 use Rattle.ion_values.specs.Decimal.{DecimalParts}
+use Rattle.ion_values.specs.Time.{is_time}
 use Rattle.ion_values.specs.declared.value.Value.{Value}
 use Rattle.ion_values.specs.declared.value.Field.{Field}
 use Rattle.ion_values.specs.declared.value.Body.TheOpen.{Body-F, Field-F, Value-F}
@@ -41,6 +42,7 @@ all_true (b ∷ bs) = b && all_true bs
 abbrev pub body_step : Body-F Bool Bool Bool → Bool
 body_step (Body-F.Int n) = int_within n
 body_step (Body-F.Decimal d) = decimal_within d
+body_step (Body-F.Timestamp t) = is_time t
 body_step (Body-F.Symbol text) = text_within text
 body_step (Body-F.String text) = text_within text
 body_step (Body-F.Clob bytes) = bytes_within bytes

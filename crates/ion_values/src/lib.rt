@@ -3,12 +3,17 @@
 
 mod copies;
 mod decimal;
+mod depths;
+mod equivalence;
 mod fault;
 mod time;
+mod time_ranges;
 mod value;
 
 pub use copies::{copy, copy_values};
 pub use decimal::Decimal;
+pub use depths::depth;
+pub use equivalence::equivalent;
 pub use fault::{IonFault, IonKind};
 pub use lists::{Bytes, OutOfMemory, Text};
 pub use time::{BadTime, IonTime, Precision, TimeParts};

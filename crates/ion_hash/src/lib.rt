@@ -1,0 +1,13 @@
+//! The serialization of values by the Ion Hash specification, and their hashes.
+#![tactic(auto)]
+
+mod fields;
+mod numbers;
+mod scalars;
+mod timestamps;
+mod values;
+
+pub use values::{hash, serialize};
+
+#[cfg(test)]
+mod tests;

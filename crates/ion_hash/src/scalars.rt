@@ -1,0 +1,133 @@
+//! Frames, and what stands in them of values that hold no others.
+ghost use Rattle.std.specs.Prelude.{◌≡◌, ◌++◌, ◌∷◌, [], unsigned_abs, OnOk, IfOk};
+ghost use Rattle.hash_forms.specs.Numbers.{is_below_zero, magnitude};
+ghost use Rattle.hash_forms.specs.Serialize.{decimal_bytes, escape, escaped, framed, int_qualifier, is_control, null_qualifier, scalar, symbol_bytes};
+ghost use Rattle.hash_forms.specs.Timestamps.{timestamp_bytes};
+
+use super::numbers::{put_int_field, put_magnitude, put_var_int};
+use super::timestamps::put_timestamp;
+use ion_values::{Decimal, IonTime, Kind};
+use lists::{Bytes, OutOfMemory, Sequence};
+use std::alloc::Global;
+
+/// Begins a frame.
+pub const BEGIN: u8 = 0x0B;
+
+/// Makes a byte of the content of it that would else begin or end a frame.
+pub const ESCAPE: u8 = 0x0C;
+
+/// Ends a frame.
+pub const END: u8 = 0x0E;
+
+fn put_escaped_byte(out: &mut Bytes, byte: u8) -> Result<(), OutOfMemory>
+    ensures { OnOk result (out.new ≡ out.old ++ escaped byte) }
+{
+    if byte == BEGIN || byte == ESCAPE || byte == END {
+        out.push(ESCAPE)?;
+    }
+    out.push(byte)
+}
+
+/// Puts the bytes with an escape before each that would else begin, end or escape.
+pub fn put_escaped(out: &mut Bytes, bytes: &[u8]) -> Result<(), OutOfMemory>
+    ensures { OnOk result (out.new ≡ out.old ++ escape bytes.now) }
+{
+    for byte in bytes {
+        put_escaped_byte(out, *byte)?;
+    }
+    Ok(())
+}
+
+/// Puts a scalar of which this is the representation.
+pub fn put_scalar(
+    out: &mut Bytes,
+    type_qualifier: u8,
+    representation: &[u8],
+) -> Result<(), OutOfMemory>
+    ensures { OnOk result (out.new ≡ out.old ++ scalar type_qualifier representation.now) }
+{
+    out.push(BEGIN)?;
+    out.push(type_qualifier)?;
+    put_escaped(out, representation)?;
+    out.push(END)
+}
+
+/// Puts a symbol.
+pub fn put_symbol(out: &mut Bytes, text: &str) -> Result<(), OutOfMemory>
+    ensures { OnOk result (out.new ≡ out.old ++ symbol_bytes text.now) }
+{
+    put_scalar(out, 0x70, text.as_bytes())
+}
+
+fn qualifier_of_null(kind: Kind) -> u8
+    ensures { result ≡ null_qualifier kind }
+{
+    match kind {
+        Kind::Null => 0x0F,
+        Kind::Bool => 0x1F,
+        Kind::Int => 0x2F,
+        Kind::Decimal => 0x5F,
+        Kind::Timestamp => 0x6F,
+        Kind::Symbol => 0x7F,
+        Kind::String => 0x8F,
+        Kind::Clob => 0x9F,
+        Kind::Blob => 0xAF,
+        Kind::List => 0xBF,
+        Kind::Sexp => 0xCF,
+        Kind::Struct => 0xDF,
+    }
+}
+
+/// Puts a null.
+pub fn put_null(out: &mut Bytes, kind: Kind) -> Result<(), OutOfMemory>
+    ensures { OnOk result (out.new ≡ out.old ++ framed (null_qualifier kind) []) }
+{
+    put_scalar(out, qualifier_of_null(kind), &[])
+}
+
+/// Puts an int.
+pub fn put_int(alloc: Global, out: &mut Bytes, number: i128) -> Result<(), OutOfMemory>
+    ensures { OnOk result (out.new ≡ out.old ++ scalar (int_qualifier number) (magnitude (unsigned_abs number))) }
+{
+    let mut representation = Sequence::new(alloc);
+    put_magnitude(&mut representation, number.unsigned_abs())?;
+    let type_qualifier = if number < 0 { 0x30 } else { 0x20 };
+    put_scalar(out, type_qualifier, representation.as_slice())
+}
+
+fn decimal_representation(alloc: Global, number: &Decimal) -> Result<Bytes, OutOfMemory>
+    ensures { IfOk result (λ bytes. bytes ≡ decimal_bytes number.now) }
+{
+    let mut representation = Sequence::new(alloc);
+    if number.exponent == 0 && number.coefficient == 0 && !number.negative_zero {
+        return Ok(representation);
+    }
+    put_var_int(
+        &mut representation,
+        number.exponent < 0,
+        number.exponent.unsigned_abs(),
+    )?;
+    put_int_field(
+        &mut representation,
+        number.negative_zero || number.coefficient < 0,
+        number.coefficient.unsigned_abs(),
+    )?;
+    Ok(representation)
+}
+
+/// Puts a decimal.
+pub fn put_decimal(alloc: Global, out: &mut Bytes, number: &Decimal) -> Result<(), OutOfMemory>
+    ensures { OnOk result (out.new ≡ out.old ++ scalar 0x50 (decimal_bytes number.now)) }
+{
+    let representation = decimal_representation(alloc, number)?;
+    put_scalar(out, 0x50, representation.as_slice())
+}
+
+/// Puts a timestamp.
+pub fn put_time(alloc: Global, out: &mut Bytes, time: &IonTime) -> Result<(), OutOfMemory>
+    ensures { OnOk result (out.new ≡ out.old ++ scalar 0x60 (timestamp_bytes time.now)) }
+{
+    let mut representation = Sequence::new(alloc);
+    put_timestamp(&mut representation, time)?;
+    put_scalar(out, 0x60, representation.as_slice())
+}

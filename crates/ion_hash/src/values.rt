@@ -1,0 +1,126 @@
+//! Values with all that is in them.
+ghost use Rattle.std.specs.Prelude.{◌≡◌, ◌++◌, map, IfOk, OnOk};
+ghost use Rattle.std.specs.List.{flat_map};
+ghost use Rattle.sha2.specs.Sha256.{sha256};
+ghost use Rattle.hash_forms.specs.Serialize.{annotated, field_digest, field_hash, hash_of, joined, serialize, serialize_body, symbol_bytes};
+
+use super::fields::{ordered, put_hashes};
+use super::scalars::{
+    BEGIN, END, put_decimal, put_int, put_null, put_scalar, put_symbol, put_time,
+};
+use ion_values::{Body, Field, Names, Value};
+use lists::{Bytes, OutOfMemory, Sequence};
+use ql_types::Hash32;
+use sha2::{Digest, Sha256};
+use std::alloc::Global;
+
+/// The value's serialization as the Ion Hash specification has it.
+pub fn serialize(alloc: Global, v: &Value) -> Result<Bytes, OutOfMemory>
+    ensures { IfOk result (λ bytes. bytes ≡ serialize v.now) }
+{
+    let mut out = Sequence::new(alloc);
+    put_value(alloc, &mut out, v)?;
+    Ok(out)
+}
+
+/// The value's hash: SHA-256 of its serialization.
+#[tactic(auto, unfolding(hash_forms::specs::Serialize::hash_of))]
+pub fn hash(alloc: Global, v: &Value) -> Result<Hash32, OutOfMemory>
+    ensures { IfOk result (λ hash. hash ≡ hash_of v.now) }
+{
+    let bytes = serialize(alloc, v)?;
+    Ok(Hash32 {
+        bytes: Sha256::digest(bytes.as_slice()),
+    })
+}
+
+#[cycle(serialize)]
+fn put_value(alloc: Global, out: &mut Bytes, value: &Value) -> Result<(), OutOfMemory>
+    ensures { OnOk result (out.new ≡ out.old ++ serialize value.now) }
+{
+    if value.annotations.is_empty() {
+        return put_body(alloc, out, &value.body);
+    }
+    out.push(BEGIN)?;
+    out.push(0xE0)?;
+    put_annotations(out, &value.annotations)?;
+    put_body(alloc, out, &value.body)?;
+    out.push(END)
+}
+
+fn put_annotations(out: &mut Bytes, names: &Names) -> Result<(), OutOfMemory>
+    ensures { OnOk result (out.new ≡ out.old ++ flat_map symbol_bytes names.now) }
+{
+    for name in names.as_slice() {
+        put_symbol(out, name.as_str())?;
+    }
+    Ok(())
+}
+
+#[cycle(serialize)]
+fn put_body(alloc: Global, out: &mut Bytes, body: &Body) -> Result<(), OutOfMemory>
+    ensures { OnOk result (out.new ≡ out.old ++ serialize_body body.now) }
+{
+    match body {
+        Body::Null(kind) => put_null(out, *kind),
+        Body::Bool(truth) => put_scalar(out, if *truth { 0x11 } else { 0x10 }, &[]),
+        Body::Int(number) => put_int(alloc, out, *number),
+        Body::Decimal(number) => put_decimal(alloc, out, number),
+        Body::Timestamp(time) => put_time(alloc, out, time),
+        Body::Symbol(text) => put_symbol(out, text.as_str()),
+        Body::String(text) => put_scalar(out, 0x80, text.as_str().as_bytes()),
+        Body::Clob(bytes) => put_scalar(out, 0x90, bytes.as_slice()),
+        Body::Blob(bytes) => put_scalar(out, 0xA0, bytes.as_slice()),
+        Body::List(values) => {
+            out.push(BEGIN)?;
+            out.push(0xB0)?;
+            put_values(alloc, out, values.as_slice())?;
+            out.push(END)
+        }
+        Body::Sexp(values) => {
+            out.push(BEGIN)?;
+            out.push(0xC0)?;
+            put_values(alloc, out, values.as_slice())?;
+            out.push(END)
+        }
+        Body::Struct(fields) => {
+            let hashes = ordered(hashes_of(alloc, fields.as_slice())?)?;
+            out.push(BEGIN)?;
+            out.push(0xD0)?;
+            put_hashes(out, &hashes)?;
+            out.push(END)
+        }
+    }
+}
+
+#[cycle(serialize)]
+fn put_values(alloc: Global, out: &mut Bytes, values: &[Value]) -> Result<(), OutOfMemory>
+    ensures { OnOk result (out.new ≡ out.old ++ joined (map serialize values.now)) }
+{
+    for value in values {
+        put_value(alloc, out, value)?;
+    }
+    Ok(())
+}
+
+#[cycle(serialize)]
+#[tactic(auto, unfolding(hash_forms::specs::Serialize::field_digest))]
+fn hash_field(alloc: Global, field: &Field) -> Result<[u8; 32], OutOfMemory>
+    ensures { IfOk result (λ hash. hash ≡ field_hash field.now) }
+{
+    let mut bytes = Sequence::new(alloc);
+    put_symbol(&mut bytes, field.name.as_str())?;
+    put_value(alloc, &mut bytes, &field.value)?;
+    Ok(Sha256::digest(bytes.as_slice()))
+}
+
+#[cycle(serialize)]
+fn hashes_of(alloc: Global, fields: &[Field]) -> Result<Vec<[u8; 32]>, OutOfMemory>
+    ensures { IfOk result (λ hashes. hashes.items ≡ map field_hash fields.now) }
+{
+    let mut hashes = Vec::new(alloc);
+    for field in fields {
+        hashes.push(hash_field(alloc, field)?)?;
+    }
+    Ok(hashes)
+}

@@ -1,0 +1,5 @@
+pub mod Counts
+pub mod Induction
+pub mod Matching
+pub mod Relation
+pub mod Years
