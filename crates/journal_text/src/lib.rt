@@ -1,4 +1,4 @@
-//! The text of a journal, a line a block.
+//! The text of a journal. So far it is the law that each value is written on one line.
 #![tactic(auto)]
 
 ghost use Rattle.journal_text.specs.OneLine.{WrittenOnOneLine};
