@@ -1,10 +1,31 @@
-//! The text of a journal. So far it is the law that each value is written on one line.
+//! The text of a journal, a line a block.
 #![tactic(auto)]
 
+ghost use Rattle.std.specs.Prelude.{◌≡◌, IfOk};
 ghost use Rattle.journal_text.specs.OneLine.{WrittenOnOneLine};
+ghost use Rattle.ledger_model.specs.Journal.{line};
+
+use block_form::to_ion;
+use ion_text::write;
+use ion_values::{OutOfMemory, Text};
+use ledger_model::Block;
+use std::alloc::Global;
+
+/// A block's line in the journal: its value as it is written, and a line feed.
+pub fn line(alloc: Global, block: &Block) -> Result<Text, OutOfMemory>
+    ensures { IfOk result (λ text. text ≡ line block.now) }
+{
+    let value = to_ion(alloc, block)?;
+    let mut text = write(alloc, &value)?;
+    text.push_str("\n")?;
+    Ok(text)
+}
 
 /// A law for callers: no line feed stands in the text of a value, so a line feed behind a text
 /// tells that the whole of it was written.
 pub fn written_on_one_line()
     ensures { WrittenOnOneLine }
 {}
+
+#[cfg(test)]
+mod tests;

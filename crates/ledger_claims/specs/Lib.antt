@@ -1,3 +1,5 @@
 pub mod Fits
+pub mod Stores
 pub mod Streams
 pub mod Top
+pub mod Words

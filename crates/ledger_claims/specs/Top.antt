@@ -1,18 +1,17 @@
--- What the program does with its words, its input and its output, by the status with which it ends.
-use Rattle.std.specs.Prelude.{◌≡◌, ℕ, ◌<◌, ◌⊎◌, List, [], ◌∷◌, ◌++◌, length, map, codes, String, string_bytes, Option, Some, None}
+-- What the program does with its words, its input, its output and its store, by the status with which it ends.
+use Rattle.std.specs.Prelude.{◌≡◌, ℕ, ◌<◌, ◌⊎◌, List, [], ◌∷◌, ◌++◌, length, codes, String, Option, Some, None, IfSome}
 use Rattle.std.specs.declared.alloc.Global.{Global}
 use Rattle.std.specs.Fmt.{decimal}
-use Rattle.std.specs.Io.KnownBytes.{Appends, IsAtEnd}
+use Rattle.std.specs.Io.KnownBytes.{Appends}
+use Rattle.ion_values.specs.declared.time.TimeParts.{TimeParts}
 use Rattle.ledger_model.specs.declared.script.Job.{Job}
 use Rattle.ledger_model.specs.Script.{all_placed}
 use Rattle.ledger_model.specs.Unbuilt.{served}
 use Rattle.ledger_model.specs.Report.{report}
-use Rattle.ledger_claims.specs.Fits.{RunRecord, Fits}
+use Rattle.ledger_claims.specs.Fits.{RunRecord, Fits, FitsBlocks}
+use Rattle.ledger_claims.specs.Words.{IsRun}
 use Rattle.ledger_claims.specs.Streams.{Taken, WasRead, AppendsPart}
-
--- the words of the one command
-abbrev pub IsRun : List (String Global) → Type 0
-IsRun words = map string_bytes words ≡ codes "run" ∷ codes "--plain-ids" ∷ []
+use Rattle.ledger_claims.specs.Stores.{Holding, AllSynced, HoldingWithRest}
 
 -- ---- the error lines
 
@@ -22,20 +21,45 @@ words_line = codes "{status:1}" ++ 10 ∷ []
 abbrev pub unbuilt_line : List ℕ
 unbuilt_line = codes "{status:2,fault:{kind:Unbuilt}}" ++ 10 ∷ []
 
--- with how often the source has failed
-abbrev pub source_line : ℕ → List ℕ
-source_line faults = codes "{status:4,faults:" ++ decimal faults ++ codes "}" ++ 10 ∷ []
+-- of a source, with the status 4, or of a store, with the status 5, that has failed so often
+abbrev pub faults_line : List ℕ → ℕ → List ℕ
+faults_line status faults = codes "{status:" ++ status ++ codes ",faults:" ++ decimal faults ++ codes "}" ++ 10 ∷ []
+
+-- ---- what the source, the sink and the store told at entry and at the end
+
+pub record Streams : Type 0 where
+  pub left_before : Option (List ℕ)
+  pub left_after : Option (List ℕ)
+  pub written_before : Option (List ℕ)
+  pub written_after : Option (List ℕ)
+
+pub record Stored : Type 0 where
+  pub held_before : Option (List ℕ)
+  pub held_after : Option (List ℕ)
+  pub synced_before : Option ℕ
+  pub synced_after : Option ℕ
+  pub faults_before : ℕ
+  pub faults_after : ℕ
+
+abbrev pub streams : Option (List ℕ) → Option (List ℕ) → Option (List ℕ) → Option (List ℕ) → Streams
+streams left_before left_after written_before written_after = record {
+  left_before = left_before;
+  left_after = left_after;
+  written_before = written_before;
+  written_after = written_after;
+}
+
+abbrev pub stored : Option (List ℕ) → Option (List ℕ) → Option ℕ → Option ℕ → ℕ → ℕ → Stored
+stored held_before held_after synced_before synced_after faults_before faults_after = record {
+  held_before = held_before;
+  held_after = held_after;
+  synced_before = synced_before;
+  synced_after = synced_after;
+  faults_before = faults_before;
+  faults_after = faults_after;
+}
 
 -- ---- a run of a script
-
--- the text is the report of a run of the script on an empty journal with plain ids, and the run fits
-pub record IsReportOf (script : List (List Job)) (text : List ℕ) : Type 0 where
-  pub told : RunRecord
-  pub plain : told.mask ≡ 0
-  pub jobs : told.jobs ≡ all_placed script
-  pub before : told.before ≡ []
-  pub fits : Fits told
-  pub text_is : text ≡ report told.after told.outcomes
 
 -- the whole input was read, and it spells this script, which is served
 pub record HasScript (left_before left_after : Option (List ℕ)) (script : List (List Job)) : Type 0 where
@@ -43,26 +67,77 @@ pub record HasScript (left_before left_after : Option (List ℕ)) (script : List
   pub read : WasRead left_before left_after input
   pub served_is : served input ≡ Some script
 
--- the whole input was read, it spells a script that is served, and this is the report of its run
-pub record Ran (left_before left_after : Option (List ℕ)) (text : List ℕ) : Type 0 where
+-- the record is that of a run of this script on an empty journal, with plain ids and blocks of this time
+pub record IsOfRun (time : TimeParts) (script : List (List Job)) (s : Stored) (t : RunRecord) : Type 0 where
+  pub plain : t.mask ≡ 0
+  pub time_is : t.time ≡ time
+  pub jobs : t.jobs ≡ all_placed script
+  pub opened : t.opened ≡ s.faults_before
+  pub closed : t.closed ≡ s.faults_after
+  pub before : t.before ≡ []
+
+-- the journal was empty, the script was run, and the store holds the journal that is left, synced
+pub record IsDone (time : TimeParts) (script : List (List Job)) (s : Stored) (t : RunRecord) : Type 0 where
+  pub of_run : IsOfRun time script s t
+  pub fits : Fits t
+  pub was_empty : IfSome s.held_before (λ held. held ≡ [])
+  pub holding : Holding t.after s.held_after
+  pub synced : AllSynced s.synced_before s.held_after s.synced_after
+
+-- the script was run with this time, and the text is the report of that run
+pub record IsReportOf (time : TimeParts) (script : List (List Job)) (s : Stored) (text : List ℕ) : Type 0 where
+  pub told : RunRecord
+  pub done : IsDone time script s told
+  pub text_is : text ≡ report told.after told.outcomes
+
+-- The words ask for a run with a time, the whole input was read, it is a script that is served, and this is the report of
+-- its run.
+pub record HasReport (words : List (String Global)) (left_before left_after : Option (List ℕ)) (s : Stored) (text : List ℕ) : Type 0 where
+  pub time : TimeParts
+  pub asked : IsRun words time
   pub script : List (List Job)
   pub has : HasScript left_before left_after script
-  pub reported : IsReportOf script text
+  pub reported : IsReportOf time script s text
 
 -- what was written is the report
-pub record Reports (left_before left_after written_before written_after : Option (List ℕ)) : Type 0 where
+pub record Reports (words : List (String Global)) (io : Streams) (s : Stored) : Type 0 where
   pub text : List ℕ
-  pub ran : Ran left_before left_after text
-  pub written : Appends written_before written_after text
+  pub ran : HasReport words io.left_before io.left_after s text
+  pub written : Appends io.written_before io.written_after text
 
 -- what was written is a front part of the report
-pub record ReportsPart (left_before left_after written_before written_after : Option (List ℕ)) : Type 0 where
+pub record ReportsPart (words : List (String Global)) (io : Streams) (s : Stored) : Type 0 where
   pub text : List ℕ
-  pub ran : Ran left_before left_after text
-  pub written : AppendsPart written_before written_after text
+  pub ran : HasReport words io.left_before io.left_after s text
+  pub written : AppendsPart io.written_before io.written_after text
 
--- the whole input was read and no script that is served is spelt so, or the input is longer than 16,777,216 bytes
-pub record IsUnbuilt (left_before left_after : Option (List ℕ)) : Type 0 where
+-- the store holds the journal of a run of the script, and perhaps a rest that is no whole line
+pub record HoldsRun (time : TimeParts) (script : List (List Job)) (s : Stored) : Type 0 where
+  pub told : RunRecord
+  pub of_run : IsOfRun time script s told
+  pub fits : FitsBlocks told
+  pub holding : HoldingWithRest told.after s.held_after
+
+-- the words ask for such a run, and the script is the input's
+pub record HoldsAsked (words : List (String Global)) (left_before left_after : Option (List ℕ)) (s : Stored) : Type 0 where
+  pub time : TimeParts
+  pub asked : IsRun words time
+  pub script : List (List Job)
+  pub has : HasScript left_before left_after script
+  pub holds : HoldsRun time script s
+
+-- what a run that was stopped leaves in its store: what it held, or the journal of a part of the run
+abbrev pub Leaves : List (String Global) → Option (List ℕ) → Option (List ℕ) → Stored → Type 0
+Leaves words left_before left_after s = (s.held_after ≡ s.held_before) ⊎ HoldsAsked words left_before left_after s
+
+-- the whole input was read and no script that is served is spelt so, or the input is longer than 16,777,216 bytes, or
+-- the store holds something already
+abbrev pub IsUnserved : Option (List ℕ) → Option (List ℕ) → List ℕ → Option (List ℕ) → Type 0
+IsUnserved left_before left_after input held =
+    (WasRead left_before left_after input × (served input ≡ None))
+    ⊎ (Taken left_before left_after input × (16777216 < length input))
+    ⊎ (WasRead left_before left_after input × IfSome held (λ bytes. 0 < length bytes))
+
+pub record IsUnbuilt (left_before left_after held : Option (List ℕ)) : Type 0 where
   pub input : List ℕ
-  pub taken : Taken left_before left_after input
-  pub why : (IsAtEnd left_after × (served input ≡ None)) ⊎ (16777216 < length input)
+  pub why : IsUnserved left_before left_after input held

@@ -1,5 +1,10 @@
+pub mod CommandWords
 pub mod Committed
 pub mod Each
+pub mod Ending
+pub mod Kept
+pub mod Left
 pub mod Pairs
 pub mod Pieces
 pub mod Puts
+pub mod TimeWords

@@ -1,1 +1,4 @@
+pub mod Commits
+pub mod Ends
+pub mod Runs
 pub mod Transactions

@@ -2,6 +2,7 @@
 #![tactic(auto)]
 
 mod answer;
+mod commit;
 mod input;
 mod output;
 mod report;

@@ -2,7 +2,7 @@
 ghost use Rattle.std.specs.Prelude.{◌≡◌, ◌++◌, map, slice_get, IfOk, OnOk};
 ghost use Rattle.std.specs.Fmt.{decimal};
 ghost use Rattle.ion_forms.specs.Write.{value_text, joined};
-ghost use Rattle.ledger_model.specs.Report.{quoted_id, answer_text, answers_text, committed_text, outcome_text, outcome_line, report};
+ghost use Rattle.ledger_model.specs.Report.{quoted_id, answer_text, answers_text, committed_text, store_fault_text, outcome_text, outcome_line, report};
 
 use crate::answer::id_text;
 use ion_text::write;
@@ -49,7 +49,19 @@ fn put_outcome(
 {
     match outcome {
         Outcome::Committed { tx, block } => put_committed(alloc, out, blocks, *tx, *block),
+        Outcome::StoreFault { tx, count } => put_store_fault(alloc, out, *tx, *count),
+        Outcome::OutOfMemory => out.push_str("out_of_memory"),
+        _ => Ok(()),
     }
+}
+
+fn put_store_fault(alloc: Global, out: &mut Text, tx: TxId, count: u64) -> Result<(), OutOfMemory>
+    ensures { OnOk result (out.new ≡ out.old ++ store_fault_text tx.raw count) }
+{
+    out.push_str("store_fault,tx:")?;
+    put_id(alloc, out, tx.raw)?;
+    out.push_str(",count:")?;
+    put_number(alloc, out, count)
 }
 
 fn put_committed(

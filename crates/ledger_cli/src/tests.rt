@@ -5,37 +5,57 @@ use std::sync::Wait;
 use std::test::Fail;
 use std::thread::Threads;
 
-/// How a command ended, what it wrote, and how often the source and the sink failed.
+/// How a command ended, what it wrote, how often the source and the sink failed, and what the store holds.
 #[derive(Drop)]
 struct Told {
     status: u8,
     output: String,
     source_faults: u64,
     sink_faults: u64,
-    store_is_as_before: bool,
+    held: Vec<u8>,
 }
 
-/// Runs a command on an input, where these calls of the source and of the sink fail.
-fn run_command<R: Threads + Wait + Sync>(
-    rt: &R,
-    alloc: Global,
-    words: &[&str],
+/// What a command is run on: its words, its input, the calls of the source, the sink and the store that fail, and what
+/// the store holds.
+#[derive(Drop)]
+struct Given {
+    words: Vec<String>,
     input: Vec<u8>,
     reads: Vec<Failing>,
     writes: Vec<Failing>,
-) -> Result<Told, Fail> {
-    let mut all = Vec::new(alloc);
-    for word in words {
-        all.push(String::from_str(alloc, word)?)?;
+    fails: Vec<Failing>,
+    held: Vec<u8>,
+}
+
+/// The words of a line, on an input and an empty store, of which no call fails.
+fn to_run(alloc: Global, line: &str, input: &str) -> Result<Given, Fail> {
+    let mut words = Vec::new(alloc);
+    for word in line.split(' ') {
+        words.push(String::from_str(alloc, word)?)?;
     }
-    let mut source = MemorySource::new(input, reads);
-    let mut sink = MemorySink::new(alloc, writes);
-    let store = MemoryStore::new(b"kept".to_vec(alloc)?, Vec::new(alloc));
+    Ok(Given {
+        words,
+        input: input.as_bytes().to_vec(alloc)?,
+        reads: Vec::new(alloc),
+        writes: Vec::new(alloc),
+        fails: Vec::new(alloc),
+        held: Vec::new(alloc),
+    })
+}
+
+fn run_command<R: Threads + Wait + Sync>(
+    rt: &R,
+    alloc: Global,
+    given: Given,
+) -> Result<Told, Fail> {
+    let mut source = MemorySource::new(given.input, given.reads);
+    let mut sink = MemorySink::new(alloc, given.writes);
+    let store = MemoryStore::new(given.held, given.fails);
     let clock = SetClock::new(vec![in alloc; 0]?);
     let ended = ledger_top(
         rt,
         alloc,
-        &all,
+        &given.words,
         &mut source,
         &mut sink,
         store,
@@ -51,58 +71,107 @@ fn run_command<R: Threads + Wait + Sync>(
         output,
         source_faults: source.faults(),
         sink_faults: sink.faults(),
-        store_is_as_before: ended.store.held() == b"kept".as_slice(),
+        held: ended.store.held().to_vec(alloc)?,
     })
 }
 
-const RUN: [&str; 2] = ["run", "--plain-ids"];
+const RUN: &str = "run --plain-ids --at 2020-01-01T00:00:00.000Z";
 
 const UNBUILT: &str = "{status:2,fault:{kind:Unbuilt}}\n";
+
+const BAD_WORDS: &str = "{status:1}\n";
 
 const FIRST: &str =
     "[{statements:[\"CREATE TABLE t\",{text:\"INSERT INTO t ?\",params:[{a:5}]},\"SELECT * FROM t\"]}]";
 
+const COMMITTED: &str =
+    "{session:1,transaction:1,outcome:committed,tx:\"0000000000000000018OWG\",block:0,answers:[[{tableId:\"0000000000000000018OWH\"}],[{documentId:\"0000000000000000018OWI\"}],[{a:5}]]}\n";
+
+const STORE_FAULT: &str =
+    "{session:1,transaction:1,outcome:store_fault,tx:\"0000000000000000018OWG\",count:1}\n";
+
+/// The journal of the first script. ../block_form/vectors/make.py prints it.
+const LINE: &str = "{blockAddress:{strandId:\"0000000000000000000000\",sequenceNo:0},\
+    transactionId:\"0000000000000000018OWG\",blockTimestamp:2020-01-01T00:00:00.000Z,\
+    blockHash:{{gCpMOs34h3TvAh7iAh4EKWV5KIxl70elgNz2Z+MXjSo=}},\
+    entriesHash:{{BETLilX7F8NQwSlrOv764R5B8OyI0fRfFgk0/wFv/u4=}},\
+    previousBlockHash:{{53lJLR4mqJhMC9teUhflWaT1io0nJ6QhUp8MSj38vzA=}},\
+    entriesHashList:[{{b55irMV6NnpryuZXsbDVJEJ84zjusPGbA8Jfm5B8DiI=}},\
+    {{xgJ+hPv/kWDMV1q/aV8pt6vx9+1GPWUxRtaBXSLitYc=}},\
+    {{U25AIDAIdKdPhpnLSqVMNT1uOKsE4rSPxrKue5OzwuE=}}],\
+    transactionInfo:{place:{session:1,transaction:1},\
+    statements:[{statement:\"CREATE TABLE t\",parameters:[],\
+    answer:[{tableId:\"0000000000000000018OWH\"}]},{statement:\"INSERT INTO t ?\",\
+    parameters:[{a:5}],answer:[{documentId:\"0000000000000000018OWI\"}]},\
+    {statement:\"SELECT * FROM t\",parameters:[],answer:[{a:5}]}],\
+    schema:[{create:\"t\",tableId:\"0000000000000000018OWH\"}],\
+    documents:[{documentId:\"0000000000000000018OWI\",tableId:\"0000000000000000018OWH\"}]},\
+    revisions:[{blockAddress:{strandId:\"0000000000000000000000\",sequenceNo:0},\
+    hash:{{xgJ+hPv/kWDMV1q/aV8pt6vx9+1GPWUxRtaBXSLitYc=}},data:{a:5},\
+    metadata:{id:\"0000000000000000018OWI\",version:0,txTime:2020-01-01T00:00:00.000Z,\
+    txId:\"0000000000000000018OWG\"}}]}\n";
+
 #[test]
-fn words_and_scripts(rt: HostRuntime) -> Result<(), Fail> {
+fn scripts(rt: HostRuntime) -> Result<(), Fail> {
     let alloc = rt.alloc();
-    let committed =
-        "{session:1,transaction:1,outcome:committed,tx:\"0000000000000000018OWG\",block:0,answers:[[{tableId:\"0000000000000000018OWH\"}],[{documentId:\"0000000000000000018OWI\"}],[{a:5}]]}\n";
     let swapped =
         "[{statements:[\"CREATE TABLE t\",\n {params:[{b:\"x\",b:-7}] , text:\"INSERT INTO t ?\"},\"SELECT * FROM t\",\"SELECT * FROM t\"]}]\n";
     let twice =
         "{session:1,transaction:1,outcome:committed,tx:\"0000000000000000018OWG\",block:0,answers:[[{tableId:\"0000000000000000018OWH\"}],[{documentId:\"0000000000000000018OWI\"}],[{b:\"x\",b:-7}],[{b:\"x\",b:-7}]]}\n";
-    for (words, input, status, output) in [
-        (["run", "--plain-ids"].as_slice(), FIRST, 0, committed),
-        (["run", "--plain-ids"].as_slice(), swapped, 0, twice),
-        (["run", "--plain-ids"].as_slice(), "5", 2, UNBUILT),
-        (["run", "--plain-ids"].as_slice(), "", 2, UNBUILT),
-        (["run", "--plain-ids"].as_slice(), "[", 2, UNBUILT),
-        (
-            ["run", "--plain-ids"].as_slice(),
-            "[{statements:[\"CREATE TABLE t\",]}]",
-            2,
-            UNBUILT,
-        ),
-        (
-            ["run", "--plain-ids"].as_slice(),
-            "[{statements:[\"SELECT * FROM t\"]}]",
-            2,
-            UNBUILT,
-        ),
-        (["run"].as_slice(), FIRST, 1, "{status:1}\n"),
-        (
-            ["run", "--plain-ids", "j"].as_slice(),
-            FIRST,
-            1,
-            "{status:1}\n",
-        ),
-        ([].as_slice(), FIRST, 1, "{status:1}\n"),
+    for (input, status, output) in [
+        (FIRST, 0, COMMITTED),
+        (swapped, 0, twice),
+        ("5", 2, UNBUILT),
+        ("", 2, UNBUILT),
+        ("[", 2, UNBUILT),
+        ("[{statements:[\"CREATE TABLE t\",]}]", 2, UNBUILT),
+        ("[{statements:[\"SELECT * FROM t\"]}]", 2, UNBUILT),
     ] {
-        let input = input.as_bytes().to_vec(alloc)?;
-        let got = run_command(&rt, alloc, words, input, Vec::new(alloc), Vec::new(alloc))?;
+        let got = run_command(&rt, alloc, to_run(alloc, RUN, input)?)?;
         assert_eq!(rt; got.status, status);
         assert_eq!(rt; got.output.as_str(), output);
-        assert!(rt; got.store_is_as_before);
+        assert_eq!(rt; got.held.is_empty(), status == 2);
+        if input == FIRST {
+            assert_eq!(rt; got.held.as_slice(), LINE.as_bytes());
+        }
+    }
+    Ok(())
+}
+
+#[test]
+fn words(rt: HostRuntime) -> Result<(), Fail> {
+    let alloc = rt.alloc();
+    for (time, status) in [
+        ("2020-01-01T00:00:00.000Z", 0),
+        ("0001-01-01T00:00:00.000Z", 0),
+        ("9999-12-31T23:59:59.999Z", 0),
+        ("2020-02-29T23:59:59.999Z", 0),
+        ("2021-02-29T00:00:00.000Z", 1),
+        ("0000-01-01T00:00:00.000Z", 1),
+        ("2020-13-01T00:00:00.000Z", 1),
+        ("2020-01-01T24:00:00.000Z", 1),
+        ("2020-01-01T00:00:60.000Z", 1),
+        ("2020-01-01T00:00:00Z", 1),
+        ("2020-01-01T00:00:00.000z", 1),
+        ("2020-01-01T00:00:00.000+", 1),
+        ("", 1),
+    ] {
+        let line = format!(in alloc; "run --plain-ids --at {time}")?;
+        let got = run_command(&rt, alloc, to_run(alloc, line.as_str(), FIRST)?)?;
+        assert_eq!(rt; got.status, status);
+        assert_eq!(rt; got.held.is_empty(), status == 1);
+    }
+    for line in [
+        "",
+        "run",
+        "run --plain-ids",
+        "run --plain-ids --at",
+        "run --at 2020-01-01T00:00:00.000Z --plain-ids",
+        "run --plain-ids --at 2020-01-01T00:00:00.000Z j",
+    ] {
+        let got = run_command(&rt, alloc, to_run(alloc, line, FIRST)?)?;
+        assert_eq!(rt; got.status, 1);
+        assert_eq!(rt; got.output.as_str(), BAD_WORDS);
     }
     Ok(())
 }
@@ -110,31 +179,86 @@ fn words_and_scripts(rt: HostRuntime) -> Result<(), Fail> {
 #[test]
 fn failing_source_and_sink(rt: HostRuntime) -> Result<(), Fail> {
     let alloc = rt.alloc();
-    // the call of the source that fails, the call of the sink that fails, the status, and what the sink took
+    // the call of the source that fails, the call of the sink that fails, the words, the status, and what the sink took
     for (read, write, words, status, output) in [
-        (Some(0), None, 2, 4, "{status:4,faults:1}\n"),
-        (Some(1), None, 2, 4, "{status:4,faults:1}\n"),
-        (None, Some(0), 2, 6, ""),
-        (None, Some(0), 1, 1, ""),
-        (Some(0), Some(0), 2, 4, ""),
+        (Some(0), None, RUN, 4, "{status:4,faults:1}\n"),
+        (Some(1), None, RUN, 4, "{status:4,faults:1}\n"),
+        (None, Some(0), RUN, 6, ""),
+        (None, Some(0), "run", 1, ""),
+        (Some(0), Some(0), RUN, 4, ""),
     ] {
-        let mut reads = Vec::new(alloc);
+        let mut given = to_run(alloc, words, FIRST)?;
         if let Some(passes) = read {
-            reads.push(Failing { passes, kept: 0 })?;
+            given.reads.push(Failing { passes, kept: 0 })?;
         }
-        let mut writes = Vec::new(alloc);
         if let Some(passes) = write {
-            writes.push(Failing { passes, kept: 0 })?;
+            given.writes.push(Failing { passes, kept: 0 })?;
         }
-        let failed_reads = reads.len() as u64;
-        let failed_writes = writes.len() as u64;
-        let input = FIRST.as_bytes().to_vec(alloc)?;
-        let got = run_command(&rt, alloc, &RUN[..words], input, reads, writes)?;
+        let failed_reads = given.reads.len() as u64;
+        let failed_writes = given.writes.len() as u64;
+        let got = run_command(&rt, alloc, given)?;
         assert_eq!(rt; got.status, status);
         assert_eq!(rt; got.output.as_str(), output);
         assert_eq!(rt; got.source_faults, failed_reads);
         assert_eq!(rt; got.sink_faults, failed_writes);
-        assert!(rt; got.store_is_as_before);
+        let held = if status == 6 { LINE } else { "" };
+        assert_eq!(rt; got.held.as_slice(), held.as_bytes());
+    }
+    Ok(())
+}
+
+#[test]
+fn a_store_that_is_not_empty(rt: HostRuntime) -> Result<(), Fail> {
+    let alloc = rt.alloc();
+    let mut given = to_run(alloc, RUN, FIRST)?;
+    given.held.push(b'\n')?;
+    let got = run_command(&rt, alloc, given)?;
+    assert_eq!(rt; got.status, 2);
+    assert_eq!(rt; got.output.as_str(), UNBUILT);
+    assert_eq!(rt; got.held.as_slice(), b"\n".as_slice());
+    Ok(())
+}
+
+#[test]
+fn failing_store(rt: HostRuntime) -> Result<(), Fail> {
+    let alloc = rt.alloc();
+    let all = LINE.len() as u64;
+    let none = (0, 0);
+    let one = "{status:5,faults:1}\n";
+    let two = "{status:5,faults:2}\n";
+    // the calls that pass before the first one that fails, and what it keeps; the same of the next one, 9 where there is
+    // none; the status, the output, and how much of the line the store holds
+    for (first, second, status, output, held) in [
+        ((9, 0), none, 0, COMMITTED, all),
+        // size
+        ((0, 0), (9, 0), 5, one, 0),
+        // append, and the store is mended
+        ((1, 0), (9, 0), 0, STORE_FAULT, 0),
+        ((1, 10), (9, 0), 0, STORE_FAULT, 0),
+        ((1, all), (9, 0), 0, STORE_FAULT, 0),
+        // sync, and the store is mended
+        ((2, 0), (9, 0), 0, STORE_FAULT, 0),
+        // then the cut, which is done or not
+        ((1, 0), (0, 0), 5, two, 0),
+        ((1, 10), (0, 0), 5, two, 10),
+        ((1, all), (0, 0), 5, two, all),
+        ((1, 10), (0, 1), 5, two, 0),
+        ((2, 0), (0, 0), 5, two, all),
+        // then the sync behind it
+        ((1, 10), (1, 0), 5, two, 0),
+        ((2, 0), (1, 0), 5, two, 0),
+    ] {
+        let mut given = to_run(alloc, RUN, FIRST)?;
+        for (passes, kept) in [first, second] {
+            given.fails.push(Failing { passes, kept })?;
+        }
+        let got = run_command(&rt, alloc, given)?;
+        assert_eq!(rt; got.status, status);
+        assert_eq!(rt; got.output.as_str(), output);
+        assert_eq!(rt;
+            got.held.as_slice(),
+            LINE.as_bytes().get(..held as usize).unwrap_or_default()
+        );
     }
     Ok(())
 }
@@ -177,9 +301,11 @@ fn limits(rt: HostRuntime) -> Result<(), Fail> {
         (spaces, 2),
         (padded, 0),
     ] {
-        let got = run_command(&rt, alloc, &RUN, input, Vec::new(alloc), Vec::new(alloc))?;
+        let mut given = to_run(alloc, RUN, "")?;
+        given.input = input;
+        let got = run_command(&rt, alloc, given)?;
         assert_eq!(rt; got.status, status);
-        assert!(rt; got.store_is_as_before);
+        assert_eq!(rt; got.held.is_empty(), status == 2);
         if status == 2 {
             assert_eq!(rt; got.output.as_str(), UNBUILT);
         }

@@ -1,14 +1,18 @@
 //! The top call.
-ghost use Rattle.std.specs.Prelude.{◌≡◌, ◌<◌, ◌⊎◌, [], ◌∷◌, Contains, true, IfOk, IsErrOf};
+ghost use Rattle.std.specs.Prelude.{◌≡◌, ◌<◌, ◌⊎◌, ℕ, List, Option, [], ◌∷◌, Contains, true, codes, IfOk, IsErrOf};
 ghost use Rattle.ledger_model.specs.Unbuilt.{is_built};
-ghost use Rattle.ledger_claims.specs.Streams.{TakesFew, WritesLine};
-ghost use Rattle.ledger_claims.specs.Top.{IsRun, HasScript, IsUnbuilt, Reports, ReportsPart, words_line, unbuilt_line, source_line};
+ghost use Rattle.std.specs.Io.KnownBytes.{Appends};
+ghost use Rattle.ledger_claims.specs.Streams.{TakesFew, AppendsPart, WritesLine};
+ghost use Rattle.ledger_claims.specs.Words.{IsRun};
+ghost use Rattle.ledger_claims.specs.Top.{HasScript, IsUnbuilt, Reports, ReportsPart, Leaves, streams, stored, words_line, unbuilt_line, faults_line};
+ghost use Rattle.ion_values.specs.declared.time.TimeParts.{TimeParts};
+ghost use Rattle.ledger_cli.specs.Ends.{Ends, Works, number_of};
 
 use crate::input::{InputFault, read_all};
 use crate::output::write_all;
-use crate::run::run_script;
+use crate::run::{RunFault, run_script};
 use crate::served::served;
-use crate::words::is_run;
+use crate::words::time_in;
 use ion_values::{OutOfMemory, Text};
 use ledger_model::Script;
 use outside::{Clock, Gate, JournalStore, OutFault, Sink, Source};
@@ -31,21 +35,24 @@ enum Status {
     BadWords = 1,
     BadInput = 2,
     SourceFailed = 4,
+    StoreFailed = 5,
     SinkFailed = 6,
     OutOfMemory = 8,
 }
 
-/// Why there is no script to run.
+/// Why there is no report.
 #[derive(Clone, Copy, Debug, PartialEq, Eq)]
-enum NoScript {
-    SourceFailed,
+enum Stop {
+    BadWords,
     Unbuilt,
+    SourceFailed,
+    StoreFailed,
     OutOfMemory,
 }
 
-/// Does what the words say, which so far is one command, `run --plain-ids`. It reads a script from the source, runs
-/// it on an empty journal, and writes its report to the sink. The journal is kept in memory alone: the store and the
-/// clock are given back as they were.
+/// Does what the words say, which so far is one command, `run --plain-ids --at TIME`. It reads a script from the source,
+/// runs it on the empty store with TIME as the time of its block, and writes its report to the sink. The clock is given
+/// back as it was.
 pub fn ledger_top<
     R: Threads + Wait + Sync,
     So: Source,
@@ -63,70 +70,138 @@ pub fn ledger_top<
     clock: C,
     gate: &G,
 ) -> Ended<St, C>
-    // The whole input was read, it is a script that is served, and what was written is the report of its run.
-    ensures done { result.status ≡ 0 → Reports (So.left source.old) (So.left source.new) (Si.written sink.old) (Si.written sink.new) }
+    // The words ask for a run, the whole input was read and is a script that is served, the store was empty, what was
+    // written is the report of the run, and the store holds the run's journal, all of it synced.
+    ensures done { result.status ≡ 0 → Reports words.now (streams (So.left source.old) (So.left source.new) (Si.written sink.old) (Si.written sink.new)) (stored (St.bytes store) (St.bytes result.store) (St.synced store) (St.synced result.store) (St.fault_count store) (St.fault_count result.store)) }
 
     // The words are refused, and only those, but where there is no memory for the error line.
-    ensures words { result.status ≡ 1 → ¬ IsRun words.now }
-    ensures all_bad_words { ¬ IsRun words.now → (result.status ≡ 1) ⊎ (result.status ≡ 8) }
+    ensures words { result.status ≡ 1 → (time : TimeParts) → ¬ IsRun words.now time }
+    ensures all_bad_words { ((time : TimeParts) → ¬ IsRun words.now time) → (result.status ≡ 1) ⊎ (result.status ≡ 8) }
     ensures words_line { result.status ≡ 1 → WritesLine (Si.written sink.old) (Si.written sink.new) (Si.fault_count sink.old) (Si.fault_count sink.new) words_line }
 
-    // The input was read and it is no script that is served; at the statuses 0 and 6 it is one.
-    ensures unbuilt { result.status ≡ 2 → IsUnbuilt (So.left source.old) (So.left source.new) }
+    // No script that is served was read, or the store is not empty; at the statuses 0 and 6 neither is so.
+    ensures unbuilt { result.status ≡ 2 → IsUnbuilt (So.left source.old) (So.left source.new) (St.bytes store) }
     ensures unbuilt_line { result.status ≡ 2 → WritesLine (Si.written sink.old) (Si.written sink.new) (Si.fault_count sink.old) (Si.fault_count sink.new) unbuilt_line }
 
     ensures source_failed { result.status ≡ 4 → So.fault_count source.old < So.fault_count source.new }
-    ensures source_line { result.status ≡ 4 → WritesLine (Si.written sink.old) (Si.written sink.new) (Si.fault_count sink.old) (Si.fault_count sink.new) (source_line (So.fault_count source.new)) }
+    ensures source_line { result.status ≡ 4 → WritesLine (Si.written sink.old) (Si.written sink.new) (Si.fault_count sink.old) (Si.fault_count sink.new) (faults_line (codes "4") (So.fault_count source.new)) }
 
+    // The store failed in its last call, which was to mend it or to tell its size.
+    ensures store_failed { result.status ≡ 5 → St.fault_count store < St.fault_count result.store }
+    ensures store_last { result.status ≡ 5 → St.last_failed result.store ≡ true }
+    ensures store_line { result.status ≡ 5 → WritesLine (Si.written sink.old) (Si.written sink.new) (Si.fault_count sink.old) (Si.fault_count sink.new) (faults_line (codes "5") (St.fault_count result.store)) }
+
+    // The run was done, and a front part of its report was written.
     ensures sink_failed { result.status ≡ 6 → Si.fault_count sink.old < Si.fault_count sink.new }
-    ensures part { result.status ≡ 6 → ReportsPart (So.left source.old) (So.left source.new) (Si.written sink.old) (Si.written sink.new) }
+    ensures part { result.status ≡ 6 → ReportsPart words.now (streams (So.left source.old) (So.left source.new) (Si.written sink.old) (Si.written sink.new)) (stored (St.bytes store) (St.bytes result.store) (St.synced store) (St.synced result.store) (St.fault_count store) (St.fault_count result.store)) }
 
-    ensures known { Contains (0 ∷ 1 ∷ 2 ∷ 4 ∷ 6 ∷ 8 ∷ []) result.status }
+    // A run that was stopped leaves the store as it was, or with the journal of a part of the run.
+    ensures stopped { (result.status ≡ 5) ⊎ (result.status ≡ 8) → Leaves words.now (So.left source.old) (So.left source.new) (stored (St.bytes store) (St.bytes result.store) (St.synced store) (St.synced result.store) (St.fault_count store) (St.fault_count result.store)) }
+    ensures untouched { (result.status ≡ 1) ⊎ (result.status ≡ 2) ⊎ (result.status ≡ 4) → St.bytes result.store ≡ St.bytes store }
+
+    ensures known { Contains (0 ∷ 1 ∷ 2 ∷ 4 ∷ 5 ∷ 6 ∷ 8 ∷ []) result.status }
     ensures few { TakesFew (So.left source.old) (So.left source.new) }
-    ensures store { result.store ≡ store }
     ensures clock { result.clock ≡ clock }
 {
-    let status = command(alloc, words, source, sink);
+    let mut store = store;
+    let status = command(alloc, words, source, sink, &mut store);
     Ended {
-        status: status as u8,
+        status: number_of(status),
         store,
         clock,
     }
 }
 
-/// Does what the words say.
-fn command<So: Source, Si: Sink>(
+/// The exit status.
+fn number_of(status: Status) -> u8
+    ensures { result ≡ number_of status }
+{
+    status as u8
+}
+
+/// Does what the words say, and writes its report or an error line.
+fn command<So: Source, Si: Sink, St: JournalStore>(
     alloc: Global,
     words: &[String],
     source: &mut So,
     sink: &mut Si,
+    store: &mut St,
 ) -> Status
-    ensures done { result ≡ Status.Done → Reports (So.left source.old) (So.left source.new) (Si.written sink.old) (Si.written sink.new) }
-    ensures words { result ≡ Status.BadWords → ¬ IsRun words.now }
-    ensures all_bad_words { ¬ IsRun words.now → (result ≡ Status.BadWords) ⊎ (result ≡ Status.OutOfMemory) }
-    ensures words_line { result ≡ Status.BadWords → WritesLine (Si.written sink.old) (Si.written sink.new) (Si.fault_count sink.old) (Si.fault_count sink.new) words_line }
-    ensures unbuilt { result ≡ Status.BadInput → IsUnbuilt (So.left source.old) (So.left source.new) }
-    ensures unbuilt_line { result ≡ Status.BadInput → WritesLine (Si.written sink.old) (Si.written sink.new) (Si.fault_count sink.old) (Si.fault_count sink.new) unbuilt_line }
-    ensures source_failed { result ≡ Status.SourceFailed → So.fault_count source.old < So.fault_count source.new }
-    ensures source_line { result ≡ Status.SourceFailed → WritesLine (Si.written sink.old) (Si.written sink.new) (Si.fault_count sink.old) (Si.fault_count sink.new) (source_line (So.fault_count source.new)) }
-    ensures sink_failed { result ≡ Status.SinkFailed → Si.fault_count sink.old < Si.fault_count sink.new }
-    ensures part { result ≡ Status.SinkFailed → ReportsPart (So.left source.old) (So.left source.new) (Si.written sink.old) (Si.written sink.new) }
+    ensures ends { Ends result (record { words = words.now; io = streams (So.left source.old) (So.left source.new) (Si.written sink.old) (Si.written sink.new); store = stored (St.bytes store.old) (St.bytes store.new) (St.synced store.old) (St.synced store.new) (St.fault_count store.old) (St.fault_count store.new); last_failed = St.last_failed store.new; source_before = So.fault_count source.old; source_after = So.fault_count source.new; sink_before = Si.fault_count sink.old; sink_after = Si.fault_count sink.new }) }
     ensures few { TakesFew (So.left source.old) (So.left source.new) }
 {
-    if !is_run(words) {
-        return end_by_line(sink, "{status:1}\n", Status::BadWords);
-    }
-    let script = match read_script(alloc, source) {
-        Ok(script) => script,
-        Err(NoScript::Unbuilt) => {
-            return end_by_line(sink, "{status:2,fault:{kind:Unbuilt}}\n", Status::BadInput);
+    match work(alloc, words, source, store) {
+        Ok(text) => end_by_report(sink, text),
+        Err(Stop::BadWords) => end_by_line(sink, "{status:1}\n", Status::BadWords),
+        Err(Stop::Unbuilt) => end_by_line(
+            sink,
+            "{status:2,fault:{kind:Unbuilt}}\n",
+            Status::BadInput,
+        ),
+        Err(Stop::SourceFailed) => {
+            let faults = source.faults();
+            end_by_faults(alloc, sink, "4", faults, Status::SourceFailed)
         }
-        Err(NoScript::SourceFailed) => return end_by_source_line(alloc, sink, source.faults()),
-        Err(NoScript::OutOfMemory) => return Status::OutOfMemory,
+        Err(Stop::StoreFailed) => {
+            let faults = store.faults();
+            end_by_faults(alloc, sink, "5", faults, Status::StoreFailed)
+        }
+        Err(Stop::OutOfMemory) => Status::OutOfMemory,
+    }
+}
+
+/// Does what the words say, and answers the report.
+fn work<So: Source, St: JournalStore>(
+    alloc: Global,
+    words: &[String],
+    source: &mut So,
+    store: &mut St,
+) -> Result<Text, Stop>
+    ensures works { Works result words.now (So.left source.old) (So.left source.new) (stored (St.bytes store.old) (St.bytes store.new) (St.synced store.old) (St.synced store.new) (St.fault_count store.old) (St.fault_count store.new)) (St.last_failed store.new) (So.fault_count source.old) (So.fault_count source.new) }
+    ensures few { TakesFew (So.left source.old) (So.left source.new) }
+{
+    let Some(time) = time_in(words) else {
+        return Err(Stop::BadWords);
     };
-    let Ok(text) = run_script(alloc, &script) else {
-        return Status::OutOfMemory;
+    let script = read_script(alloc, source)?;
+    match run_script(alloc, &script, time, store) {
+        Ok(text) => Ok(text),
+        Err(RunFault::NotEmpty) => Err(Stop::Unbuilt),
+        Err(RunFault::StoreFailed) => Err(Stop::StoreFailed),
+        Err(RunFault::OutOfMemory) => Err(Stop::OutOfMemory),
+    }
+}
+
+/// Reads the input and the script that it spells.
+fn read_script<So: Source>(alloc: Global, source: &mut So) -> Result<Script, Stop>
+    ensures script { IfOk result (λ script. HasScript (So.left source.old) (So.left source.new) script) }
+    ensures built { IfOk result (λ script. is_built script ≡ true) }
+    ensures failed { IsErrOf result Stop.SourceFailed → So.fault_count source.old < So.fault_count source.new }
+    ensures unbuilt { IsErrOf result Stop.Unbuilt → (held : Option (List ℕ)) → IsUnbuilt (So.left source.old) (So.left source.new) held }
+    ensures words { ¬ IsErrOf result Stop.BadWords }
+    ensures store { ¬ IsErrOf result Stop.StoreFailed }
+    ensures few { TakesFew (So.left source.old) (So.left source.new) }
+{
+    let input = match read_all(alloc, source) {
+        Ok(input) => input,
+        Err(InputFault::Failed) => return Err(Stop::SourceFailed),
+        Err(InputFault::TooLong) => return Err(Stop::Unbuilt),
+        Err(InputFault::OutOfMemory) => return Err(Stop::OutOfMemory),
     };
+    match served(alloc, &input) {
+        Ok(Some(script)) => Ok(script),
+        Ok(None) => Err(Stop::Unbuilt),
+        Err(_) => Err(Stop::OutOfMemory),
+    }
+}
+
+/// Ends with the report.
+fn end_by_report<Si: Sink>(sink: &mut Si, text: Text) -> Status
+    ensures known { (result ≡ Status.Done) ⊎ (result ≡ Status.SinkFailed) ⊎ (result ≡ Status.OutOfMemory) }
+    ensures done { result ≡ Status.Done → Appends (Si.written sink.old) (Si.written sink.new) text }
+    ensures part { AppendsPart (Si.written sink.old) (Si.written sink.new) text }
+    ensures failed { result ≡ Status.SinkFailed → Si.fault_count sink.old < Si.fault_count sink.new }
+{
     match write_all(sink, text.as_str().as_bytes()) {
         Ok(()) => Status::Done,
         Err(OutFault::Failed) => Status::SinkFailed,
@@ -134,31 +209,9 @@ fn command<So: Source, Si: Sink>(
     }
 }
 
-/// Reads the input and the script that it spells.
-fn read_script<So: Source>(alloc: Global, source: &mut So) -> Result<Script, NoScript>
-    ensures script { IfOk result (λ script. HasScript (So.left source.old) (So.left source.new) script) }
-    ensures built { IfOk result (λ script. is_built script ≡ true) }
-    ensures failed { IsErrOf result NoScript.SourceFailed → So.fault_count source.old < So.fault_count source.new }
-    ensures unbuilt { IsErrOf result NoScript.Unbuilt → IsUnbuilt (So.left source.old) (So.left source.new) }
-    ensures few { TakesFew (So.left source.old) (So.left source.new) }
-{
-    let input = match read_all(alloc, source) {
-        Ok(input) => input,
-        Err(InputFault::Failed) => return Err(NoScript::SourceFailed),
-        Err(InputFault::TooLong) => return Err(NoScript::Unbuilt),
-        Err(InputFault::OutOfMemory) => return Err(NoScript::OutOfMemory),
-    };
-    match served(alloc, &input) {
-        Ok(Some(script)) => Ok(script),
-        Ok(None) => Err(NoScript::Unbuilt),
-        Err(_) => Err(NoScript::OutOfMemory),
-    }
-}
-
 /// Ends with an error line, whether the sink takes it or fails, but where it finds no memory.
 fn end_by_line<Si: Sink>(sink: &mut Si, line: &str, status: Status) -> Status
-    ensures either { (result ≡ status) ⊎ (result ≡ Status.OutOfMemory) }
-    ensures line { result ≡ Status.OutOfMemory ⊎ WritesLine (Si.written sink.old) (Si.written sink.new) (Si.fault_count sink.old) (Si.fault_count sink.new) line.now }
+    ensures { ((result ≡ status) × WritesLine (Si.written sink.old) (Si.written sink.new) (Si.fault_count sink.old) (Si.fault_count sink.new) line.now) ⊎ (result ≡ Status.OutOfMemory) }
 {
     match write_all(sink, line.as_bytes()) {
         Ok(()) => status,
@@ -167,25 +220,32 @@ fn end_by_line<Si: Sink>(sink: &mut Si, line: &str, status: Status) -> Status
     }
 }
 
-/// Ends with the error line of a source that has failed so often.
-fn end_by_source_line<Si: Sink>(alloc: Global, sink: &mut Si, faults: u64) -> Status
-    ensures either { (result ≡ Status.SourceFailed) ⊎ (result ≡ Status.OutOfMemory) }
-    ensures line { result ≡ Status.SourceFailed → WritesLine (Si.written sink.old) (Si.written sink.new) (Si.fault_count sink.old) (Si.fault_count sink.new) (source_line faults) }
+/// Ends with the error line of a source or a store that has failed so often.
+fn end_by_faults<Si: Sink>(
+    alloc: Global,
+    sink: &mut Si,
+    digit: &str,
+    faults: u64,
+    status: Status,
+) -> Status
+    ensures { ((result ≡ status) × WritesLine (Si.written sink.old) (Si.written sink.new) (Si.fault_count sink.old) (Si.fault_count sink.new) (faults_line digit.now faults)) ⊎ (result ≡ Status.OutOfMemory) }
 {
-    match source_line(alloc, faults) {
-        Ok(line) => end_by_line(sink, line.as_str(), Status::SourceFailed),
+    match faults_line(alloc, digit, faults) {
+        Ok(line) => end_by_line(sink, line.as_str(), status),
         Err(_) => Status::OutOfMemory,
     }
 }
 
-/// The error line of a source that has failed so often.
-fn source_line(alloc: Global, faults: u64) -> Result<Text, OutOfMemory>
-    ensures { IfOk result (λ line. line ≡ source_line faults) }
+/// The error line of the status of this digit, of a source or a store that has failed so often.
+fn faults_line(alloc: Global, digit: &str, faults: u64) -> Result<Text, OutOfMemory>
+    ensures { IfOk result (λ line. line ≡ faults_line digit.now faults) }
 {
-    let digits = faults.to_string(alloc)?;
+    let count = faults.to_string(alloc)?;
     let mut line = Text::new(alloc);
-    line.push_str("{status:4,faults:")?;
-    line.push_str(digits.as_str())?;
+    line.push_str("{status:")?;
+    line.push_str(digit)?;
+    line.push_str(",faults:")?;
+    line.push_str(count.as_str())?;
     line.push_str("}\n")?;
     Ok(line)
 }

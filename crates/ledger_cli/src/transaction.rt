@@ -6,16 +6,19 @@ ghost use Rattle.ledger_model.specs.Views.{user_view};
 ghost use Rattle.ql_types.specs.Ids.{raw_id};
 ghost use Rattle.ledger_model.specs.Statements.{the_table};
 ghost use Rattle.ledger_model.specs.Run.{start, step, table_now, next_id, final_revisions};
+ghost use Rattle.ledger_cli.specs.Transactions.{revision_of};
 ghost use Rattle.ledger_model.specs.Unbuilt.{is_create, is_insert, is_insert_or_select, has_small};
 
 use crate::answer::named_id;
-use crate::view::{latest, view_rows};
-use ion_values::{OutOfMemory, Text, Values, copy, copy_values};
+use crate::view::{copy_content, latest, view_rows};
+use block_form::{revision_hash, seal, strand_hash};
+use ion_values::{IonTime, OutOfMemory, Text, Values, copy, copy_values};
 use ledger_model::{
-    Answer, Block, Content, Draft, Drafts, Info, Request, Said, SaidList, Schema, SchemaList,
+    Answer, Block, Content, Draft, Drafts, Header, Info, Metadata, Request, Revision, Revisions,
+    Said, SaidList, Schema, SchemaList, TableIds,
 };
 use lists::Sequence;
-use ql_types::{DocId, IdMask, Place, TableId, TxId, id_raw};
+use ql_types::{BlockAddress, DocId, IdMask, Place, StrandId, TableId, TxId, id_raw};
 use std::alloc::Global;
 
 /// A transaction on an empty journal: its number under the mask, what was said and changed so far, and how many
@@ -31,7 +34,7 @@ pub struct Transaction {
 }
 
 impl Transaction {
-    ghost use Rattle.ledger_cli.specs.Transactions.{progress_of, begun_of};
+    ghost use Rattle.ledger_cli.specs.Transactions.{progress_of, begun_of, block_of};
 
     /// A transaction without a statement.
     pub fn begin(alloc: Global, mask: IdMask, number: u64) -> Transaction
@@ -144,25 +147,85 @@ impl Transaction {
         self.tell(alloc, request, rows)
     }
 
-    /// The transaction's block, at this place of the script.
-    pub fn into_block(self, alloc: Global, place: Place) -> Result<Block, OutOfMemory>
-        ensures tx { IfOk result (λ block. block.tx ≡ record { raw = raw_id self.mask.bits self.number 0 }) }
-        ensures place { IfOk result (λ block. block.info.place ≡ place) }
-        ensures said { IfOk result (λ block. block.info.said ≡ self.said) }
-        ensures schema { IfOk result (λ block. block.info.schema ≡ self.schema) }
-        ensures revisions { IfOk result (λ block. block.revisions ≡ final_revisions (progress_of self)) }
+    /// The transaction as block 0: at this place of the script, made at this time.
+    pub fn into_block(
+        self,
+        alloc: Global,
+        place: Place,
+        time: IonTime,
+    ) -> Result<Block, OutOfMemory>
+        ensures { IfOk result (λ block. block ≡ block_of (begun_of self) (progress_of self) place time) }
     {
-        let revisions = latest(alloc, self.log.as_slice())?;
-        let raw = id_raw(self.mask, self.number, 0);
-        let Transaction { said, schema, .. } = self;
-        Ok(Block {
-            tx: TxId { raw },
-            info: Info {
-                place,
-                said,
-                schema,
+        let drafts = latest(alloc, self.log.as_slice())?;
+        // So many revisions find no memory.
+        let Ok(count) = u32::try_from(drafts.len()) else {
+            return Err(OutOfMemory);
+        };
+        let strand = StrandId {
+            raw: self.mask.bits,
+        };
+        let header = Header {
+            address: BlockAddress {
+                strand,
+                sequence: 0,
             },
-            revisions,
-        })
+            tx: TxId {
+                raw: id_raw(self.mask, self.number, 0),
+            },
+            time,
+            revisions: count,
+        };
+        let tables = tables_of(alloc, drafts.as_slice())?;
+        let revisions = revisions_of(alloc, &header, drafts.as_slice())?;
+        let previous = strand_hash(alloc, strand)?;
+        let Transaction { said, schema, .. } = self;
+        let info = Info {
+            place,
+            said,
+            schema,
+            tables,
+        };
+        let block = seal(alloc, previous, header, info, revisions)?;
+        Ok(block)
     }
+}
+
+/// The table of each document, in order.
+fn tables_of(alloc: Global, drafts: &[Draft]) -> Result<TableIds, OutOfMemory>
+    ensures { IfOk result (λ tables. tables ≡ map (λ d. d.table) drafts.now) }
+{
+    let mut tables = Sequence::new(alloc);
+    'drafts: for draft in drafts {
+        tables.push(draft.table)?;
+    }
+    Ok(tables)
+}
+
+/// The revisions that the drafts become in the block of this header, in order.
+fn revisions_of(alloc: Global, header: &Header, drafts: &[Draft]) -> Result<Revisions, OutOfMemory>
+    ensures { IfOk result (λ revisions. revisions ≡ map (revision_of header.now.address header.now.tx header.now.time) drafts.now) }
+{
+    let mut revisions = Sequence::new(alloc);
+    'drafts: for draft in drafts {
+        revisions.push(revision_of(alloc, header, draft)?)?;
+    }
+    Ok(revisions)
+}
+
+/// The revision that a draft becomes in the block of this header.
+fn revision_of(alloc: Global, header: &Header, draft: &Draft) -> Result<Revision, OutOfMemory>
+    ensures { IfOk result (λ revision. revision ≡ revision_of header.now.address header.now.tx header.now.time draft.now) }
+{
+    let metadata = Metadata {
+        id: draft.id,
+        version: draft.version,
+        time: header.time,
+        tx: header.tx,
+    };
+    Ok(Revision {
+        address: header.address,
+        hash: revision_hash(alloc, &draft.content, &metadata)?,
+        content: copy_content(alloc, &draft.content)?,
+        metadata,
+    })
 }

@@ -10,7 +10,8 @@ use lists::Sequence;
 use ql_types::{DocId, TableId};
 use std::alloc::Global;
 
-fn copy_content(alloc: Global, content: &Content) -> Result<Content, OutOfMemory>
+/// A content that equals the given one.
+pub fn copy_content(alloc: Global, content: &Content) -> Result<Content, OutOfMemory>
     ensures { IfOk result (λ new. new ≡ content.now) }
 {
     match content {

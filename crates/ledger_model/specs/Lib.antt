@@ -3,6 +3,8 @@ pub mod State
 pub mod Views
 pub mod Statements
 pub mod Run
+pub mod Journal
+pub mod Seals
 pub mod Legal
 pub mod Script
 pub mod Unbuilt

@@ -9,7 +9,7 @@ use Rattle.ql_types.specs.declared.TxId.{TxId}
 use Rattle.ledger_model.specs.declared.block.Said.{Said}
 use Rattle.ledger_model.specs.declared.block.Block.{Block}
 use Rattle.ledger_model.specs.declared.outcome.Outcome.{Outcome}
-use Rattle.ledger_model.specs.declared.outcome.Outcome.TheVariants.{Committed}
+use Rattle.ledger_model.specs.declared.outcome.Outcome.TheVariants.{Committed, StoreFault, OutOfMemory}
 use Rattle.ledger_model.specs.declared.outcome.PlacedOutcome.{PlacedOutcome}
 
 abbrev pub quoted_id : ℕ → List ℕ
@@ -27,9 +27,15 @@ abbrev pub committed_text : List Block → TxId → ℕ → List ℕ
 committed_text blocks tx block =
     codes "committed,tx:" ++ quoted_id tx.raw ++ codes ",block:" ++ decimal block ++ codes ",answers:[" ++ answers_text (slice_get blocks block) ++ codes "]"
 
--- the outcome behind the place
+abbrev pub store_fault_text : ℕ → ℕ → List ℕ
+store_fault_text tx count = codes "store_fault,tx:" ++ quoted_id tx ++ codes ",count:" ++ decimal count
+
+-- the outcome behind the place; the others can't come yet, and have no text
 abbrev pub outcome_text : List Block → Outcome → List ℕ
 outcome_text blocks (Committed tx block) = committed_text blocks tx block
+outcome_text blocks (StoreFault tx count) = store_fault_text tx.raw count
+outcome_text blocks OutOfMemory = codes "out_of_memory"
+outcome_text blocks _ = []
 
 abbrev pub outcome_line : List Block → PlacedOutcome → List ℕ
 outcome_line blocks o =

@@ -17,7 +17,7 @@ use Rattle.ledger_model.specs.declared.script.Request.{Request}
 use Rattle.ledger_model.specs.declared.outcome.Refusal.{Refusal}
 use Rattle.ledger_model.specs.declared.outcome.Refusal.TheVariants.{NoSuchTable, TableExists, NotADocument}
 use Rattle.ledger_model.specs.Values.{kind_of, named_id}
-use Rattle.ledger_model.specs.State.{State, all_changed, active_table}
+use Rattle.ledger_model.specs.State.{State, all_changed, active_table, draft_of}
 use Rattle.ledger_model.specs.Views.{user_view, latest}
 use Rattle.ledger_model.specs.Statements.{Statement, create_table, insert_into, select_all, statement_of}
 
@@ -87,7 +87,7 @@ table_now s p name = active_table (all_changed s.tables p.schema) name
 abbrev pub effect_of : Begun → State → Progress → Statement → Result Effect Refusal
 effect_of b s p (create_table name) = created name (next_id b p) (table_now s p name)
 effect_of b s p (insert_into name v) = inserted name (next_id b p) v (table_now s p name)
-effect_of b s p (select_all name) = selected name s.revisions p.log (table_now s p name)
+effect_of b s p (select_all name) = selected name (map draft_of s.revisions) p.log (table_now s p name)
 
 abbrev pub if_read : (Statement → Result Effect Refusal) → Result Statement Refusal → Result Effect Refusal
 if_read f (Ok statement) = f statement

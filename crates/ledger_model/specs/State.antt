@@ -1,35 +1,75 @@
--- The state after a list of blocks: all revisions in block order, and all tables in the order in which they were made.
-use Rattle.std.specs.Prelude.{ℕ, ◌&&◌, Bool, true, List, [], ◌∷◌, ◌++◌, Option, Some, None, if◌then◌else◌}
+-- The state after a list of blocks: all revisions in block order, each with its table; all tables in the order in which
+-- they were made; and all fields with an index.
+use Rattle.std.specs.Prelude.{ℕ, ◌==◌, ◌&&◌, Bool, true, false, List, [], ◌∷◌, ◌++◌, map, Option, Some, None, if◌then◌else◌}
 use Rattle.std.specs.Str.{bytes_eq}
 use Rattle.ql_types.specs.declared.TableId.{TableId}
 use Rattle.ledger_model.specs.declared.block.Draft.{Draft}
+use Rattle.ledger_model.specs.declared.block.Revision.{Revision}
 use Rattle.ledger_model.specs.declared.block.Block.{Block}
 use Rattle.ledger_model.specs.declared.block.Schema.{Schema}
-use Rattle.ledger_model.specs.declared.block.Schema.TheVariants.{Create}
+use Rattle.ledger_model.specs.declared.block.Schema.TheVariants.{Create, Index, Drop}
 
 pub record Table : Type 0 where
   pub name : List ℕ
   pub id : TableId
   pub active : Bool
 
+pub record Indexed : Type 0 where
+  pub table : TableId
+  pub field : List ℕ
+
+-- a revision of a document of this table
+pub record Recorded : Type 0 where
+  pub table : TableId
+  pub revision : Revision
+
 pub record State : Type 0 where
-  pub revisions : List Draft
+  pub revisions : List Recorded
   pub tables : List Table
+  pub indexes : List Indexed
+
+-- the table is active no more
+abbrev pub dropped : TableId → Table → Table
+dropped id t = record t { active = if t.id.raw == id.raw then false else t.active }
 
 -- the tables after a change of the schema
 abbrev pub changed : List Table → Schema → List Table
 changed tables (Create name id) = tables ++ record { name = name; id = id; active = true } ∷ []
+changed tables (Index field id) = tables
+changed tables (Drop name id) = map (dropped id) tables
 
 abbrev pub all_changed : List Table → List Schema → List Table
 all_changed tables [] = tables
 all_changed tables (c ∷ cs) = all_changed (changed tables c) cs
 
+-- the fields with an index after a change of the schema
+abbrev pub indexed : List Indexed → Schema → List Indexed
+indexed indexes (Index field id) = indexes ++ record { table = id; field = field } ∷ []
+indexed indexes _ = indexes
+
+abbrev pub all_indexed : List Indexed → List Schema → List Indexed
+all_indexed indexes [] = indexes
+all_indexed indexes (c ∷ cs) = all_indexed (indexed indexes c) cs
+
+-- revisions with their tables, in order
+abbrev pub recorded_in : List TableId → List Revision → List Recorded
+recorded_in (t ∷ ts) (r ∷ rs) = record { table = t; revision = r } ∷ recorded_in ts rs
+recorded_in _ _ = []
+
+-- the revision without what its block gave it
+abbrev pub draft_of : Recorded → Draft
+draft_of r = record { table = r.table; id = r.revision.metadata.id; version = r.revision.metadata.version; content = r.revision.content }
+
 -- the state after one block more
 abbrev pub after : State → Block → State
-after s b = record { revisions = s.revisions ++ b.revisions; tables = all_changed s.tables b.info.schema }
+after s b = record {
+  revisions = s.revisions ++ recorded_in b.info.tables b.revisions;
+  tables = all_changed s.tables b.info.schema;
+  indexes = all_indexed s.indexes b.info.schema;
+}
 
 abbrev pub empty : State
-empty = record { revisions = []; tables = [] }
+empty = record { revisions = []; tables = []; indexes = [] }
 
 abbrev pub state_from : State → List Block → State
 state_from s [] = s

@@ -2,6 +2,7 @@
 use Rattle.std.specs.Prelude.{ℕ, List, [], ◌∷◌, length, codes, Result, Ok, Err, if◌then◌else◌}
 use Rattle.std.specs.Str.{bytes_eq}
 use Rattle.ion_values.specs.declared.value.Value.{Value}
+use Rattle.pql_model.specs.declared.ParseKind.TheVariants.{Unexpected}
 use Rattle.ledger_model.specs.declared.script.Request.{Request}
 use Rattle.ledger_model.specs.declared.outcome.Refusal.{Refusal}
 use Rattle.ledger_model.specs.declared.outcome.Refusal.TheVariants.{ParseFault, ParameterCount}
@@ -34,9 +35,10 @@ select_text = codes "SELECT * FROM t"
 abbrev pub the_table : List ℕ
 the_table = codes "t"
 
+-- any other text is refused at its first token, until there is a grammar
 abbrev pub statement_of : Request → Result Statement Refusal
 statement_of r =
     if bytes_eq r.text create_text then with_none (create_table the_table) r.params
     else (if bytes_eq r.text insert_text then with_one the_table r.params
     else (if bytes_eq r.text select_text then with_none (select_all the_table) r.params
-    else Err ParseFault))
+    else Err (ParseFault 0 Unexpected)))

@@ -1,6 +1,6 @@
-use ion_values::{Value, Values};
+use ion_values::{IonTime, Value, Values};
 use lists::{Sequence, Text};
-use ql_types::{DocId, Place, TableId, TxId};
+use ql_types::{BlockAddress, DocId, Hash, Hash32, Place, TableId, TxId};
 
 /// What a statement answered, row by row.
 #[derive(Drop)]
@@ -22,6 +22,8 @@ pub type SaidList = Sequence<Said>;
 #[derive(Drop)]
 pub enum Schema {
     Create { name: Text, table: TableId },
+    Index { field: Text, table: TableId },
+    Drop { name: Text, table: TableId },
 }
 
 pub type SchemaList = Sequence<Schema>;
@@ -51,20 +53,58 @@ pub struct Row {
     pub value: Value,
 }
 
-/// What a transaction said and did: its place in the script, its statements, and its changes of the schema.
+/// Whose revision it is, which one, counted from 0, and the time and the transaction of its block.
+#[derive(Clone, Copy)]
+pub struct Metadata {
+    pub id: DocId,
+    pub version: u64,
+    pub time: IonTime,
+    pub tx: TxId,
+}
+
+/// A committed revision of a document.
+#[derive(Drop)]
+pub struct Revision {
+    pub address: BlockAddress,
+    pub hash: Hash32,
+    pub content: Content,
+    pub metadata: Metadata,
+}
+
+pub type Revisions = Sequence<Revision>;
+
+pub type TableIds = Sequence<TableId>;
+
+/// What a transaction said and did: its place in the script, its statements, its changes of the schema, and the
+/// table of each of its revisions in order.
 #[derive(Drop)]
 pub struct Info {
     pub place: Place,
     pub said: SaidList,
     pub schema: SchemaList,
+    pub tables: TableIds,
 }
 
-/// A committed transaction.
+/// Where a block stands, whose it is and when it was made, and how many revisions it has.
+#[derive(Clone, Copy)]
+pub struct Header {
+    pub address: BlockAddress,
+    pub tx: TxId,
+    pub time: IonTime,
+    pub revisions: u32,
+}
+
+/// A committed transaction. `list` has the hashes of its entries: of what it said and did, of its revisions, and of
+/// its header. `entries` is the hash of them all, and `hash` that of `entries` and the hash of the block before.
 #[derive(Drop)]
 pub struct Block {
-    pub tx: TxId,
+    pub header: Header,
+    pub hash: Hash32,
+    pub entries: Hash32,
+    pub previous: Hash32,
+    pub list: [Hash; 3],
     pub info: Info,
-    pub revisions: Drafts,
+    pub revisions: Revisions,
 }
 
 /// The blocks of a journal in order.

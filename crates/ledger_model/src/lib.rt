@@ -7,7 +7,9 @@ mod outcome;
 mod script;
 
 pub use block::{
-    Answer, Block, Blocks, Content, Draft, Drafts, Info, Row, Said, SaidList, Schema, SchemaList,
+    Answer, Block, Blocks, Content, Draft, Drafts, Header, Info, Metadata, Revision, Revisions,
+    Row, Said, SaidList, Schema, SchemaList, TableIds,
 };
-pub use outcome::{Outcome, Outcomes, PlacedOutcome, Refusal};
+pub use outcome::{Item, Named, Outcome, Outcomes, PlacedOutcome, Refusal};
+pub use pql_model::ParseKind;
 pub use script::{Asked, Job, Request, Script, Session};

@@ -1,4 +1,4 @@
-use Rattle.std.proofs.Common.{◌≡◌, ap, sym, ◌∙◌}
+use Rattle.std.proofs.Common.{ap, sym, ◌∙◌}
 use Rattle.ledger_cli.proofs.Puts.{put-found}
 use Rattle.ledger_cli.proofs.view.place_of.Goals as goal
 

@@ -1,0 +1,122 @@
+//! Blocks as values.
+ghost use Rattle.std.specs.Prelude.{◌≡◌, ◌++◌, map, IfOk, OnOk};
+ghost use Rattle.ledger_model.specs.Values.{plain};
+ghost use Rattle.ledger_model.specs.Journal.{hash_bytes, header_value, front_fields, hash_fields, block_value};
+
+use crate::parts::{
+    address_value, hash_value, id_value, list, moment, number, plain, put, structure,
+};
+use crate::revisions::revision_values;
+use crate::said::info_value;
+use ion_values::{Body, Fields, OutOfMemory, Value, Values};
+use ledger_model::{Block, Header};
+use lists::Sequence;
+use ql_types::Hash;
+use std::alloc::Global;
+
+pub fn header_value(alloc: Global, header: &Header) -> Result<Value, OutOfMemory>
+    ensures { IfOk result (λ v. v ≡ header_value header.now) }
+{
+    let mut fields = Sequence::new(alloc);
+    put(
+        alloc,
+        &mut fields,
+        "blockAddress",
+        address_value(alloc, &header.address)?,
+    )?;
+    put(
+        alloc,
+        &mut fields,
+        "transactionId",
+        id_value(alloc, header.tx.raw)?,
+    )?;
+    put(
+        alloc,
+        &mut fields,
+        "blockTimestamp",
+        moment(alloc, &header.time),
+    )?;
+    put(
+        alloc,
+        &mut fields,
+        "revisionCount",
+        number(alloc, u64::from(header.revisions)),
+    )?;
+    Ok(structure(alloc, fields))
+}
+
+/// The empty hash is the empty blob.
+fn entry_hash_value(alloc: Global, hash: &Hash) -> Result<Value, OutOfMemory>
+    ensures { IfOk result (λ v. v ≡ plain (Body.Blob (hash_bytes hash.now))) }
+{
+    match hash {
+        Hash::Empty => Ok(plain(alloc, Body::Blob(Sequence::new(alloc)))),
+        Hash::Full(hash) => hash_value(alloc, hash),
+    }
+}
+
+fn entry_hash_values(alloc: Global, hashes: &[Hash]) -> Result<Values, OutOfMemory>
+    ensures { IfOk result (λ values. values ≡ map (λ h. plain (Body.Blob (hash_bytes h))) hashes.now) }
+{
+    let mut values = Sequence::new(alloc);
+    for hash in hashes {
+        values.push(entry_hash_value(alloc, hash)?)?;
+    }
+    Ok(values)
+}
+
+/// Puts what stands in front of a block's hashes.
+fn put_header(alloc: Global, fields: &mut Fields, header: &Header) -> Result<(), OutOfMemory>
+    ensures { OnOk result (fields.new ≡ fields.old ++ front_fields header.now) }
+{
+    put(
+        alloc,
+        fields,
+        "blockAddress",
+        address_value(alloc, &header.address)?,
+    )?;
+    put(
+        alloc,
+        fields,
+        "transactionId",
+        id_value(alloc, header.tx.raw)?,
+    )?;
+    put(alloc, fields, "blockTimestamp", moment(alloc, &header.time))?;
+    Ok(())
+}
+
+/// Puts a block's hashes.
+fn put_hashes(alloc: Global, fields: &mut Fields, block: &Block) -> Result<(), OutOfMemory>
+    ensures { OnOk result (fields.new ≡ fields.old ++ hash_fields block.now) }
+{
+    put(alloc, fields, "blockHash", hash_value(alloc, &block.hash)?)?;
+    put(
+        alloc,
+        fields,
+        "entriesHash",
+        hash_value(alloc, &block.entries)?,
+    )?;
+    put(
+        alloc,
+        fields,
+        "previousBlockHash",
+        hash_value(alloc, &block.previous)?,
+    )?;
+    let hashes = entry_hash_values(alloc, &block.list)?;
+    put(alloc, fields, "entriesHashList", list(alloc, hashes))?;
+    Ok(())
+}
+
+/// The block as an Ion value, from which its line in the journal is written.
+pub fn to_ion(alloc: Global, block: &Block) -> Result<Value, OutOfMemory>
+    ensures { IfOk result (λ v. v ≡ block_value block.now) }
+{
+    let info = info_value(alloc, &block.info, block.revisions.as_slice())?;
+    let revisions = revision_values(alloc, block.revisions.as_slice())?;
+    let mut fields = Sequence::new(alloc);
+    put_header(alloc, &mut fields, &block.header)?;
+    put_hashes(alloc, &mut fields, block)?;
+    put(alloc, &mut fields, "transactionInfo", info)?;
+    put(alloc, &mut fields, "revisions", list(alloc, revisions))?;
+    Ok(structure(alloc, fields))
+}

@@ -1,0 +1,55 @@
+-- The hashes of revisions and blocks. A hash of two hashes is that of the pair (FIPS 180-4 for SHA-256, Ion Hash for values).
+use Rattle.std.specs.Prelude.{◌≡◌, ℕ, ◌≤◌, List, [], ◌∷◌, length, map}
+use Rattle.ion_values.specs.Depth.{depth_of}
+use Rattle.hash_forms.specs.Serialize.{hash_of}
+use Rattle.hash_forms.specs.PairHash.{dot32}
+use Rattle.hash_forms.specs.Tree.{root_of}
+use Rattle.ql_types.specs.declared.Hash32.{Hash32}
+use Rattle.ql_types.specs.declared.Hash.{Hash}
+use Rattle.ql_types.specs.declared.Hash.TheVariants.{Empty, Full}
+use Rattle.ledger_model.specs.declared.block.Content.{Content}
+use Rattle.ledger_model.specs.declared.block.Content.TheVariants.{Deleted, Kept}
+use Rattle.ledger_model.specs.declared.block.Metadata.{Metadata}
+use Rattle.ledger_model.specs.declared.block.Revision.{Revision}
+use Rattle.ledger_model.specs.declared.block.Info.{Info}
+use Rattle.ledger_model.specs.declared.block.Header.{Header}
+use Rattle.ledger_model.specs.declared.block.Block.{Block}
+use Rattle.ledger_model.specs.Journal.{string, metadata_value, info_value, header_value, block_value, id_value}
+
+-- of the metadata and the data, or of the metadata alone for a delete
+abbrev pub revision_hash : Content → Metadata → Hash32
+revision_hash Deleted m = hash_of (metadata_value m)
+revision_hash (Kept v) m = dot32 (hash_of (metadata_value m)) (hash_of v)
+
+-- of the first two and then of the third, the second being empty or not
+abbrev pub entries_hash : Hash32 → Hash → Hash32 → Hash32
+entries_hash info Empty header = dot32 info header
+entries_hash info (Full revisions) header = dot32 (dot32 info revisions) header
+
+abbrev pub revisions_root : List Revision → Hash
+revisions_root revisions = root_of (map (λ r. r.hash) revisions)
+
+-- the block of these parts, with its hashes
+abbrev pub sealed : Hash32 → Header → Info → List Revision → Block
+sealed previous header info revisions =
+    let said = hash_of (info_value info revisions) in
+    let root = revisions_root revisions in
+    let head = hash_of (header_value header) in
+    let entries = entries_hash said root head in
+    record {
+      header = header;
+      hash = dot32 entries previous;
+      entries = entries;
+      previous = previous;
+      list = Full said ∷ root ∷ Full head ∷ [];
+      info = info;
+      revisions = revisions;
+    }
+
+-- the block's hashes are those of its parts
+abbrev pub IsSealed : Block → Type 0
+IsSealed b = b ≡ sealed b.previous b.header b.info b.revisions
+
+-- what stands before block 0
+abbrev pub strand_hash : ℕ → Hash32
+strand_hash strand = hash_of (id_value strand)
