@@ -1,6 +1,3 @@
-pub mod Numeral
 pub mod Quoted
-pub mod Read
 pub mod Timestamp
-pub mod Token
 pub mod Write

@@ -1,1 +1,3 @@
-pub mod Reader
+pub mod RoundTrip
+pub mod Stream
+pub mod Laws

@@ -1,10 +1,12 @@
 //! The text format of Ion 1.0: a reader, and a writer with one spelling of each value.
 #![tactic(auto)]
 
-mod read;
+mod laws;
+mod stream;
 mod writing;
 
-pub use read::read_plain;
+pub use laws::{read_is_within, written_is_read};
+pub use stream::{ReadFault, read_stream};
 pub use writing::write;
 
 #[cfg(test)]

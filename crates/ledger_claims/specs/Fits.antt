@@ -1,6 +1,6 @@
 -- What a run claims of the blocks that it leaves and of the outcomes that it tells: the blocks are one serial history,
 -- and each outcome is true of it.
-use Rattle.std.specs.Prelude.{◌≡◌, ℕ, ◌<◌, ◌≤◌, List, [], ◌∷◌, length, take, drop, slice_get, Some, Contains, Bool, false}
+use Rattle.std.specs.Prelude.{◌≡◌, ℕ, ◌<◌, ◌≤◌, List, [], ◌∷◌, length, take, drop, slice_get, Some, Contains, false}
 use Rattle.std.specs.List.{AllByRecursion}
 use Rattle.ion_values.specs.declared.time.TimeParts.{TimeParts}
 use Rattle.ql_types.specs.Ids.{raw_id}

@@ -1,4 +1,5 @@
 pub mod Fits
+pub mod Lines
 pub mod Stores
 pub mod Streams
 pub mod Top

@@ -1,5 +1,5 @@
 -- What a run leaves in its store, where the store tells it.
-use Rattle.std.specs.Prelude.{◌≡◌, ℕ, ◌==◌, ◌⊎◌, Bool, true, not, List, [], ◌++◌, length, Option, Some, IfSome}
+use Rattle.std.specs.Prelude.{◌≡◌, ℕ, ◌==◌, ◌⊎◌, Bool, true, not, List, ◌++◌, length, Option, Some, IfSome}
 use Rattle.std.specs.List.{list_all}
 use Rattle.ledger_model.specs.declared.block.Block.{Block}
 use Rattle.ledger_model.specs.Journal.{journal_bytes}

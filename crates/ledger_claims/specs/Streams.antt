@@ -1,5 +1,5 @@
 -- What a run takes from its source and gives to its sink, where these tell it.
-use Rattle.std.specs.Prelude.{◌≡◌, ℕ, ◌<◌, ◌≤◌, List, length, take, Option, ◌⊎◌}
+use Rattle.std.specs.Prelude.{ℕ, ◌<◌, ◌≤◌, List, length, take, Option, ◌⊎◌}
 use Rattle.std.specs.Io.KnownBytes.{Consumes, IsAtEnd, Appends}
 
 -- so many bytes of an input are read at the most, the last of them only to see that the input is too long

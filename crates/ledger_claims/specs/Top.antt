@@ -1,29 +1,18 @@
 -- What the program does with its words, its input, its output and its store, by the status with which it ends.
-use Rattle.std.specs.Prelude.{◌≡◌, ℕ, ◌<◌, ◌⊎◌, List, [], ◌∷◌, ◌++◌, length, codes, String, Option, Some, None, IfSome}
+use Rattle.std.specs.Prelude.{◌≡◌, ℕ, ◌<◌, ◌⊎◌, List, [], length, String, Option, IfSome}
 use Rattle.std.specs.declared.alloc.Global.{Global}
-use Rattle.std.specs.Fmt.{decimal}
 use Rattle.std.specs.Io.KnownBytes.{Appends}
 use Rattle.ion_values.specs.declared.time.TimeParts.{TimeParts}
 use Rattle.ledger_model.specs.declared.script.Job.{Job}
 use Rattle.ledger_model.specs.Script.{all_placed}
-use Rattle.ledger_model.specs.Unbuilt.{served}
+use Rattle.ledger_model.specs.Unbuilt.{Judged, too_long, faulty, unbuilt, served, judged}
 use Rattle.ledger_model.specs.Report.{report}
 use Rattle.ledger_claims.specs.Fits.{RunRecord, Fits, FitsBlocks}
 use Rattle.ledger_claims.specs.Words.{IsRun}
-use Rattle.ledger_claims.specs.Streams.{Taken, WasRead, AppendsPart}
+use Rattle.ledger_claims.specs.Lines.{BadInput, input_line}
+use Rattle.ledger_claims.specs.Lines as bad
+use Rattle.ledger_claims.specs.Streams.{Taken, WasRead, AppendsPart, WritesLine}
 use Rattle.ledger_claims.specs.Stores.{Holding, AllSynced, HoldingWithRest}
-
--- ---- the error lines
-
-abbrev pub words_line : List ℕ
-words_line = codes "{status:1}" ++ 10 ∷ []
-
-abbrev pub unbuilt_line : List ℕ
-unbuilt_line = codes "{status:2,fault:{kind:Unbuilt}}" ++ 10 ∷ []
-
--- of a source, with the status 4, or of a store, with the status 5, that has failed so often
-abbrev pub faults_line : List ℕ → ℕ → List ℕ
-faults_line status faults = codes "{status:" ++ status ++ codes ",faults:" ++ decimal faults ++ codes "}" ++ 10 ∷ []
 
 -- ---- what the source, the sink and the store told at entry and at the end
 
@@ -61,11 +50,15 @@ stored held_before held_after synced_before synced_after faults_before faults_af
 
 -- ---- a run of a script
 
--- the whole input was read, and it spells this script, which is served
-pub record HasScript (left_before left_after : Option (List ℕ)) (script : List (List Job)) : Type 0 where
+-- the whole input was read, and it is judged so
+pub record IsJudged (left_before left_after : Option (List ℕ)) (what : Judged) : Type 0 where
   pub input : List ℕ
   pub read : WasRead left_before left_after input
-  pub served_is : served input ≡ Some script
+  pub judged_is : judged input ≡ what
+
+-- the input spells this script, which is served
+abbrev pub HasScript : Option (List ℕ) → Option (List ℕ) → List (List Job) → Type 0
+HasScript left_before left_after script = IsJudged left_before left_after (served script)
 
 -- the record is that of a run of this script on an empty journal, with plain ids and blocks of this time
 pub record IsOfRun (time : TimeParts) (script : List (List Job)) (s : Stored) (t : RunRecord) : Type 0 where
@@ -130,14 +123,27 @@ pub record HoldsAsked (words : List (String Global)) (left_before left_after : O
 abbrev pub Leaves : List (String Global) → Option (List ℕ) → Option (List ℕ) → Stored → Type 0
 Leaves words left_before left_after s = (s.held_after ≡ s.held_before) ⊎ HoldsAsked words left_before left_after s
 
--- the whole input was read and no script that is served is spelt so, or the input is longer than 16,777,216 bytes, or
--- the store holds something already
-abbrev pub IsUnserved : Option (List ℕ) → Option (List ℕ) → List ℕ → Option (List ℕ) → Type 0
-IsUnserved left_before left_after input held =
-    (WasRead left_before left_after input × (served input ≡ None))
-    ⊎ (Taken left_before left_after input × (16777216 < length input))
-    ⊎ (WasRead left_before left_after input × IfSome held (λ bytes. 0 < length bytes))
+-- ---- an input that is refused
 
-pub record IsUnbuilt (left_before left_after held : Option (List ℕ)) : Type 0 where
+-- a part of the input was read that is too long already
+pub record IsTooLong (left_before left_after : Option (List ℕ)) : Type 0 where
   pub input : List ℕ
-  pub why : IsUnserved left_before left_after input held
+  pub taken : Taken left_before left_after input
+  pub judged_is : judged input ≡ too_long
+
+-- the input is not served so far, or it is a script that is served and the store holds something already
+abbrev pub IsUnbuilt : Option (List ℕ) → Option (List ℕ) → Option (List ℕ) → Type 0
+IsUnbuilt left_before left_after held =
+    IsJudged left_before left_after unbuilt
+    ⊎ ((script : List (List Job)) × HasScript left_before left_after script × IfSome held (λ bytes. 0 < length bytes))
+
+abbrev pub IsBadInput : BadInput → Option (List ℕ) → Option (List ℕ) → Option (List ℕ) → Type 0
+IsBadInput bad.too_long left_before left_after held = IsTooLong left_before left_after
+IsBadInput (bad.faulty fault) left_before left_after held = IsJudged left_before left_after (faulty fault)
+IsBadInput bad.unbuilt left_before left_after held = IsUnbuilt left_before left_after held
+
+-- the input is refused for this cause, and the cause's line was written
+pub record RefusesInput (io : Streams) (held : Option (List ℕ)) (sink_before sink_after : ℕ) : Type 0 where
+  pub cause : BadInput
+  pub why : IsBadInput cause io.left_before io.left_after held
+  pub line : WritesLine io.written_before io.written_after sink_before sink_after (input_line cause)

@@ -1,5 +1,5 @@
 -- The words of the command line, and a time among them.
-use Rattle.std.specs.Prelude.{◌≡◌, ℕ, ◌+◌, ◌-◌, ◌*◌, ◌==◌, ◌&&◌, Bool, pos, nat_le, List, [], ◌∷◌, length, map, codes, slice_index, String, string_bytes, Some, None, Option, if◌then◌else◌}
+use Rattle.std.specs.Prelude.{◌≡◌, ℕ, ◌+◌, ◌-◌, ◌*◌, ◌==◌, ◌&&◌, Bool, pos, List, [], ◌∷◌, length, map, codes, slice_index, String, string_bytes, Some, None, Option, if◌then◌else◌}
 use Rattle.std.specs.declared.alloc.Global.{Global}
 use Rattle.std.specs.Char.{is_ascii_digit}
 use Rattle.ion_values.specs.Time.{is_time}

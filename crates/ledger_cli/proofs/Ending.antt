@@ -3,8 +3,9 @@ use Rattle.std.proofs.Common.{◌≡◌, ℕ, ◌<◌, ◌==◌, List, [], ◌�
 use Rattle.std.specs.Prelude.{Contains}
 use Rattle.std.specs.Io.KnownBytes.{Appends}
 use Rattle.std.specs.declared.alloc.Global.{Global}
+use Rattle.ledger_claims.specs.Lines.{faults_line}
 use Rattle.ledger_claims.specs.Streams.{AppendsPart}
-use Rattle.ledger_claims.specs.Top.{Stored, HasReport, Leaves, faults_line}
+use Rattle.ledger_claims.specs.Top.{Stored, HasReport, Leaves}
 use Rattle.ledger_cli.specs.declared.top.Status.{Status}
 use Rattle.ledger_cli.specs.declared.top.Status.TheVariants as status
 use Rattle.ledger_cli.specs.declared.top.Stop.{Stop}

@@ -2,9 +2,13 @@
 use Rattle.std.specs.Prelude.{◌≡◌, ℕ, ◌<◌, Bool, true, List, codes, String, Option, Result, Ok, Err}
 use Rattle.std.specs.declared.alloc.Global.{Global}
 use Rattle.ion_values.specs.declared.time.TimeParts.{TimeParts}
+use Rattle.ledger_model.specs.declared.script.Job.{Job}
+use Rattle.ledger_model.specs.Unbuilt.{is_built}
+use Rattle.ledger_claims.specs.Lines.{words_line, faults_line}
 use Rattle.ledger_claims.specs.Words.{IsRun}
 use Rattle.ledger_claims.specs.Streams.{WritesLine}
-use Rattle.ledger_claims.specs.Top.{Streams, Stored, HasReport, Reports, ReportsPart, Leaves, IsUnbuilt, words_line, unbuilt_line, faults_line}
+use Rattle.ledger_claims.specs.Top.{Streams, Stored, HasScript, HasReport, Reports, ReportsPart, Leaves, IsBadInput, RefusesInput}
+use Rattle.ledger_cli.specs.Judgements.{cause_of}
 use Rattle.ledger_cli.specs.declared.top.Status.{Status}
 use Rattle.ledger_cli.specs.declared.top.Status.TheVariants as status
 use Rattle.ledger_cli.specs.declared.top.Stop.{Stop}
@@ -36,12 +40,22 @@ IsUntouched s = s.held_after ≡ s.held_before
 abbrev pub HasFailed : Stored → Bool → Type 0
 HasFailed s last_failed = (s.faults_before < s.faults_after) × (last_failed ≡ true)
 
+-- there is a script that is served, or a cause why not; a store is not asked
+abbrev pub ReadsScript : Result (List (List Job)) Stop → Option (List ℕ) → Option (List ℕ) → ℕ → ℕ → Type 0
+ReadsScript (Ok script) left_before left_after before after = HasScript left_before left_after script × (is_built script ≡ true)
+ReadsScript (Err stop.BadWords) left_before left_after before after = ⊥
+ReadsScript (Err (stop.BadInput cause)) left_before left_after before after =
+    (held : Option (List ℕ)) → IsBadInput (cause_of cause) left_before left_after held
+ReadsScript (Err stop.SourceFailed) left_before left_after before after = before < after
+ReadsScript (Err stop.StoreFailed) left_before left_after before after = ⊥
+ReadsScript (Err stop.OutOfMemory) left_before left_after before after = Unit {0}
+
 -- there is the text of a report, or a cause why not
 abbrev pub Works : Result (List ℕ) Stop → List (String Global) → Option (List ℕ) → Option (List ℕ) → Stored → Bool → ℕ → ℕ → Type 0
 Works (Ok text) words left_before left_after s last_failed before after = HasReport words left_before left_after s text
 Works (Err stop.BadWords) words left_before left_after s last_failed before after = IsNotAsked words × IsUntouched s
-Works (Err stop.Unbuilt) words left_before left_after s last_failed before after =
-    IsAsked words × IsUnbuilt left_before left_after s.held_before × IsUntouched s
+Works (Err (stop.BadInput cause)) words left_before left_after s last_failed before after =
+    IsAsked words × IsBadInput (cause_of cause) left_before left_after s.held_before × IsUntouched s
 Works (Err stop.SourceFailed) words left_before left_after s last_failed before after = IsAsked words × (before < after) × IsUntouched s
 Works (Err stop.StoreFailed) words left_before left_after s last_failed before after =
     IsAsked words × HasFailed s last_failed × Leaves words left_before left_after s
@@ -53,8 +67,7 @@ Writes k text = WritesLine k.io.written_before k.io.written_after k.sink_before 
 abbrev pub Ends : Status → Call → Type 0
 Ends status.Done k = Reports k.words k.io k.store
 Ends status.BadWords k = IsNotAsked k.words × Writes k words_line × IsUntouched k.store
-Ends status.BadInput k =
-    IsAsked k.words × IsUnbuilt k.io.left_before k.io.left_after k.store.held_before × Writes k unbuilt_line × IsUntouched k.store
+Ends status.BadInput k = IsAsked k.words × RefusesInput k.io k.store.held_before k.sink_before k.sink_after × IsUntouched k.store
 Ends status.SourceFailed k =
     IsAsked k.words × (k.source_before < k.source_after) × Writes k (faults_line (codes "4") k.source_after) × IsUntouched k.store
 Ends status.StoreFailed k =

@@ -1,4 +1,5 @@
 pub mod Commits
 pub mod Ends
+pub mod Judgements
 pub mod Runs
 pub mod Transactions

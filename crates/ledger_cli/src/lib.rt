@@ -4,6 +4,7 @@
 mod answer;
 mod commit;
 mod input;
+mod lines;
 mod output;
 mod report;
 mod run;

@@ -36,7 +36,7 @@ fn list_in(v: &Value) -> Option<&Values>
 }
 
 /// The fields of an unannotated struct.
-pub fn fields_in(v: &Value) -> Option<&Fields>
+fn fields_in(v: &Value) -> Option<&Fields>
     ensures { option_copied result ≡ fields_in v.now }
 {
     if !v.annotations.is_empty() {

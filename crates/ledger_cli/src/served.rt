@@ -1,18 +1,23 @@
-//! Which scripts are served so far.
+//! What an input is judged, and which scripts are served so far.
 ghost use Rattle.std.specs.Prelude.{◌≡◌, ◌&&◌, length, count_by, nat_le, IfOk};
 ghost use Rattle.std.specs.List.{list_all};
-ghost use Rattle.ledger_model.specs.Values.{bare};
-ghost use Rattle.ledger_model.specs.Unbuilt.{is_int_or_string, is_small, has_small, is_create, is_insert, is_insert_or_select, are_built, is_built, served};
+ghost use Rattle.ion_values.specs.declared.value.Body.{out-Body};
+ghost use Rattle.ledger_model.specs.Script.{script_of};
+ghost use Rattle.ledger_model.specs.Unbuilt.{is_struct, is_document, has_document, is_create, is_insert, is_insert_or_select, are_built, is_built, judged_script, judged};
+ghost use Rattle.ledger_cli.specs.Judgements.{judged_of};
 
 use crate::input::LONGEST;
-use crate::script::{fields_in, script_of};
-use ion_text::{read_plain, write};
-use ion_values::{Body, Field, OutOfMemory, Value};
+use crate::script::script_of;
+use ion_text::{ReadFault, read_stream, write};
+use ion_values::{Body, IonFault, OutOfMemory, Value, depth};
 use ledger_model::{Request, Script};
 use std::alloc::Global;
 
 /// The longest text of a document, in bytes.
 const LONGEST_DOCUMENT: usize = 131_072;
+
+/// The deepest nesting of a document.
+const DEEPEST_DOCUMENT: u32 = 64;
 
 /// The most inserts of a transaction.
 const MOST_INSERTS: usize = 40;
@@ -20,44 +25,44 @@ const MOST_INSERTS: usize = 40;
 /// The deepest nesting of an input.
 const DEEPEST: u32 = 80;
 
-fn is_int_or_string(v: &Value) -> bool
-    ensures { result ≡ is_int_or_string (bare v.now) }
-{
-    if !v.annotations.is_empty() {
-        return false;
-    }
-    match &v.body {
-        Body::Int(_) => true,
-        Body::String(_) => true,
-        _ => false,
-    }
+/// What an input is judged.
+#[derive(Drop)]
+pub enum Judgement {
+    /// It is longer than the longest.
+    TooLong,
+    /// It is no Ion text that is read.
+    Faulty(IonFault),
+    /// It spells no script that is served so far.
+    Unbuilt,
+    Served(Script),
 }
 
-fn are_ints_and_strings(fields: &[Field]) -> bool
-    ensures { result ≡ list_all (λ f. is_int_or_string (bare f.value)) fields.now }
+/// Whether the value is a struct that isn't null.
+fn is_struct(v: &Value) -> bool
+    ensures { result ≡ is_struct (out-Body v.now.body) }
 {
-    fields.iter().all(|field| is_int_or_string(&field.value))
+    matches!(v.body, Body::Struct(_))
 }
 
-/// Whether the value is a struct of ints and strings with a text that isn't too long.
-fn is_small(alloc: Global, v: &Value) -> Result<bool, OutOfMemory>
-    ensures { IfOk result (λ small. small ≡ is_small v.now) }
+/// Whether the value is a struct that nests not too deep and has a text that isn't too long.
+fn is_document(alloc: Global, v: &Value) -> Result<bool, OutOfMemory>
+    ensures { IfOk result (λ document. document ≡ is_document v.now) }
 {
-    let Some(fields) = fields_in(v) else {
+    if !is_struct(v) {
         return Ok(false);
-    };
-    if !are_ints_and_strings(fields.as_slice()) {
+    }
+    if depth(v) > DEEPEST_DOCUMENT {
         return Ok(false);
     }
     let text = write(alloc, v)?;
     Ok(text.len() <= LONGEST_DOCUMENT)
 }
 
-fn has_small(alloc: Global, params: &[Value]) -> Result<bool, OutOfMemory>
-    ensures { IfOk result (λ small. small ≡ has_small params.now) }
+fn has_document(alloc: Global, params: &[Value]) -> Result<bool, OutOfMemory>
+    ensures { IfOk result (λ document. document ≡ has_document params.now) }
 {
     match params {
-        [value] => is_small(alloc, value),
+        [value] => is_document(alloc, value),
         _ => Ok(false),
     }
 }
@@ -83,7 +88,7 @@ fn is_insert_or_select(alloc: Global, request: &Request) -> Result<bool, OutOfMe
     ensures { IfOk result (λ served. served ≡ is_insert_or_select request.now) }
 {
     if is_insert(request) {
-        return has_small(alloc, request.params.as_slice());
+        return has_document(alloc, request.params.as_slice());
     }
     if request.text.as_str() == "SELECT * FROM t" {
         Ok(request.params.is_empty())
@@ -136,22 +141,31 @@ fn is_built(alloc: Global, script: &Script) -> Result<bool, OutOfMemory>
     are_built(alloc, job.statements.as_slice())
 }
 
-/// The script that the input spells, or None where it spells no script that is served.
-pub fn served(alloc: Global, input: &[u8]) -> Result<Option<Script>, OutOfMemory>
-    ensures { IfOk result (λ script. script ≡ served input.now) }
+/// What the values of an input are judged.
+fn judge_values(alloc: Global, values: &[Value]) -> Result<Judgement, OutOfMemory>
+    ensures { IfOk result (λ judgement. judged_of judgement ≡ judged_script (script_of values.now)) }
 {
-    if input.len() > LONGEST {
-        return Ok(None);
-    }
-    let Some(values) = read_plain(alloc, input, DEEPEST)? else {
-        return Ok(None);
-    };
-    let Some(script) = script_of(alloc, values.as_slice())? else {
-        return Ok(None);
+    let Some(script) = script_of(alloc, values)? else {
+        return Ok(Judgement::Unbuilt);
     };
     if is_built(alloc, &script)? {
-        Ok(Some(script))
+        Ok(Judgement::Served(script))
     } else {
-        Ok(None)
+        Ok(Judgement::Unbuilt)
+    }
+}
+
+/// What an input is judged: whether it is too long, where it is no Ion text, or the script that it spells, where such
+/// scripts are served.
+pub fn judge(alloc: Global, input: &[u8]) -> Result<Judgement, OutOfMemory>
+    ensures { IfOk result (λ judgement. judged_of judgement ≡ judged input.now) }
+{
+    if input.len() > LONGEST {
+        return Ok(Judgement::TooLong);
+    }
+    match read_stream(alloc, input, DEEPEST) {
+        Ok(values) => judge_values(alloc, values.as_slice()),
+        Err(ReadFault::Ion(fault)) => Ok(Judgement::Faulty(fault)),
+        Err(ReadFault::OutOfMemory) => Err(OutOfMemory),
     }
 }

@@ -79,6 +79,8 @@ const RUN: &str = "run --plain-ids --at 2020-01-01T00:00:00.000Z";
 
 const UNBUILT: &str = "{status:2,fault:{kind:Unbuilt}}\n";
 
+const TOO_LONG: &str = "{status:2,fault:{kind:InputTooLong}}\n";
+
 const BAD_WORDS: &str = "{status:1}\n";
 
 const FIRST: &str =
@@ -118,14 +120,21 @@ fn scripts(rt: HostRuntime) -> Result<(), Fail> {
         "[{statements:[\"CREATE TABLE t\",\n {params:[{b:\"x\",b:-7}] , text:\"INSERT INTO t ?\"},\"SELECT * FROM t\",\"SELECT * FROM t\"]}]\n";
     let twice =
         "{session:1,transaction:1,outcome:committed,tx:\"0000000000000000018OWG\",block:0,answers:[[{tableId:\"0000000000000000018OWH\"}],[{documentId:\"0000000000000000018OWI\"}],[{b:\"x\",b:-7}],[{b:\"x\",b:-7}]]}\n";
+    // comments, an annotated struct of many kinds of values, and commas behind the last members
+    let whole =
+        "[{'statements':[\"CREATE TABLE t\",/* one */{text:'''INSERT ''' '''INTO t ?''',params:[x::{a:1.50,\"b\":2001-02-03T04:05Z,c:(+ [null,'y z']),}]},// all\n\"SELECT * FROM t\",]}]";
+    let kept =
+        "{session:1,transaction:1,outcome:committed,tx:\"0000000000000000018OWG\",block:0,answers:[[{tableId:\"0000000000000000018OWH\"}],[{documentId:\"0000000000000000018OWI\"}],[{a:150d-2,b:2001-02-03T04:05Z,c:('+' [null,'y z'])}]]}\n";
+    let null_struct =
+        "[{statements:[\"CREATE TABLE t\",{text:\"INSERT INTO t ?\",params:[null.struct]}]}]";
     for (input, status, output) in [
         (FIRST, 0, COMMITTED),
         (swapped, 0, twice),
+        (whole, 0, kept),
         ("5", 2, UNBUILT),
         ("", 2, UNBUILT),
-        ("[", 2, UNBUILT),
-        ("[{statements:[\"CREATE TABLE t\",]}]", 2, UNBUILT),
         ("[{statements:[\"SELECT * FROM t\"]}]", 2, UNBUILT),
+        (null_struct, 2, UNBUILT),
     ] {
         let got = run_command(&rt, alloc, to_run(alloc, RUN, input)?)?;
         assert_eq!(rt; got.status, status);
@@ -134,6 +143,29 @@ fn scripts(rt: HostRuntime) -> Result<(), Fail> {
         if input == FIRST {
             assert_eq!(rt; got.held.as_slice(), LINE.as_bytes());
         }
+    }
+    Ok(())
+}
+
+#[test]
+fn faults(rt: HostRuntime) -> Result<(), Fail> {
+    let alloc = rt.alloc();
+    let deep = repeated(alloc, "[", 81)?;
+    for (input, at, kind) in [
+        ("[1, 2", 5, "Unclosed"),
+        ("[1 2]", 3, "BadToken"),
+        ("[1 2e5]", 3, "FloatRefused"),
+        ("170141183460469231731687303715884105728", 0, "TooWide"),
+        ("a::$10", 3, "SymbolIdRefused"),
+        ("2001-02-30", 0, "BadTimestamp"),
+        ("{{YQ=}}", 0, "BadBase64"),
+        (deep.as_str(), 80, "TooDeep"),
+    ] {
+        let got = run_command(&rt, alloc, to_run(alloc, RUN, input)?)?;
+        let line = format!(in alloc; "{{status:2,fault:{{at:{at},kind:{kind}}}}}\n")?;
+        assert_eq!(rt; got.status, 2);
+        assert_eq!(rt; got.output.as_str(), line.as_str());
+        assert!(rt; got.held.is_empty());
     }
     Ok(())
 }
@@ -210,12 +242,18 @@ fn failing_source_and_sink(rt: HostRuntime) -> Result<(), Fail> {
 #[test]
 fn a_store_that_is_not_empty(rt: HostRuntime) -> Result<(), Fail> {
     let alloc = rt.alloc();
-    let mut given = to_run(alloc, RUN, FIRST)?;
-    given.held.push(b'\n')?;
-    let got = run_command(&rt, alloc, given)?;
-    assert_eq!(rt; got.status, 2);
-    assert_eq!(rt; got.output.as_str(), UNBUILT);
-    assert_eq!(rt; got.held.as_slice(), b"\n".as_slice());
+    // the input is judged before the store is asked
+    for (input, output) in [
+        (FIRST, UNBUILT),
+        ("[", "{status:2,fault:{at:1,kind:Unclosed}}\n"),
+    ] {
+        let mut given = to_run(alloc, RUN, input)?;
+        given.held.push(b'\n')?;
+        let got = run_command(&rt, alloc, given)?;
+        assert_eq!(rt; got.status, 2);
+        assert_eq!(rt; got.output.as_str(), output);
+        assert_eq!(rt; got.held.as_slice(), b"\n".as_slice());
+    }
     Ok(())
 }
 
@@ -278,37 +316,72 @@ fn repeated(alloc: Global, text: &str, times: usize) -> Result<String, Fail> {
     Ok(all)
 }
 
+/// The text of a script that creates the table and then inserts this document.
+fn with_document(alloc: Global, document: &str) -> Result<Vec<u8>, Fail> {
+    let insert = format!(in alloc; ",{{text:\"INSERT INTO t ?\",params:[{document}]}}")?;
+    script(alloc, insert.as_str())
+}
+
+/// A struct that nests so deep and one more.
+fn nested(alloc: Global, around: usize) -> Result<String, Fail> {
+    let opened = repeated(alloc, "{a:", around)?;
+    let closed = repeated(alloc, "}", around)?;
+    Ok(format!(in alloc; "{opened}{{}}{closed}")?)
+}
+
+/// A struct with a string of so many characters.
+fn long(alloc: Global, length: usize) -> Result<String, Fail> {
+    let text = repeated(alloc, "x", length)?;
+    Ok(format!(in alloc; "{{a:\"{text}\"}}")?)
+}
+
 #[test]
 fn limits(rt: HostRuntime) -> Result<(), Fail> {
     let alloc = rt.alloc();
     let insert = ",{text:\"INSERT INTO t ?\",params:[{a:1}]}";
-    let long = repeated(alloc, "x", 131_066)?;
-    let longer = repeated(alloc, "x", 131_067)?;
-    let most = format!(in alloc; ",{{text:\"INSERT INTO t ?\",params:[{{a:\"{long}\"}}]}}")?;
-    let too_long = format!(in alloc; ",{{text:\"INSERT INTO t ?\",params:[{{a:\"{longer}\"}}]}}")?;
     let mut not_utf8 = FIRST.as_bytes().to_vec(alloc)?;
     not_utf8.push(0xFF)?;
-    let spaces = vec![in alloc; b' '; 16_777_217]?;
-    let mut padded = FIRST.as_bytes().to_vec(alloc)?;
-    let padding = 16_777_216usize.saturating_sub(padded.len());
-    padded.extend_from_slice(&vec![in alloc; b' '; padding]?)?;
-    for (input, status) in [
-        (script(alloc, repeated(alloc, insert, 40)?.as_str())?, 0),
-        (script(alloc, repeated(alloc, insert, 41)?.as_str())?, 2),
-        (script(alloc, most.as_str())?, 0),
-        (script(alloc, too_long.as_str())?, 2),
-        (not_utf8, 2),
-        (spaces, 2),
-        (padded, 0),
+    for (input, refused) in [
+        (script(alloc, repeated(alloc, insert, 40)?.as_str())?, None),
+        (
+            script(alloc, repeated(alloc, insert, 41)?.as_str())?,
+            Some(UNBUILT),
+        ),
+        (with_document(alloc, long(alloc, 131_066)?.as_str())?, None),
+        (
+            with_document(alloc, long(alloc, 131_067)?.as_str())?,
+            Some(UNBUILT),
+        ),
+        (with_document(alloc, nested(alloc, 63)?.as_str())?, None),
+        (
+            with_document(alloc, nested(alloc, 64)?.as_str())?,
+            Some(UNBUILT),
+        ),
+        (not_utf8, Some("{status:2,fault:{at:91,kind:NotUtf8}}\n")),
     ] {
         let mut given = to_run(alloc, RUN, "")?;
         given.input = input;
         let got = run_command(&rt, alloc, given)?;
-        assert_eq!(rt; got.status, status);
-        assert_eq!(rt; got.held.is_empty(), status == 2);
-        if status == 2 {
-            assert_eq!(rt; got.output.as_str(), UNBUILT);
+        assert_eq!(rt; got.status, if refused.is_some() { 2 } else { 0 });
+        assert_eq!(rt; got.held.is_empty(), refused.is_some());
+        if let Some(line) = refused {
+            assert_eq!(rt; got.output.as_str(), line);
         }
+    }
+    Ok(())
+}
+
+#[test]
+fn the_longest_input(rt: HostRuntime) -> Result<(), Fail> {
+    let alloc = rt.alloc();
+    for (length, status, output) in [(16_777_216, 0, COMMITTED), (16_777_217, 2, TOO_LONG)] {
+        let mut given = to_run(alloc, RUN, FIRST)?;
+        given.input.extend_from_slice(b"//")?;
+        let more = usize::saturating_sub(length, given.input.len());
+        given.input.extend_from_slice(&vec![in alloc; b'x'; more]?)?;
+        let got = run_command(&rt, alloc, given)?;
+        assert_eq!(rt; got.status, status);
+        assert_eq!(rt; got.output.as_str(), output);
     }
     Ok(())
 }

@@ -1,19 +1,21 @@
 //! The top call.
-ghost use Rattle.std.specs.Prelude.{◌≡◌, ◌<◌, ◌⊎◌, ℕ, List, Option, [], ◌∷◌, Contains, true, codes, IfOk, IsErrOf};
-ghost use Rattle.ledger_model.specs.Unbuilt.{is_built};
+ghost use Rattle.std.specs.Prelude.{◌≡◌, ◌<◌, ◌⊎◌, [], ◌∷◌, Contains, true, codes};
 ghost use Rattle.std.specs.Io.KnownBytes.{Appends};
 ghost use Rattle.ledger_claims.specs.Streams.{TakesFew, AppendsPart, WritesLine};
 ghost use Rattle.ledger_claims.specs.Words.{IsRun};
-ghost use Rattle.ledger_claims.specs.Top.{HasScript, IsUnbuilt, Reports, ReportsPart, Leaves, streams, stored, words_line, unbuilt_line, faults_line};
+ghost use Rattle.ledger_claims.specs.Top.{Reports, ReportsPart, RefusesInput, Leaves, streams, stored};
+ghost use Rattle.ledger_claims.specs.Lines.{words_line, input_line, faults_line};
 ghost use Rattle.ion_values.specs.declared.time.TimeParts.{TimeParts};
-ghost use Rattle.ledger_cli.specs.Ends.{Ends, Works, number_of};
+ghost use Rattle.ledger_cli.specs.Ends.{Ends, Works, ReadsScript, number_of};
+ghost use Rattle.ledger_cli.specs.Judgements.{cause_of};
 
 use crate::input::{InputFault, read_all};
+use crate::lines::{BadInput, faults_line, input_line};
 use crate::output::write_all;
 use crate::run::{RunFault, run_script};
-use crate::served::served;
+use crate::served::{Judgement, judge};
 use crate::words::time_in;
-use ion_values::{OutOfMemory, Text};
+use ion_values::Text;
 use ledger_model::Script;
 use outside::{Clock, Gate, JournalStore, OutFault, Sink, Source};
 use std::alloc::Global;
@@ -44,7 +46,7 @@ enum Status {
 #[derive(Clone, Copy, Debug, PartialEq, Eq)]
 enum Stop {
     BadWords,
-    Unbuilt,
+    BadInput(BadInput),
     SourceFailed,
     StoreFailed,
     OutOfMemory,
@@ -79,9 +81,9 @@ pub fn ledger_top<
     ensures all_bad_words { ((time : TimeParts) → ¬ IsRun words.now time) → (result.status ≡ 1) ⊎ (result.status ≡ 8) }
     ensures words_line { result.status ≡ 1 → WritesLine (Si.written sink.old) (Si.written sink.new) (Si.fault_count sink.old) (Si.fault_count sink.new) words_line }
 
-    // No script that is served was read, or the store is not empty; at the statuses 0 and 6 neither is so.
-    ensures unbuilt { result.status ≡ 2 → IsUnbuilt (So.left source.old) (So.left source.new) (St.bytes store) }
-    ensures unbuilt_line { result.status ≡ 2 → WritesLine (Si.written sink.old) (Si.written sink.new) (Si.fault_count sink.old) (Si.fault_count sink.new) unbuilt_line }
+    // The input is too long, it is no Ion text that is read, no script that is served was read, or the store is not empty,
+    // and the line says which; at the statuses 0 and 6 none of these is so.
+    ensures bad_input { result.status ≡ 2 → RefusesInput (streams (So.left source.old) (So.left source.new) (Si.written sink.old) (Si.written sink.new)) (St.bytes store) (Si.fault_count sink.old) (Si.fault_count sink.new) }
 
     ensures source_failed { result.status ≡ 4 → So.fault_count source.old < So.fault_count source.new }
     ensures source_line { result.status ≡ 4 → WritesLine (Si.written sink.old) (Si.written sink.new) (Si.fault_count sink.old) (Si.fault_count sink.new) (faults_line (codes "4") (So.fault_count source.new)) }
@@ -133,11 +135,7 @@ fn command<So: Source, Si: Sink, St: JournalStore>(
     match work(alloc, words, source, store) {
         Ok(text) => end_by_report(sink, text),
         Err(Stop::BadWords) => end_by_line(sink, "{status:1}\n", Status::BadWords),
-        Err(Stop::Unbuilt) => end_by_line(
-            sink,
-            "{status:2,fault:{kind:Unbuilt}}\n",
-            Status::BadInput,
-        ),
+        Err(Stop::BadInput(cause)) => end_by_input(alloc, sink, cause),
         Err(Stop::SourceFailed) => {
             let faults = source.faults();
             end_by_faults(alloc, sink, "4", faults, Status::SourceFailed)
@@ -166,7 +164,7 @@ fn work<So: Source, St: JournalStore>(
     let script = read_script(alloc, source)?;
     match run_script(alloc, &script, time, store) {
         Ok(text) => Ok(text),
-        Err(RunFault::NotEmpty) => Err(Stop::Unbuilt),
+        Err(RunFault::NotEmpty) => Err(Stop::BadInput(BadInput::Unbuilt)),
         Err(RunFault::StoreFailed) => Err(Stop::StoreFailed),
         Err(RunFault::OutOfMemory) => Err(Stop::OutOfMemory),
     }
@@ -174,23 +172,20 @@ fn work<So: Source, St: JournalStore>(
 
 /// Reads the input and the script that it spells.
 fn read_script<So: Source>(alloc: Global, source: &mut So) -> Result<Script, Stop>
-    ensures script { IfOk result (λ script. HasScript (So.left source.old) (So.left source.new) script) }
-    ensures built { IfOk result (λ script. is_built script ≡ true) }
-    ensures failed { IsErrOf result Stop.SourceFailed → So.fault_count source.old < So.fault_count source.new }
-    ensures unbuilt { IsErrOf result Stop.Unbuilt → (held : Option (List ℕ)) → IsUnbuilt (So.left source.old) (So.left source.new) held }
-    ensures words { ¬ IsErrOf result Stop.BadWords }
-    ensures store { ¬ IsErrOf result Stop.StoreFailed }
+    ensures reads { ReadsScript result (So.left source.old) (So.left source.new) (So.fault_count source.old) (So.fault_count source.new) }
     ensures few { TakesFew (So.left source.old) (So.left source.new) }
 {
     let input = match read_all(alloc, source) {
         Ok(input) => input,
         Err(InputFault::Failed) => return Err(Stop::SourceFailed),
-        Err(InputFault::TooLong) => return Err(Stop::Unbuilt),
+        Err(InputFault::TooLong) => return Err(Stop::BadInput(BadInput::TooLong)),
         Err(InputFault::OutOfMemory) => return Err(Stop::OutOfMemory),
     };
-    match served(alloc, &input) {
-        Ok(Some(script)) => Ok(script),
-        Ok(None) => Err(Stop::Unbuilt),
+    match judge(alloc, &input) {
+        Ok(Judgement::Served(script)) => Ok(script),
+        Ok(Judgement::TooLong) => Err(Stop::BadInput(BadInput::TooLong)),
+        Ok(Judgement::Faulty(fault)) => Err(Stop::BadInput(BadInput::Faulty(fault))),
+        Ok(Judgement::Unbuilt) => Err(Stop::BadInput(BadInput::Unbuilt)),
         Err(_) => Err(Stop::OutOfMemory),
     }
 }
@@ -220,6 +215,16 @@ fn end_by_line<Si: Sink>(sink: &mut Si, line: &str, status: Status) -> Status
     }
 }
 
+/// Ends with the error line of an input that is refused.
+fn end_by_input<Si: Sink>(alloc: Global, sink: &mut Si, cause: BadInput) -> Status
+    ensures { ((result ≡ Status.BadInput) × WritesLine (Si.written sink.old) (Si.written sink.new) (Si.fault_count sink.old) (Si.fault_count sink.new) (input_line (cause_of cause))) ⊎ (result ≡ Status.OutOfMemory) }
+{
+    match input_line(alloc, cause) {
+        Ok(line) => end_by_line(sink, line.as_str(), Status::BadInput),
+        Err(_) => Status::OutOfMemory,
+    }
+}
+
 /// Ends with the error line of a source or a store that has failed so often.
 fn end_by_faults<Si: Sink>(
     alloc: Global,
@@ -234,18 +239,4 @@ fn end_by_faults<Si: Sink>(
         Ok(line) => end_by_line(sink, line.as_str(), status),
         Err(_) => Status::OutOfMemory,
     }
-}
-
-/// The error line of the status of this digit, of a source or a store that has failed so often.
-fn faults_line(alloc: Global, digit: &str, faults: u64) -> Result<Text, OutOfMemory>
-    ensures { IfOk result (λ line. line ≡ faults_line digit.now faults) }
-{
-    let count = faults.to_string(alloc)?;
-    let mut line = Text::new(alloc);
-    line.push_str("{status:")?;
-    line.push_str(digit)?;
-    line.push_str(",faults:")?;
-    line.push_str(count.as_str())?;
-    line.push_str("}\n")?;
-    Ok(line)
 }

@@ -7,7 +7,7 @@ ghost use Rattle.ql_types.specs.Ids.{raw_id};
 ghost use Rattle.ledger_model.specs.Statements.{the_table};
 ghost use Rattle.ledger_model.specs.Run.{start, step, table_now, next_id, final_revisions};
 ghost use Rattle.ledger_cli.specs.Transactions.{revision_of};
-ghost use Rattle.ledger_model.specs.Unbuilt.{is_create, is_insert, is_insert_or_select, has_small};
+ghost use Rattle.ledger_model.specs.Unbuilt.{is_create, is_insert, is_insert_or_select, has_document};
 
 use crate::answer::named_id;
 use crate::view::{copy_content, latest, view_rows};
@@ -105,7 +105,7 @@ impl Transaction {
         request: &Request,
     ) -> Result<(), OutOfMemory>
         requires text { is_insert request.now ≡ true }
-        requires small { has_small request.now.params ≡ true }
+        requires document { has_document request.now.params ≡ true }
         requires table { table_now empty (progress_of self.old) the_table ≡ Some table }
         requires room { self.old.made + 1 < 2 ^ 24 }
         ensures step { OnOk result (step (begun_of self.old) empty (progress_of self.old) request.now ≡ Ok (progress_of self.new)) }

@@ -2,9 +2,11 @@
 ghost use Rattle.std.specs.Prelude.{◌≡◌, ◌<◌, [], ◌∷◌, ◌++◌, length, map, slice_set, IfOk, IfSome, IfNone, OnOk};
 ghost use Rattle.std.specs.List.{filter_map};
 ghost use Rattle.ledger_model.specs.declared.block.Draft.{Draft};
+ghost use Rattle.ledger_model.specs.Values.{plain};
 ghost use Rattle.ledger_model.specs.Views.{put, latest, row_of, user_view};
+ghost use Rattle.ledger_model.specs.Run.{all_of};
 
-use ion_values::{OutOfMemory, Values, copy};
+use ion_values::{OutOfMemory, Value, Values, copy};
 use ledger_model::{Content, Draft, Drafts};
 use lists::Sequence;
 use ql_types::{DocId, TableId};
@@ -69,17 +71,17 @@ pub fn latest(alloc: Global, log: &[Draft]) -> Result<Drafts, OutOfMemory>
     Ok(documents)
 }
 
-/// The content of a table's documents, over no committed revisions and these pending ones.
+/// What `*` makes of a table's documents, over no committed revisions and these pending ones.
 pub fn view_rows(alloc: Global, log: &[Draft], table: TableId) -> Result<Values, OutOfMemory>
-    ensures { IfOk result (λ rows. rows ≡ map (λ row. row.value) (user_view table [] log.now)) }
+    ensures { IfOk result (λ rows. rows ≡ map all_of (user_view table [] log.now)) }
 {
     let documents = latest(alloc, log)?;
     live_rows(alloc, documents.as_slice(), table)
 }
 
-/// The content of the documents that are of the table and aren't deleted.
+/// What `*` makes of the documents that are of the table and aren't deleted.
 fn live_rows(alloc: Global, documents: &[Draft], table: TableId) -> Result<Values, OutOfMemory>
-    ensures { IfOk result (λ rows. rows ≡ map (λ row. row.value) (filter_map (row_of table) documents.now)) }
+    ensures { IfOk result (λ rows. rows ≡ map all_of (filter_map (row_of table) documents.now)) }
 {
     let mut rows = Sequence::new(alloc);
     for document in documents {
@@ -87,8 +89,19 @@ fn live_rows(alloc: Global, documents: &[Draft], table: TableId) -> Result<Value
             continue;
         }
         if let Content::Kept(value) = &document.content {
-            rows.push(copy(alloc, value)?)?;
+            rows.push(all_of(alloc, value)?)?;
         }
     }
     Ok(rows)
+}
+
+/// What `*` makes of a document: a struct of its fields, which has no annotations.
+fn all_of(alloc: Global, document: &Value) -> Result<Value, OutOfMemory>
+    ensures { IfOk result (λ row. row ≡ plain document.now.body) }
+{
+    let Value { body, .. } = copy(alloc, document)?;
+    Ok(Value {
+        annotations: Sequence::new(alloc),
+        body,
+    })
 }

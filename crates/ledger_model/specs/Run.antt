@@ -13,10 +13,11 @@ use Rattle.ledger_model.specs.declared.block.Schema.{Schema}
 use Rattle.ledger_model.specs.declared.block.Schema.TheVariants.{Create}
 use Rattle.ledger_model.specs.declared.block.Draft.{Draft}
 use Rattle.ledger_model.specs.declared.block.Content.TheVariants.{Kept}
+use Rattle.ledger_model.specs.declared.block.Row.{Row}
 use Rattle.ledger_model.specs.declared.script.Request.{Request}
 use Rattle.ledger_model.specs.declared.outcome.Refusal.{Refusal}
 use Rattle.ledger_model.specs.declared.outcome.Refusal.TheVariants.{NoSuchTable, TableExists, NotADocument}
-use Rattle.ledger_model.specs.Values.{kind_of, named_id}
+use Rattle.ledger_model.specs.Values.{plain, kind_of, named_id}
 use Rattle.ledger_model.specs.State.{State, all_changed, active_table, draft_of}
 use Rattle.ledger_model.specs.Views.{user_view, latest}
 use Rattle.ledger_model.specs.Statements.{Statement, create_table, insert_into, select_all, statement_of}
@@ -71,10 +72,14 @@ abbrev pub inserted : List ℕ → ℕ → Value → Option TableId → Result E
 inserted name id v None = Err (NoSuchTable name)
 inserted name id v (Some table) = stored id table v (out-Body v.body)
 
+-- what `*` makes of a row: a struct of the document's fields, which has no annotations
+abbrev pub all_of : Row → Value
+all_of row = plain row.value.body
+
 abbrev pub selected : List ℕ → List Draft → List Draft → Option TableId → Result Effect Refusal
 selected name committed pending None = Err (NoSuchTable name)
 selected name committed pending (Some table) = Ok (record {
-  rows = map (λ row. row.value) (user_view table committed pending);
+  rows = map all_of (user_view table committed pending);
   schema = [];
   log = [];
   made = 0;

@@ -16,11 +16,8 @@ returns-clause-all_bad_words g c none =
 pub returns-clause-words_line : goal.returns-clause-words_line
 returns-clause-words_line g c is = (Ends-at c.command-status.result 1 _ (sym c.number_of.ensures ∙ is) c.command-status.ensures.ends).1
 
-pub returns-clause-unbuilt : goal.returns-clause-unbuilt
-returns-clause-unbuilt g c is = (Ends-at c.command-status.result 2 _ (sym c.number_of.ensures ∙ is) c.command-status.ensures.ends).1
-
-pub returns-clause-unbuilt_line : goal.returns-clause-unbuilt_line
-returns-clause-unbuilt_line g c is = (Ends-at c.command-status.result 2 _ (sym c.number_of.ensures ∙ is) c.command-status.ensures.ends).2
+pub returns-clause-bad_input : goal.returns-clause-bad_input
+returns-clause-bad_input g c is = (Ends-at c.command-status.result 2 _ (sym c.number_of.ensures ∙ is) c.command-status.ensures.ends).1
 
 pub returns-clause-source_failed : goal.returns-clause-source_failed
 returns-clause-source_failed g c is = (Ends-at c.command-status.result 4 _ (sym c.number_of.ensures ∙ is) c.command-status.ensures.ends).1
@@ -56,7 +53,7 @@ returns-clause-untouched g c either =
       | inl is ↦ (Ends-at c.command-status.result 1 _ (sym c.number_of.ensures ∙ is) c.command-status.ensures.ends).2
       | inr other ↦
           elim other [
-            | inl is ↦ (Ends-at c.command-status.result 2 _ (sym c.number_of.ensures ∙ is) c.command-status.ensures.ends).3
+            | inl is ↦ (Ends-at c.command-status.result 2 _ (sym c.number_of.ensures ∙ is) c.command-status.ensures.ends).2
             | inr is ↦ (Ends-at c.command-status.result 4 _ (sym c.number_of.ensures ∙ is) c.command-status.ensures.ends).3
           ]
     ]

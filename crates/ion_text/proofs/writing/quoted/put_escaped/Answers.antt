@@ -1,38 +1,8 @@
-use Rattle.std.proofs.Common.{◌≡◌, ℕ, ◌+◌, ◌/◌, ◌<◌, ◌≤◌, Bool, true, false, cond, List, [], ◌∷◌, arith}
-use Rattle.std.specs.List.{flat_map}
+use Rattle.std.proofs.Common.{◌≡◌, ℕ, ◌≤◌, Bool, false, arith}
 use Rattle.std.proofs.lemmas.Bool.Decides.{nat_tests}
 use Rattle.std.specs.Char.{is_ascii}
-use lib.Utf8.{encode, next}
-use Rattle.ion_forms.specs.Quoted.{escape}
+use Rattle.ion_text.proofs.Escaped.{escapes-encode}
 use Rattle.ion_text.proofs.writing.quoted.put_escaped.Goals as goal
-
-escape-high : (q b : ℕ) → q < 128 → 128 ≤ b → escape q b ≡ b ∷ []
-escape-high q b low high = grind (arith, nat_tests)
-
--- two, three and four bytes of one character
-escapes-two : (q a b : ℕ) → q < 128 → 128 ≤ a → 128 ≤ b → flat_map (escape q) (a ∷ b ∷ []) ≡ a ∷ b ∷ []
-escapes-two q a b low ha hb = rw (escape-high q a low ha, escape-high q b low hb)
-
-escapes-three : (q a b c : ℕ) → q < 128 → 128 ≤ a → 128 ≤ b → 128 ≤ c → flat_map (escape q) (a ∷ b ∷ c ∷ []) ≡ a ∷ b ∷ c ∷ []
-escapes-three q a b c low ha hb hc = rw (escape-high q a low ha, escape-high q b low hb, escape-high q c low hc)
-
-escapes-four : (q a b c d : ℕ) → q < 128 → 128 ≤ a → 128 ≤ b → 128 ≤ c → 128 ≤ d → flat_map (escape q) (a ∷ b ∷ c ∷ d ∷ []) ≡ a ∷ b ∷ c ∷ d ∷ []
-escapes-four q a b c d low ha hb hc hd =
-    rw (escape-high q a low ha, escape-high q b low hb, escape-high q c low hc, escape-high q d low hd)
-
-either : (P : List ℕ → Type 0) (b : Bool) (x y : List ℕ) → P x → P y → P (cond b x y)
-either P true x y px py = px
-either P false x y px py = py
-
-escapes-encode : (q c : ℕ) → q < 128 → 128 ≤ c → flat_map (escape q) (encode c) ≡ encode c
-unfolding encode
-escapes-encode q c low high =
-    let Same : List ℕ → Type 0 = λ bytes. flat_map (escape q) bytes ≡ bytes in
-    let one : Same (c ∷ []) = rw (escape-high q c low high) in
-    either Same _ _ _ one
-    (either Same _ _ _ (escapes-two q (192 + c / 64) (next c) low (omega arith) (omega arith))
-    (either Same _ _ _ (escapes-three q (224 + c / 4096) (next (c / 64)) (next c) low (omega arith) (omega arith) (omega arith))
-    (escapes-four q (240 + c / 262144) (next (c / 4096)) (next (c / 64)) (next c) low (omega arith) (omega arith) (omega arith) (omega arith))))
 
 high_of : (c : ℕ) (r : Bool) → r ≡ is_ascii c → r ≡ false → 128 ≤ c
 high_of c r is above = grind (arith, nat_tests)

@@ -1,0 +1,4 @@
+pub mod Lengths
+mod NumberRows
+mod ReadRows
+mod TextRows

@@ -1,0 +1,12 @@
+pub mod Blanks
+pub mod Escapes
+pub mod Lex
+pub mod Lobs
+pub mod Numbers
+pub mod Read
+pub mod Short
+pub mod Spans
+pub mod Table
+pub mod Texts
+pub mod Timestamps
+pub mod Words

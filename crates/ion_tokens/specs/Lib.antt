@@ -1,0 +1,4 @@
+pub mod Blobs
+pub mod Exponents
+pub mod Pieces
+pub mod Quotes

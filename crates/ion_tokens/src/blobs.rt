@@ -1,0 +1,55 @@
+//! Blobs.
+ghost use Rattle.std.specs.Prelude.{◌≡◌, ◌≤◌, ◌+◌, Some, length, not, IfOk, IfSome};
+ghost use Rattle.std.specs.List.{filter};
+ghost use Rattle.ion_grammar.specs.Blanks.{is_space};
+ghost use Rattle.ion_grammar.specs.Lobs.{base64_bytes, before_braces};
+ghost use Rattle.ion_tokens.specs.Blobs.{hides_none};
+
+use crate::blanks::is_space;
+use crate::lobs::closes;
+use base64::DecodeAllocError;
+use base64::engine::general_purpose::STANDARD;
+use lists::{Bytes, OutOfMemory};
+use std::alloc::Global;
+
+/// How many bytes stand before the closing braces, or None where they are missing.
+pub fn before_braces(bytes: &[u8]) -> Option<usize>
+    ensures value { result ≡ before_braces hides_none 0 bytes.now }
+    ensures within { IfSome result (λ len. len + 2 ≤ length bytes.now) }
+{
+    for at in 0..bytes.len() {
+        if closes(&bytes[at..]) {
+            return Some(at);
+        }
+    }
+    None
+}
+
+/// The bytes whose base64 stands between the braces, or None where it is none.
+pub fn blob_bytes(alloc: Global, bytes: &[u8]) -> Result<Option<Bytes>, OutOfMemory>
+    ensures { IfOk result (λ r. r ≡ base64_bytes (filter (λ b. not (is_space b)) bytes.now)) }
+{
+    let digits = without_white(alloc, bytes)?;
+    base64_bytes(alloc, digits.as_slice())
+}
+
+fn without_white(alloc: Global, bytes: &[u8]) -> Result<Vec<u8>, OutOfMemory>
+    ensures { IfOk result (λ v. v.items ≡ filter (λ b. not (is_space b)) bytes.now) }
+{
+    let digits = bytes
+        .iter()
+        .copied()
+        .filter(|b| !is_space(*b))
+        .collect(alloc)?;
+    Ok(digits)
+}
+
+fn base64_bytes(alloc: Global, text: &[u8]) -> Result<Option<Bytes>, OutOfMemory>
+    ensures { IfOk result (λ r. r ≡ base64_bytes text.now) }
+{
+    match STANDARD.decode(alloc, text) {
+        Ok(bytes) => Ok(Some(Bytes::from_vec(bytes))),
+        Err(DecodeAllocError::DecodeError(_)) => Ok(None),
+        Err(DecodeAllocError::OutOfMemory) => Err(OutOfMemory),
+    }
+}

@@ -1,0 +1,2 @@
+mod lobs;
+mod texts;

@@ -1,0 +1,84 @@
+//! The lines that are written in place of a report.
+ghost use Rattle.std.specs.Prelude.{◌≡◌, ◌++◌, IfOk, OnOk};
+ghost use Rattle.ledger_claims.specs.Lines.{faulty, input_line, fault_text, faults_line, kind_name};
+ghost use Rattle.ledger_cli.specs.Judgements.{cause_of};
+
+use ion_values::{IonFault, IonKind, OutOfMemory, Text};
+use std::alloc::Global;
+
+/// Why an input is refused.
+#[derive(Clone, Copy, Debug, PartialEq, Eq)]
+pub enum BadInput {
+    /// It is longer than the longest.
+    TooLong,
+    /// It is no Ion text that is read.
+    Faulty(IonFault),
+    /// It spells no script that is served so far, or the store holds something already.
+    Unbuilt,
+}
+
+/// The error line of an input that is refused.
+pub fn input_line(alloc: Global, cause: BadInput) -> Result<Text, OutOfMemory>
+    ensures { IfOk result (λ line. line ≡ input_line (cause_of cause)) }
+{
+    let mut line = Text::new(alloc);
+    line.push_str("{status:2,fault:{")?;
+    push_cause(alloc, &mut line, cause)?;
+    line.push_str("}}\n")?;
+    Ok(line)
+}
+
+/// Writes why an input is refused, and where.
+fn push_cause(alloc: Global, line: &mut Text, cause: BadInput) -> Result<(), OutOfMemory>
+    ensures { OnOk result (line.new ≡ line.old ++ fault_text (cause_of cause)) }
+{
+    match cause {
+        BadInput::TooLong => line.push_str("kind:InputTooLong")?,
+        BadInput::Faulty(fault) => push_fault(alloc, line, fault)?,
+        BadInput::Unbuilt => line.push_str("kind:Unbuilt")?,
+    }
+    Ok(())
+}
+
+/// Writes the place and the kind of a fault.
+fn push_fault(alloc: Global, line: &mut Text, fault: IonFault) -> Result<(), OutOfMemory>
+    ensures { OnOk result (line.new ≡ line.old ++ fault_text (faulty fault)) }
+{
+    let at = fault.at.to_string(alloc)?;
+    line.push_str("at:")?;
+    line.push_str(at.as_str())?;
+    line.push_str(",kind:")?;
+    line.push_str(kind_name(fault.kind))?;
+    Ok(())
+}
+
+/// The name of a kind of faults.
+fn kind_name(kind: IonKind) -> &'static str
+    ensures { result.now ≡ kind_name kind }
+{
+    match kind {
+        IonKind::NotUtf8 => "NotUtf8",
+        IonKind::BadToken => "BadToken",
+        IonKind::Unclosed => "Unclosed",
+        IonKind::FloatRefused => "FloatRefused",
+        IonKind::TooWide => "TooWide",
+        IonKind::TooDeep => "TooDeep",
+        IonKind::SymbolIdRefused => "SymbolIdRefused",
+        IonKind::BadTimestamp => "BadTimestamp",
+        IonKind::BadBase64 => "BadBase64",
+    }
+}
+
+/// The error line of the status of this digit, of a source or a store that has failed so often.
+pub fn faults_line(alloc: Global, digit: &str, faults: u64) -> Result<Text, OutOfMemory>
+    ensures { IfOk result (λ line. line ≡ faults_line digit.now faults) }
+{
+    let count = faults.to_string(alloc)?;
+    let mut line = Text::new(alloc);
+    line.push_str("{status:")?;
+    line.push_str(digit)?;
+    line.push_str(",faults:")?;
+    line.push_str(count.as_str())?;
+    line.push_str("}\n")?;
+    Ok(line)
+}
