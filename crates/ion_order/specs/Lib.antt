@@ -1,0 +1,5 @@
+pub mod Arithmetic
+pub mod Compare
+pub mod Key
+pub mod Laws
+pub mod Numbers
