@@ -1,1 +1,10 @@
 pub mod Documents
+pub mod Each
+pub mod Tables
+pub mod Inverse
+pub mod SmallParts
+pub mod Fields
+pub mod OfRevisions
+pub mod OfInfo
+pub mod OfBlocks
+pub mod Wholes

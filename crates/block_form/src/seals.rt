@@ -39,20 +39,20 @@ pub fn strand_hash(alloc: Global, strand: StrandId) -> Result<Hash32, OutOfMemor
     hash(alloc, &id_value(alloc, strand.raw)?)
 }
 
-fn info_hash(alloc: Global, info: &Info, revisions: &[Revision]) -> Result<Hash32, OutOfMemory>
+pub fn info_hash(alloc: Global, info: &Info, revisions: &[Revision]) -> Result<Hash32, OutOfMemory>
     ensures { IfOk result (λ h. h ≡ hash_of (info_value info.now revisions.now)) }
 {
     hash(alloc, &info_value(alloc, info, revisions)?)
 }
 
-fn header_hash(alloc: Global, header: &Header) -> Result<Hash32, OutOfMemory>
+pub fn header_hash(alloc: Global, header: &Header) -> Result<Hash32, OutOfMemory>
     ensures { IfOk result (λ h. h ≡ hash_of (header_value header.now)) }
 {
     hash(alloc, &header_value(alloc, header)?)
 }
 
 /// The root of the tree over the revisions' hashes.
-fn revisions_root(alloc: Global, revisions: &[Revision]) -> Result<Hash, OutOfMemory>
+pub fn revisions_root(alloc: Global, revisions: &[Revision]) -> Result<Hash, OutOfMemory>
     ensures { IfOk result (λ h. h ≡ revisions_root revisions.now) }
 {
     let mut hashes = Sequence::new(alloc);
@@ -63,7 +63,7 @@ fn revisions_root(alloc: Global, revisions: &[Revision]) -> Result<Hash, OutOfMe
 }
 
 /// The hash of a block's entries: of what it said and did, of its revisions, and of its header.
-fn entries_hash(info: &Hash32, revisions: &Hash, header: &Hash32) -> Hash32
+pub fn entries_hash(info: &Hash32, revisions: &Hash, header: &Hash32) -> Hash32
     ensures { result ≡ entries_hash info.now revisions.now header.now }
 {
     match revisions {

@@ -1,7 +1,7 @@
 ghost use Rattle.std.specs.Prelude.{◌≡◌, true, IfOk};
 ghost use Rattle.ledger_model.specs.Seals.{IsSealed};
 
-use crate::{revision_hash, seal, strand_hash, to_ion};
+use crate::{from_ion, revision_hash, seal, strand_hash, to_ion};
 use ion_values::{Body, IonTime, Kind, OutOfMemory, Precision, Text, TimeParts, Value};
 use ledger_model::{Answer, Block, Content, Header, Info, Metadata, Revision, Said};
 use lists::Sequence;
@@ -160,6 +160,22 @@ fn fields_stand_in_order(rt: HostRuntime) -> Result<(), Fail> {
     assert_eq!(rt; fields.len(), names.len());
     for (field, name) in fields.as_slice().iter().zip(names) {
         assert!(rt; field.name.as_str() == name);
+    }
+    Ok(())
+}
+
+#[test]
+fn a_value_is_read_as_its_block(rt: HostRuntime) -> Result<(), Fail> {
+    let alloc = rt.alloc();
+    for is_kept in [true, false] {
+        let block = block(alloc, Hash32 { bytes: [7; 32] }, "a", is_kept)?;
+        let mut value = to_ion(alloc, &block)?;
+        let read = from_ion(alloc, &value)?.ok_or("no block")?;
+        assert!(rt; read.hash == block.hash);
+        assert!(rt; read.header.revisions == 1);
+        assert_eq!(rt; read.info.tables.len(), 1);
+        value.annotations.push(Text::from_text(alloc, "a")?)?;
+        assert!(rt; from_ion(alloc, &value)?.is_none());
     }
     Ok(())
 }

@@ -1,3 +1,4 @@
 mod Pieces
 mod Scalars
 mod Written
+pub mod Lasts

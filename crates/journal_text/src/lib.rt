@@ -5,6 +5,8 @@ ghost use Rattle.std.specs.Prelude.{◌≡◌, IfOk};
 ghost use Rattle.journal_text.specs.OneLine.{WrittenOnOneLine};
 ghost use Rattle.ledger_model.specs.Journal.{line};
 
+mod checks;
+
 use block_form::to_ion;
 use ion_text::write;
 use ion_values::{OutOfMemory, Text};

@@ -6,7 +6,6 @@ mod commit;
 mod input;
 mod lines;
 mod output;
-mod report;
 mod run;
 mod script;
 mod served;

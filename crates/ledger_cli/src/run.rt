@@ -9,7 +9,6 @@ ghost use Rattle.ledger_cli.specs.Transactions.{progress_of, begun_of, first_pla
 ghost use Rattle.ledger_cli.specs.Runs.{fault_of, outcome_of, blocks_after, IsReported, IsStopped};
 
 use crate::commit::{CommitEnd, commit};
-use crate::report::report;
 use crate::served::is_insert;
 use crate::transaction::Transaction;
 use ion_values::{IonTime, OutOfMemory, Text};
@@ -18,6 +17,7 @@ use ledger_model::{Block, Blocks, Job, Outcome, PlacedOutcome, Request, Script};
 use lists::Sequence;
 use outside::{JournalStore, OutFault};
 use ql_types::{IdMask, Place, TxId};
+use script_form::report;
 use std::alloc::Global;
 
 /// Why a run has no report.

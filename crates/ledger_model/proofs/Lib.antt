@@ -1,1 +1,4 @@
 pub mod SaidLemmas
+mod ScriptRows
+mod ReportRows
+mod FollowsRows

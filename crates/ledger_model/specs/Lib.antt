@@ -8,4 +8,12 @@ pub mod Seals
 pub mod Legal
 pub mod Script
 pub mod Unbuilt
+pub mod ReadScript
+pub mod Moment
+pub mod ItemText
+pub mod CauseText
 pub mod Report
+pub mod Whole
+pub mod Follows
+pub mod Damages
+pub mod Recovered

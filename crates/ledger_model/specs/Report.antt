@@ -2,18 +2,18 @@
 use Rattle.std.specs.Prelude.{ℕ, List, [], ◌∷◌, ◌++◌, map, codes, slice_get, Option, Some, None}
 use Rattle.std.specs.List.{flat_map}
 use Rattle.std.specs.Fmt.{decimal}
-use Rattle.ion_forms.specs.Write.{value_text, joined}
-use Rattle.ql_types.specs.Ids.{id_text}
-use Rattle.ql_types.specs.declared.Place.{Place}
+use Rattle.ion_forms.specs.Write.{value_text, joined, blob_text}
+use Rattle.ql_types.specs.declared.Hash32.{Hash32}
 use Rattle.ql_types.specs.declared.TxId.{TxId}
 use Rattle.ledger_model.specs.declared.block.Said.{Said}
 use Rattle.ledger_model.specs.declared.block.Block.{Block}
+use Rattle.ledger_model.specs.declared.outcome.Named.{Named}
+use Rattle.ledger_model.specs.declared.outcome.Refusal.{Refusal}
 use Rattle.ledger_model.specs.declared.outcome.Outcome.{Outcome}
-use Rattle.ledger_model.specs.declared.outcome.Outcome.TheVariants.{Committed, StoreFault, OutOfMemory}
+use Rattle.ledger_model.specs.declared.outcome.Outcome.TheVariants as outcome
 use Rattle.ledger_model.specs.declared.outcome.PlacedOutcome.{PlacedOutcome}
-
-abbrev pub quoted_id : ℕ → List ℕ
-quoted_id raw = (34 ∷ id_text raw) ++ 34 ∷ []
+pub use Rattle.ledger_model.specs.ItemText.{quoted_id, item_text}
+pub use Rattle.ledger_model.specs.CauseText.{cause_text}
 
 -- the rows of an answer
 abbrev pub answer_text : Said → List ℕ
@@ -27,15 +27,45 @@ abbrev pub committed_text : List Block → TxId → ℕ → List ℕ
 committed_text blocks tx block =
     codes "committed,tx:" ++ quoted_id tx.raw ++ codes ",block:" ++ decimal block ++ codes ",answers:[" ++ answers_text (slice_get blocks block) ++ codes "]"
 
+-- the blocks on which the transaction ran
+abbrev pub since_text : TxId → ℕ → List ℕ
+since_text tx since = codes ",tx:" ++ quoted_id tx.raw ++ codes ",since:" ++ decimal since
+
+abbrev pub conflict_text : TxId → ℕ → Named → List ℕ
+conflict_text tx since named =
+    codes "conflict" ++ since_text tx since ++ codes ",block:" ++ decimal named.block ++ codes ",item:{" ++ item_text named.item ++ codes "}"
+
+abbrev pub refused_text : TxId → ℕ → ℕ → Refusal → List ℕ
+refused_text tx since statement cause =
+    codes "refused" ++ since_text tx since ++ codes ",statement:" ++ decimal statement ++ codes ",cause:{" ++ cause_text cause ++ codes "}"
+
+abbrev pub digest_differs_text : TxId → ℕ → Hash32 → Hash32 → List ℕ
+digest_differs_text tx since mine given =
+    codes "digest_differs" ++ since_text tx since ++ codes ",mine:" ++ blob_text mine.bytes ++ codes ",given:" ++ blob_text given.bytes
+
 abbrev pub store_fault_text : ℕ → ℕ → List ℕ
 store_fault_text tx count = codes "store_fault,tx:" ++ quoted_id tx ++ codes ",count:" ++ decimal count
 
--- the outcome behind the place; the others can't come yet, and have no text
+abbrev pub journal_full_text : TxId → ℕ → List ℕ
+journal_full_text tx blocks = codes "journal_full,tx:" ++ quoted_id tx.raw ++ codes ",blocks:" ++ decimal blocks
+
+abbrev pub ids_spent_text : ℕ → List ℕ
+ids_spent_text last = codes "ids_spent,last:" ++ decimal last
+
+abbrev pub aborted_text : TxId → ℕ → List ℕ
+aborted_text tx since = codes "aborted" ++ since_text tx since
+
+-- the outcome behind the place
 abbrev pub outcome_text : List Block → Outcome → List ℕ
-outcome_text blocks (Committed tx block) = committed_text blocks tx block
-outcome_text blocks (StoreFault tx count) = store_fault_text tx.raw count
-outcome_text blocks OutOfMemory = codes "out_of_memory"
-outcome_text blocks _ = []
+outcome_text blocks (outcome.Committed tx block) = committed_text blocks tx block
+outcome_text blocks (outcome.Conflict tx since named) = conflict_text tx since named
+outcome_text blocks (outcome.Refused tx since statement cause) = refused_text tx since statement cause
+outcome_text blocks (outcome.DigestDiffers tx since mine given) = digest_differs_text tx since mine given
+outcome_text blocks (outcome.StoreFault tx count) = store_fault_text tx.raw count
+outcome_text blocks (outcome.JournalFull tx full) = journal_full_text tx full
+outcome_text blocks (outcome.IdsSpent last) = ids_spent_text last
+outcome_text blocks (outcome.Aborted tx since) = aborted_text tx since
+outcome_text blocks outcome.OutOfMemory = codes "out_of_memory"
 
 abbrev pub outcome_line : List Block → PlacedOutcome → List ℕ
 outcome_line blocks o =

@@ -3,6 +3,7 @@
 #![tactic(auto)]
 
 mod block;
+mod damage;
 mod outcome;
 mod script;
 
@@ -10,6 +11,7 @@ pub use block::{
     Answer, Block, Blocks, Content, Draft, Drafts, Header, Info, Metadata, Revision, Revisions,
     Row, Said, SaidList, Schema, SchemaList, TableIds,
 };
+pub use damage::Damage;
 pub use outcome::{Item, Named, Outcome, Outcomes, PlacedOutcome, Refusal};
 pub use pql_model::ParseKind;
-pub use script::{Asked, Job, Request, Script, Session};
+pub use script::{Asked, Job, Request, Script, ScriptFault, ScriptKind, Session};

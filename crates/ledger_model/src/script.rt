@@ -27,3 +27,37 @@ pub type Session = Sequence<Job>;
 
 /// The sessions of a script.
 pub type Script = Sequence<Session>;
+
+/// Why values spell no script.
+#[derive(Clone, Copy, Debug, PartialEq, Eq)]
+pub enum ScriptKind {
+    /// There are more than 1,024 sessions.
+    TooManySessions,
+    /// A session is no list.
+    NotASession,
+    /// A transaction is no struct.
+    NotATransaction,
+    /// A transaction has two fields of one name.
+    RepeatedField,
+    /// A transaction has a field that none has.
+    UnknownField,
+    /// A transaction has no statements.
+    MissingField,
+    /// The statements are no list of statements.
+    NotAStatement,
+    /// The retries are no int from 0 to 100.
+    BadRetries,
+    /// The digest is no blob of 32 bytes.
+    BadDigest,
+    /// The end is neither the symbol `commit` nor `abort`.
+    BadEnd,
+}
+
+/// The first fault of a script: its session and its transaction, both counted from 1, and its kind. The
+/// transaction is 0 where a session is at fault.
+#[derive(Clone, Copy, Debug, PartialEq, Eq)]
+pub struct ScriptFault {
+    pub session: u32,
+    pub transaction: u32,
+    pub kind: ScriptKind,
+}

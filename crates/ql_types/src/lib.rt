@@ -1,8 +1,9 @@
 //! Hashes, ids and addresses: the small types that every layer of the ledger names.
 #![tactic(auto)]
 
-ghost use Rattle.std.specs.Prelude.{◌≡◌, ◌<◌, ◌^◌, All, IsTrue, length};
-ghost use Rattle.ql_types.specs.Ids.{raw_id, id_text, is_letter_or_digit};
+ghost use Rattle.std.specs.Prelude.{◌≡◌, ◌≢◌, ℕ, ◌+◌, ◌*◌, ◌<◌, ◌^◌, All, IfSome, IsTrue, MatchResult, SomeIff, length};
+ghost use Rattle.std.specs.Result.{result_ok};
+ghost use Rattle.ql_types.specs.Ids.{raw_id, transaction_in, thing_in, id_text, is_letter_or_digit, value_of, id_in};
 
 /// A SHA-256 digest (FIPS 180-4).
 #[derive(Clone, Copy, Debug, PartialEq, Eq)]
@@ -83,6 +84,19 @@ pub fn id_raw(mask: IdMask, n: u64, i: u32) -> u128
     (u128::from(n) * (1 << 24) + u128::from(i)) ^ mask.bits
 }
 
+/// What `id_raw` made the id's number of: the transaction and the thing. None comes where the transaction's number would
+/// not fit 64 bits.
+pub fn id_parts(mask: IdMask, raw: u128) -> Option<(u64, u32)>
+    ensures parts { SomeIff result (transaction_in mask.bits raw < 2 ^ 64) (transaction_in mask.bits raw, thing_in mask.bits raw) }
+    ensures made { IfSome result (λ parts. raw ≡ raw_id mask.bits parts.0 parts.1) }
+    ensures undoes { (n i : ℕ) → n < 2 ^ 64 → i < 2 ^ 24 → raw ≡ raw_id mask.bits n i → result ≡ Some (n, i) }
+{
+    let number = raw ^ mask.bits;
+    let n = u64::try_from(number / (1 << 24)).ok()?;
+    let i = (number % (1 << 24)) as u32;
+    Some((n, i))
+}
+
 /// The 22 digits of the id of this number, most significant first.
 pub fn id_digits(raw: u128) -> [u8; 22]
     ensures text { result ≡ id_text raw }
@@ -97,6 +111,49 @@ pub fn id_digits(raw: u128) -> [u8; 22]
         rest /= 62;
     }
     text
+}
+
+/// The number of a digit of ids.
+fn value_of(digit: u8) -> Option<u8>
+    ensures { result ≡ value_of digit }
+{
+    match digit {
+        b'0'..=b'9' => Some(digit - b'0'),
+        b'A'..=b'Z' => Some(digit - b'A' + 10),
+        b'a'..=b'z' => Some(digit - b'a' + 36),
+        _ => None,
+    }
+}
+
+/// The number that digits spell, the last of which has this value and the others spell `number`.
+fn with_digit(number: u128, value: u8) -> Option<u128>
+    ensures { SomeIff result (number * 62 + value < 2 ^ 128) (number * 62 + value) }
+{
+    number.checked_mul(62)?.checked_add(u128::from(value))
+}
+
+/// The number of the id with this text, if there is one.
+#[tactic(auto, unfolding(crate::specs::Ids::spelled))]
+fn id_in(text: &[u8]) -> Option<u128>
+    ensures { result ≡ id_in text.now }
+{
+    if text.len() != 22 {
+        return None;
+    }
+    let mut number = 0;
+    'digits: for digit in text {
+        number = with_digit(number, value_of(*digit)?)?;
+    }
+    Some(number)
+}
+
+/// The number of the id with this text. `NotAnId` comes where the text isn't 22 digits, or their number doesn't fit
+/// 128 bits.
+pub fn id_read(text: &[u8]) -> Result<u128, NotAnId>
+    ensures value { result_ok result ≡ id_in text.now }
+    ensures text { MatchResult result (λ raw. id_text raw ≡ text.now) (λ _. (raw : ℕ) → raw < 2 ^ 128 → id_text raw ≢ text.now) }
+{
+    id_in(text).ok_or(NotAnId)
 }
 
 #[cfg(test)]
@@ -118,6 +175,26 @@ mod tests {
                 id_digits(id_raw(mask, n, i)) == *text,
                 "transaction {n}, thing {i}"
             );
+        }
+    }
+
+    #[test]
+    fn read_back(rt: HostRuntime) {
+        let mask = IdMask { bits: 5 };
+        for (n, i) in [(0, 0), (1, 2), (u64::MAX, (1 << 24) - 1)] {
+            assert!(rt; i < 1 << 24);
+            let raw = id_raw(mask, n, i);
+            assert!(rt; id_parts(mask, raw) == Some((n, i)));
+            assert!(rt; id_read(&id_digits(raw)) == Ok(raw));
+        }
+        assert!(rt; id_parts(mask, 1 << 88) == None);
+        for text in [
+            "zzzzzzzzzzzzzzzzzzzzzz",
+            "000000000000000000000",
+            "00000000000000000000000",
+            "000000000000000000000-",
+        ] {
+            assert!(rt; id_read(text.as_bytes()) == Err(NotAnId), "{text}");
         }
     }
 }

@@ -1,0 +1,230 @@
+//! Blocks that values spell.
+ghost use Rattle.std.specs.Prelude.{◌≡◌, codes, length, IfOk};
+ghost use Rattle.std.specs.List.{list_all};
+ghost use Rattle.ledger_model.specs.Script.{and_then};
+ghost use Rattle.ledger_model.specs.Values.{list_in};
+ghost use Rattle.ledger_model.specs.Whole.{is_shallow};
+ghost use Rattle.block_form.specs.ReadBack as spec;
+
+use crate::read_info::info_in;
+use crate::read_parts::{
+    address_in, entry_in, fields_in, hash_in, id_in, list_in, moment_in, named,
+};
+use crate::read_revisions::revisions_of;
+use ion_values::{Field, OutOfMemory, Value, depth};
+use ledger_model::{Block, Content, Header, Info, Revision, Revisions};
+use ql_types::{Hash, Hash32, TxId};
+use std::alloc::Global;
+
+/// The hashes of a block.
+#[derive(Drop)]
+struct Hashes {
+    hash: Hash32,
+    entries: Hash32,
+    previous: Hash32,
+    list: [Hash; 3],
+}
+
+fn header_of(revisions: u32, fields: &[Field]) -> Option<Header>
+    ensures { result ≡ spec.header_of revisions fields.now }
+{
+    let [address, tx, time] = fields else {
+        return None;
+    };
+    let address = address_in(named(address, "blockAddress")?)?;
+    let tx = id_in(named(tx, "transactionId")?)?;
+    let time = moment_in(named(time, "blockTimestamp")?)?;
+    Some(Header {
+        address,
+        tx: TxId { raw: tx },
+        time,
+        revisions,
+    })
+}
+
+#[tactic(auto, unfolding(crate::specs::ReadBack::entries_of))]
+fn entries_of(values: &[Value]) -> Option<[Hash; 3]>
+    ensures { result ≡ spec.entries_of values.now }
+{
+    let [info, revisions, header] = values else {
+        return None;
+    };
+    let info = entry_in(info)?;
+    let revisions = entry_in(revisions)?;
+    let header = entry_in(header)?;
+    Some([info, revisions, header])
+}
+
+/// The hash in a field of this name.
+fn named_hash(field: &Field, name: &str) -> Option<Hash32>
+    ensures { result ≡ and_then (spec.named name.now field.now) spec.hash_in }
+{
+    hash_in(named(field, name)?)
+}
+
+/// The hashes of a block's entries in a field of this name.
+fn named_entries(field: &Field, name: &str) -> Option<[Hash; 3]>
+    ensures { result ≡ and_then (and_then (spec.named name.now field.now) list_in) spec.entries_of }
+{
+    entries_of(list_in(named(field, name)?)?.as_slice())
+}
+
+fn hashes_of(fields: &[Field]) -> Option<Hashes>
+    ensures { result ≡ spec.hashes_of fields.now }
+{
+    let [hash, entries, previous, list] = fields else {
+        return None;
+    };
+    let hash = named_hash(hash, "blockHash")?;
+    let entries = named_hash(entries, "entriesHash")?;
+    let previous = named_hash(previous, "previousBlockHash")?;
+    let list = named_entries(list, "entriesHashList")?;
+    Some(Hashes {
+        hash,
+        entries,
+        previous,
+        list,
+    })
+}
+
+fn revisions_in(alloc: Global, field: &Field) -> Result<Option<Revisions>, OutOfMemory>
+    ensures { IfOk result (λ revisions. revisions ≡ and_then (spec.named (codes "revisions") field.now) spec.revisions_in) }
+{
+    let Some(value) = named(field, "revisions") else {
+        return Ok(None);
+    };
+    let Some(values) = list_in(value) else {
+        return Ok(None);
+    };
+    let revisions = revisions_of(alloc, values.as_slice())?;
+    Ok(revisions)
+}
+
+fn count_of(revisions: &Revisions) -> Option<u32>
+    ensures { result ≡ spec.count_of revisions.now }
+{
+    u32::try_from(revisions.len()).ok()
+}
+
+fn info_of(alloc: Global, field: &Field, revisions: &Revisions) -> Result<Option<Info>, OutOfMemory>
+    ensures { IfOk result (λ info. info ≡ and_then (spec.named (codes "transactionInfo") field.now) (spec.info_in revisions.now)) }
+{
+    let Some(value) = named(field, "transactionInfo") else {
+        return Ok(None);
+    };
+    let info = info_in(alloc, value, revisions.as_slice())?;
+    Ok(info)
+}
+
+/// The block of the fields in front of the hashes, the hashes, and the fields behind them.
+fn parts_of(
+    alloc: Global,
+    front: &[Field],
+    hashes: &[Field],
+    entries: &[Field],
+) -> Result<Option<Block>, OutOfMemory>
+    ensures { IfOk result (λ block. block ≡ spec.parts_of front.now hashes.now entries.now) }
+{
+    let [info, revisions] = entries else {
+        return Ok(None);
+    };
+    let Some(hashes) = hashes_of(hashes) else {
+        return Ok(None);
+    };
+    let Some(revisions) = revisions_in(alloc, revisions)? else {
+        return Ok(None);
+    };
+    let Some(count) = count_of(&revisions) else {
+        return Ok(None);
+    };
+    let Some(header) = header_of(count, front) else {
+        return Ok(None);
+    };
+    let Some(info) = info_of(alloc, info, &revisions)? else {
+        return Ok(None);
+    };
+    let Hashes {
+        hash,
+        entries,
+        previous,
+        list,
+    } = hashes;
+    Ok(Some(Block {
+        header,
+        hash,
+        entries,
+        previous,
+        list,
+        info,
+        revisions,
+    }))
+}
+
+fn block_of(alloc: Global, fields: &[Field]) -> Result<Option<Block>, OutOfMemory>
+    ensures { IfOk result (λ block. block ≡ spec.block_of fields.now) }
+{
+    if fields.len() != 9 {
+        return Ok(None);
+    }
+    let (front, rest) = fields.split_at(3);
+    let (hashes, entries) = rest.split_at(4);
+    let block = parts_of(alloc, front, hashes, entries)?;
+    Ok(block)
+}
+
+/// The block whose value this is, whole or not.
+fn block_in(alloc: Global, v: &Value) -> Result<Option<Block>, OutOfMemory>
+    ensures { IfOk result (λ block. block ≡ spec.block_in v.now) }
+{
+    let Some(fields) = fields_in(v) else {
+        return Ok(None);
+    };
+    let block = block_of(alloc, fields.as_slice())?;
+    Ok(block)
+}
+
+fn are_shallow(revisions: &[Revision]) -> bool
+    ensures { result ≡ list_all (λ r. is_shallow r.content) revisions.now }
+{
+    revisions
+        .iter()
+        .all(|revision| is_shallow(&revision.content))
+}
+
+/// Whether a document nests at most 64 deep.
+fn is_shallow(content: &Content) -> bool
+    ensures { result ≡ is_shallow content.now }
+{
+    match content {
+        Content::Deleted => true,
+        Content::Kept(value) => depth(value) <= 64,
+    }
+}
+
+fn whole_in(alloc: Global, v: &Value) -> Result<Option<Block>, OutOfMemory>
+    ensures { IfOk result (λ block. block ≡ spec.whole_in v.now) }
+{
+    let Some(block) = block_in(alloc, v)? else {
+        return Ok(None);
+    };
+    if depth(v) <= 256 && are_shallow(block.revisions.as_slice()) {
+        Ok(Some(block))
+    } else {
+        Ok(None)
+    }
+}
+
+/// The whole block whose value this is. None comes exactly where no whole block has this value: `to_ion` gives no
+/// other than the block's fields in their order, the lists of a block agree, no document nests more than 64 deep and
+/// no block more than 256.
+pub fn from_ion(alloc: Global, v: &Value) -> Result<Option<Block>, OutOfMemory>
+    ensures { IfOk result (λ found. spec.IsReadAs v.now found) }
+{
+    let block = whole_in(alloc, v)?;
+    Ok(block)
+}
+
+/// A law for callers: whole blocks of one value are one block.
+pub fn values_tell_blocks()
+    ensures { spec.ValuesTellBlocks }
+{}

@@ -1,0 +1,5 @@
+pub mod Countable
+pub mod Each
+pub mod Grouped
+pub mod Moments
+pub mod Repeats

@@ -1,0 +1,136 @@
+//! Scripts: sessions, and the transactions in them.
+ghost use Rattle.std.specs.Prelude.{◌≡◌, ◌<◌, ◌≤◌, ◌^◌, length, take, All};
+ghost use Rattle.ledger_model.specs.ReadScript.{fault_at, read_each, read_placed, read_script, read_session};
+ghost use Rattle.ledger_model.specs.declared.script.ScriptKind.TheVariants as kind;
+ghost use Rattle.script_form.specs.Answers.{Gives, IsCountable, members_in};
+
+mod fields;
+mod jobs;
+mod parts;
+mod statements;
+
+use ion_values::{OutOfMemory, Value};
+use jobs::{Stop, read_job};
+use ledger_model::{Job, Script, ScriptKind, Session};
+use lists::Sequence;
+use parts::list_in;
+use std::alloc::Global;
+
+/// Why no script is read.
+#[derive(Clone, Copy, Debug, PartialEq, Eq)]
+pub enum ScriptAnswer {
+    /// The values spell none: this is the first fault in script order. Sessions and transactions are
+    /// counted from 1, and the transaction is 0 where a session is at fault.
+    Fault {
+        session: u32,
+        transaction: u32,
+        kind: ScriptKind,
+    },
+    OutOfMemory,
+}
+
+impl From<OutOfMemory> for ScriptAnswer {
+    ghost use Rattle.std.specs.Prelude.{◌≡◌};
+    ghost use Rattle.script_form.specs.declared.scripts.ScriptAnswer.TheVariants as answer;
+
+    ghost from_gives = { λ _ e. e ≡ answer.OutOfMemory };
+
+    fn from(_error: OutOfMemory) -> ScriptAnswer {
+        ScriptAnswer::OutOfMemory
+    }
+}
+
+/// How many sessions a script has at most.
+const MOST_SESSIONS: usize = 1024;
+
+/// The script that the values of an input spell: a session is a list of transactions, and a transaction
+/// a struct of its statements, its retries, its digest and its end, of which all but the statements may
+/// be left out. `Fault` tells the first fault in script order; that there are more than 1,024 sessions
+/// is found behind the faults of these.
+pub fn read_script(alloc: Global, values: &[Value]) -> Result<Script, ScriptAnswer>
+    requires { All IsCountable values.now }
+    ensures { Gives result (read_script values.now) }
+{
+    let script = read_sessions(alloc, served(values))?;
+    if values.len() > MOST_SESSIONS {
+        return Err(fault_at(1025, 0, ScriptKind::TooManySessions));
+    }
+    Ok(script)
+}
+
+/// The first 1,024 values, which are read as sessions.
+fn served(values: &[Value]) -> &[Value]
+    ensures value { result.now ≡ take 1024 values.now }
+    ensures few { length result.now ≤ 1024 }
+{
+    if values.len() > MOST_SESSIONS {
+        &values[..MOST_SESSIONS]
+    } else {
+        values
+    }
+}
+
+fn fault_at(session: u32, transaction: u32, kind: ScriptKind) -> ScriptAnswer
+    ensures { result ≡ ScriptAnswer.Fault session transaction kind }
+{
+    ScriptAnswer::Fault {
+        session,
+        transaction,
+        kind,
+    }
+}
+
+/// The sessions that values spell, the first one being session 1.
+fn read_sessions(alloc: Global, values: &[Value]) -> Result<Script, ScriptAnswer>
+    requires few { length values.now < 2 ^ 32 }
+    requires countable { All IsCountable values.now }
+    ensures { Gives result (read_each read_session 1 values.now) }
+{
+    let mut script = Sequence::new(alloc);
+    'sessions: for (at, value) in values.iter().enumerate() {
+        let session = read_session(alloc, at as u32 + 1, value)?;
+        script.push(session)?;
+    }
+    Ok(script)
+}
+
+/// The session that a value spells.
+fn read_session(alloc: Global, session: u32, value: &Value) -> Result<Session, ScriptAnswer>
+    requires { IsCountable value.now }
+    ensures { Gives result (read_session session value.now) }
+{
+    let Some(members) = list_in(value) else {
+        return Err(fault_at(session, 0, ScriptKind::NotASession));
+    };
+    let jobs = read_jobs(alloc, session, members.as_slice())?;
+    Ok(jobs)
+}
+
+/// The transactions that the members of a session spell, the first one being transaction 1.
+fn read_jobs(alloc: Global, session: u32, members: &[Value]) -> Result<Session, ScriptAnswer>
+    requires { length members.now < 2 ^ 32 }
+    ensures { Gives result (read_each (read_placed session) 1 members.now) }
+{
+    let mut jobs = Sequence::new(alloc);
+    'jobs: for (at, member) in members.iter().enumerate() {
+        let job = read_placed(alloc, session, at as u32 + 1, member)?;
+        jobs.push(job)?;
+    }
+    Ok(jobs)
+}
+
+/// The transaction that a value spells at a place of the script.
+fn read_placed(
+    alloc: Global,
+    session: u32,
+    transaction: u32,
+    value: &Value,
+) -> Result<Job, ScriptAnswer>
+    ensures { Gives result (read_placed session transaction value.now) }
+{
+    match read_job(alloc, value) {
+        Ok(job) => Ok(job),
+        Err(Stop::Kind(kind)) => Err(fault_at(session, transaction, kind)),
+        Err(Stop::OutOfMemory) => Err(ScriptAnswer::OutOfMemory),
+    }
+}

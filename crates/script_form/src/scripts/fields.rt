@@ -1,0 +1,149 @@
+//! The fields of a transaction.
+ghost use Rattle.std.specs.Prelude.{◌≡◌, IfOk, Err};
+ghost use Rattle.std.specs.Option.{option_copied, ok_or};
+ghost use Rattle.std.specs.List.{list_any};
+ghost use Rattle.ledger_model.specs.ReadScript.{abort_in, abort_said, digest_in, digest_said, is_known, is_unknown, named, repeats, retries_in, retries_of, retries_said, statements_said};
+ghost use Rattle.script_form.specs.Answers.{GivesKind};
+
+use super::jobs::Stop;
+use super::parts::{blob_in, int_in, symbol_in};
+use super::statements::statements_in;
+use ion_values::{Field, OutOfMemory, Value};
+use ledger_model::{Asked, ScriptKind};
+use ql_types::Hash32;
+use std::alloc::Global;
+use std::collections::BTreeSet;
+
+fn is_known(name: &str) -> bool
+    ensures { result ≡ is_known name.now }
+{
+    name == "statements" || name == "retries" || name == "digest" || name == "end"
+}
+
+fn is_unknown(field: &Field) -> bool
+    ensures { result ≡ is_unknown field.now }
+{
+    !is_known(field.name.as_str())
+}
+
+/// Whether a field has a name that no field of a transaction has.
+pub fn has_unknown(fields: &[Field]) -> bool
+    ensures { result ≡ list_any is_unknown fields.now }
+{
+    fields.iter().any(|field| is_unknown(field))
+}
+
+/// Whether two fields have one name. The fields are gone over once, with the names behind in a set.
+pub fn repeats(alloc: Global, fields: &[Field]) -> Result<bool, OutOfMemory>
+    ensures { IfOk result (λ found. found ≡ repeats fields.now) }
+{
+    let mut names = BTreeSet::new(alloc);
+    let mut left = fields.len();
+    'fields: while left > 0 {
+        left -= 1;
+        if !names.insert(fields[left].name.as_str())? {
+            return Ok(true);
+        }
+    }
+    Ok(false)
+}
+
+/// The value of the first field of that name.
+fn named<'a>(name: &str, fields: &'a [Field]) -> Option<&'a Value>
+    ensures { option_copied result ≡ named name.now fields.now }
+{
+    'fields: for field in fields {
+        if field.name.as_str() == name {
+            return Some(&field.value);
+        }
+    }
+    None
+}
+
+/// The statements, which may not be left out.
+pub fn statements_said(alloc: Global, fields: &[Field]) -> Result<Asked, Stop>
+    ensures { GivesKind result (statements_said fields.now) }
+{
+    let Some(value) = named("statements", fields) else {
+        return Err(Stop::Kind(ScriptKind::MissingField));
+    };
+    match statements_in(alloc, value)? {
+        Some(asked) => Ok(asked),
+        None => Err(Stop::Kind(ScriptKind::NotAStatement)),
+    }
+}
+
+fn retries_of(number: i128) -> Option<u32>
+    ensures { result ≡ retries_of number }
+{
+    if 0 <= number && number <= 100 {
+        Some(number as u32)
+    } else {
+        None
+    }
+}
+
+fn retries_in(value: &Value) -> Option<u32>
+    ensures { result ≡ retries_in value.now }
+{
+    retries_of(int_in(value)?)
+}
+
+/// How often a transaction is tried again, 4 times where nothing is said.
+pub fn retries_said(fields: &[Field]) -> Result<u32, Stop>
+    ensures { GivesKind result (retries_said fields.now) }
+{
+    let Some(value) = named("retries", fields) else {
+        return Ok(4);
+    };
+    match retries_in(value) {
+        Some(retries) => Ok(retries),
+        None => Err(Stop::Kind(ScriptKind::BadRetries)),
+    }
+}
+
+fn digest_in(value: &Value) -> Option<Option<Hash32>>
+    ensures { result ≡ digest_in value.now }
+{
+    let bytes = blob_in(value)?;
+    match <[u8; 32]>::try_from(bytes.as_slice()) {
+        Ok(bytes) => Some(Some(Hash32 { bytes })),
+        Err(_) => None,
+    }
+}
+
+/// The digest that is sent in place of the computed one.
+pub fn digest_said(fields: &[Field]) -> Result<Option<Hash32>, Stop>
+    ensures { GivesKind result (digest_said fields.now) }
+{
+    let Some(value) = named("digest", fields) else {
+        return Ok(None);
+    };
+    match digest_in(value) {
+        Some(digest) => Ok(digest),
+        None => Err(Stop::Kind(ScriptKind::BadDigest)),
+    }
+}
+
+fn abort_in(value: &Value) -> Option<bool>
+    ensures { result ≡ abort_in value.now }
+{
+    match symbol_in(value)?.as_str() {
+        "commit" => Some(false),
+        "abort" => Some(true),
+        _ => None,
+    }
+}
+
+/// Whether the transaction is given up.
+pub fn abort_said(fields: &[Field]) -> Result<bool, Stop>
+    ensures { GivesKind result (abort_said fields.now) }
+{
+    let Some(value) = named("end", fields) else {
+        return Ok(false);
+    };
+    match abort_in(value) {
+        Some(abort) => Ok(abort),
+        None => Err(Stop::Kind(ScriptKind::BadEnd)),
+    }
+}

@@ -1,0 +1,68 @@
+//! A transaction of a script.
+ghost use Rattle.std.specs.Prelude.{◌≡◌};
+ghost use Rattle.ledger_model.specs.ReadScript.{job_of_fields, job_said, read_job};
+ghost use Rattle.script_form.specs.Answers.{GivesKind};
+
+use super::fields::{abort_said, digest_said, has_unknown, repeats, retries_said, statements_said};
+use super::parts::fields_in;
+use ion_values::{Field, OutOfMemory, Value};
+use ledger_model::{Job, ScriptKind};
+use std::alloc::Global;
+
+/// Why no transaction is read.
+#[derive(Clone, Copy, Debug, PartialEq, Eq)]
+pub enum Stop {
+    Kind(ScriptKind),
+    OutOfMemory,
+}
+
+impl From<OutOfMemory> for Stop {
+    ghost use Rattle.std.specs.Prelude.{◌≡◌};
+    ghost use Rattle.script_form.specs.declared.scripts.jobs.Stop.TheVariants as stop;
+
+    ghost from_gives = { λ _ e. e ≡ stop.OutOfMemory };
+
+    fn from(_error: OutOfMemory) -> Stop {
+        Stop::OutOfMemory
+    }
+}
+
+/// What the fields say, one after another.
+fn job_said(alloc: Global, fields: &[Field]) -> Result<Job, Stop>
+    ensures { GivesKind result (job_said fields.now) }
+{
+    let statements = statements_said(alloc, fields)?;
+    let retries = retries_said(fields)?;
+    let digest = digest_said(fields)?;
+    let abort = abort_said(fields)?;
+    Ok(Job {
+        statements,
+        retries,
+        digest,
+        abort,
+    })
+}
+
+fn job_of_fields(alloc: Global, fields: &[Field]) -> Result<Job, Stop>
+    ensures { GivesKind result (job_of_fields fields.now) }
+{
+    if repeats(alloc, fields)? {
+        return Err(Stop::Kind(ScriptKind::RepeatedField));
+    }
+    if has_unknown(fields) {
+        return Err(Stop::Kind(ScriptKind::UnknownField));
+    }
+    let job = job_said(alloc, fields)?;
+    Ok(job)
+}
+
+/// The transaction that a value spells, or the first of the kinds of faults that it has.
+pub fn read_job(alloc: Global, value: &Value) -> Result<Job, Stop>
+    ensures { GivesKind result (read_job value.now) }
+{
+    let Some(fields) = fields_in(value) else {
+        return Err(Stop::Kind(ScriptKind::NotATransaction));
+    };
+    let job = job_of_fields(alloc, fields.as_slice())?;
+    Ok(job)
+}
