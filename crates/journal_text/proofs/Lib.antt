@@ -2,3 +2,17 @@ mod Pieces
 mod Scalars
 mod Written
 pub mod Lasts
+pub mod Admits
+pub mod After
+pub mod Changed
+pub mod Distinct
+pub mod Fields
+pub mod Makers
+pub mod Passes
+pub mod Recorded
+pub mod Feeds
+pub mod Readings
+pub mod LineReads
+pub mod Growing
+pub mod FirstFeed
+pub mod TableSteps

@@ -1,1 +1,5 @@
 pub mod OneLine
+pub mod Stands
+pub mod Laws
+pub mod Lines
+pub mod Reading

@@ -1,13 +1,16 @@
 //! The checks of a block behind the blocks before it: where it stands, whose it is and when it was made.
-ghost use Rattle.std.specs.Prelude.{◌≡◌, ◌&&◌, ◌==◌, ◌^◌, nat_le, nat_lt, IfOk};
+ghost use Rattle.std.specs.Prelude.{◌≡◌, ◌&&◌, ◌==◌, ◌^◌, nat_le, nat_lt, List, [], ◌∷◌, ◌++◌, None, IfOk};
 ghost use Rattle.std.specs.Option.{option_copied};
 ghost use Rattle.ql_types.specs.Ids.{transaction_in, thing_in};
 ghost use Rattle.ledger_model.specs.Legal.{last_hash};
+ghost use Rattle.ledger_model.specs.declared.block.Block.{Block};
 ghost use Rattle.ledger_model.specs.Damages as spec;
+ghost use Rattle.journal_text.specs.Stands.{Stands};
 
-use block_form::strand_hash;
+use crate::registry::Registry;
+use block_form::{has_hashes, strand_hash};
 use ion_values::OutOfMemory;
-use ledger_model::Block;
+use ledger_model::{Block, Damage};
 use ql_types::{Hash32, IdMask, StrandId, TxId, id_parts};
 use std::alloc::Global;
 
@@ -39,6 +42,14 @@ fn is_transaction(strand: StrandId, tx: TxId) -> bool
         Some((number, thing)) => 1 <= number && thing == 0,
         None => false,
     }
+}
+
+/// Whether the id is that of a transaction of the strand, from 1 on, and no earlier block has it.
+fn has_id(registry: &Registry, strand: StrandId, block: &Block) -> bool
+    ensures { (before : List Block) → Stands strand.raw before registry.now → result ≡ spec.has_id strand.raw before block.now }
+{
+    let tx = block.header.tx;
+    is_transaction(strand, tx) && !registry.has_transaction(tx)
 }
 
 fn last_block(before: &[Block]) -> Option<&Block>
@@ -81,4 +92,38 @@ fn has_previous(
 {
     let last = last_hash(alloc, strand, before)?;
     Ok(block.previous.bytes == last.bytes)
+}
+
+/// The first check that the block fails behind these blocks, of which the registry is. Where it fails none the registry
+/// has taken it in; else, and after want of memory, the registry is of no more use.
+pub(crate) fn damage_of(
+    alloc: Global,
+    registry: &mut Registry,
+    before: &[Block],
+    block: &Block,
+) -> Result<Option<Damage>, OutOfMemory>
+    requires { Stands (spec.strand_of before.now block.now) before.now registry.old }
+    ensures kind { IfOk result (λ kind. kind ≡ spec.damage_behind before.now block.now) }
+    ensures stands { IfOk result (λ kind. kind ≡ None → Stands (spec.strand_of before.now block.now) (before.now ++ block.now ∷ []) registry.new) }
+{
+    let strand = strand_of(before, block);
+    if !has_address(strand, before, block) {
+        return Ok(Some(Damage::WrongAddress));
+    }
+    if !has_id(registry, strand, block) {
+        return Ok(Some(Damage::WrongId));
+    }
+    if !has_time(before, block) {
+        return Ok(Some(Damage::TimeFell));
+    }
+    if !has_previous(alloc, strand, before, block)? {
+        return Ok(Some(Damage::WrongPrevious));
+    }
+    if !has_hashes(alloc, block)? {
+        return Ok(Some(Damage::WrongHash));
+    }
+    if !registry.admit(alloc, strand, block)? {
+        return Ok(Some(Damage::WrongState));
+    }
+    Ok(None)
 }

@@ -2,14 +2,19 @@
 #![tactic(auto)]
 
 ghost use Rattle.std.specs.Prelude.{◌≡◌, IfOk};
-ghost use Rattle.journal_text.specs.OneLine.{WrittenOnOneLine};
 ghost use Rattle.ledger_model.specs.Journal.{line};
 
 mod checks;
+mod journal;
+mod laws;
+mod lines;
+mod registry;
 
 use block_form::to_ion;
 use ion_text::write;
 use ion_values::{OutOfMemory, Text};
+pub use journal::{JournalFault, read_journal};
+pub use laws::{journals_tell, written_on_one_line};
 use ledger_model::Block;
 use std::alloc::Global;
 
@@ -22,12 +27,6 @@ pub fn line(alloc: Global, block: &Block) -> Result<Text, OutOfMemory>
     text.push_str("\n")?;
     Ok(text)
 }
-
-/// A law for callers: no line feed stands in the text of a value, so a line feed behind a text
-/// tells that the whole of it was written.
-pub fn written_on_one_line()
-    ensures { WrittenOnOneLine }
-{}
 
 #[cfg(test)]
 mod tests;

@@ -113,7 +113,7 @@ fn fault_of(fault: OutFault) -> RunFault
 
 /// The report of one outcome, that of the first transaction of the first session.
 fn report_of(alloc: Global, blocks: &Blocks, outcome: Outcome) -> Result<Text, OutOfMemory>
-    ensures { IfOk result (λ text. text ≡ report blocks.now (record { place = first_place; outcome = outcome } ∷ [])) }
+    ensures { IfOk result (λ text. text ≡ report blocks.now.list (record { place = first_place; outcome = outcome } ∷ [])) }
 {
     let place = Place {
         session: 1,
@@ -137,12 +137,12 @@ fn outcome_of(end: CommitEnd, tx: TxId) -> Outcome
 
 /// The blocks that stand after a commit: the new one only where it was sealed.
 fn blocks_after(alloc: Global, end: CommitEnd, blocks: Blocks) -> Blocks
-    ensures { result ≡ blocks_after end blocks }
+    ensures { result.list ≡ blocks_after end blocks.list }
 {
     match end {
         CommitEnd::Sealed => blocks,
-        CommitEnd::StoreFault { .. } => Sequence::new(alloc),
-        CommitEnd::OutOfMemory => Sequence::new(alloc),
+        CommitEnd::StoreFault { .. } => Blocks::new(alloc),
+        CommitEnd::OutOfMemory => Blocks::new(alloc),
     }
 }
 
@@ -162,7 +162,7 @@ fn commit_block<St: JournalStore>(
     let tx = block.header.tx;
     let text = line(alloc, &block)?;
     // the room for the block is made before the store is touched
-    let mut blocks = Sequence::new(alloc);
+    let mut blocks = Blocks::new(alloc);
     blocks.push(block)?;
     let end = match commit(store, text.as_str().as_bytes()) {
         Ok(end) => end,

@@ -1,4 +1,5 @@
 pub mod Values
+pub mod Rooms
 pub mod State
 pub mod Views
 pub mod Statements

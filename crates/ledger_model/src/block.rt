@@ -106,6 +106,3 @@ pub struct Block {
     pub info: Info,
     pub revisions: Revisions,
 }
-
-/// The blocks of a journal in order.
-pub type Blocks = Sequence<Block>;

@@ -3,14 +3,16 @@
 #![tactic(auto)]
 
 mod block;
+mod blocks;
 mod damage;
 mod outcome;
 mod script;
 
 pub use block::{
-    Answer, Block, Blocks, Content, Draft, Drafts, Header, Info, Metadata, Revision, Revisions,
-    Row, Said, SaidList, Schema, SchemaList, TableIds,
+    Answer, Block, Content, Draft, Drafts, Header, Info, Metadata, Revision, Revisions, Row, Said,
+    SaidList, Schema, SchemaList, TableIds,
 };
+pub use blocks::Blocks;
 pub use damage::Damage;
 pub use outcome::{Item, Named, Outcome, Outcomes, PlacedOutcome, Refusal};
 pub use pql_model::ParseKind;

@@ -18,7 +18,7 @@ use std::alloc::Global;
 /// The report of these outcomes on these blocks: a line of Ion text for each, in order, with each of its
 /// fields. A committed transaction's answers are those of its block.
 pub fn report(alloc: Global, blocks: &Blocks, outcomes: &Outcomes) -> Result<Text, OutOfMemory>
-    ensures { IfOk result (λ text. text ≡ report blocks.now outcomes.now) }
+    ensures { IfOk result (λ text. text ≡ report blocks.now.list outcomes.now) }
 {
     let mut out = Text::new(alloc);
     'outcomes: for outcome in outcomes.as_slice() {
@@ -33,7 +33,7 @@ fn put_line(
     blocks: &Blocks,
     placed: &PlacedOutcome,
 ) -> Result<(), OutOfMemory>
-    ensures { OnOk result (out.new ≡ out.old ++ outcome_line blocks.now placed.now) }
+    ensures { OnOk result (out.new ≡ out.old ++ outcome_line blocks.now.list placed.now) }
 {
     out.push_str("{session:")?;
     put_number(alloc, out, u64::from(placed.place.session))?;

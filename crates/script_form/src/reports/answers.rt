@@ -16,9 +16,9 @@ pub fn put_block(
     blocks: &Blocks,
     number: u64,
 ) -> Result<(), OutOfMemory>
-    ensures { OnOk result (out.new ≡ out.old ++ answers_text (slice_get blocks.now number)) }
+    ensures { OnOk result (out.new ≡ out.old ++ answers_text (slice_get blocks.now.list number)) }
 {
-    match blocks.get(number as usize) {
+    match blocks.get(number) {
         Some(block) => put_answers(alloc, out, block.info.said.as_slice()),
         None => Ok(()),
     }

@@ -18,7 +18,7 @@ pub fn put_outcome(
     blocks: &Blocks,
     outcome: &Outcome,
 ) -> Result<(), OutOfMemory>
-    ensures { OnOk result (out.new ≡ out.old ++ outcome_text blocks.now outcome.now) }
+    ensures { OnOk result (out.new ≡ out.old ++ outcome_text blocks.now.list outcome.now) }
 {
     match outcome {
         Outcome::Committed { tx, block } => put_committed(alloc, out, blocks, *tx, *block),
@@ -50,7 +50,7 @@ fn put_committed(
     tx: TxId,
     block: u64,
 ) -> Result<(), OutOfMemory>
-    ensures { OnOk result (out.new ≡ out.old ++ committed_text blocks.now tx block) }
+    ensures { OnOk result (out.new ≡ out.old ++ committed_text blocks.now.list tx block) }
 {
     out.push_str("committed,tx:")?;
     put_id(out, tx.raw)?;

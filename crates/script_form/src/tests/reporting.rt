@@ -79,7 +79,7 @@ fn outcomes_are_reported(rt: HostRuntime) -> Result<(), Fail> {
         ),
         (Outcome::OutOfMemory, "out_of_memory"),
     ] {
-        let line = line(alloc, &Sequence::new(alloc), outcome)?;
+        let line = line(alloc, &Blocks::new(alloc), outcome)?;
         let wanted = wanted(alloc, said, "", "")?;
         assert_eq!(rt; line.as_str(), wanted.as_str());
     }
@@ -99,7 +99,7 @@ fn check_cause(
         statement: 2,
         cause,
     };
-    let line = line(alloc, &Sequence::new(alloc), refused)?;
+    let line = line(alloc, &Blocks::new(alloc), refused)?;
     let before = "refused,tx:\"0000000000000000018OWG\",since:1,statement:2,cause:{";
     let wanted = wanted(alloc, before, said, "}")?;
     assert_eq!(rt; line.as_str(), wanted.as_str());
@@ -192,7 +192,7 @@ fn check_item(
         since: 4,
         named: Named { block: 5, item },
     };
-    let line = line(alloc, &Sequence::new(alloc), conflict)?;
+    let line = line(alloc, &Blocks::new(alloc), conflict)?;
     let before = "conflict,tx:\"0000000000000000018OWG\",since:4,block:5,item:{";
     let wanted = wanted(alloc, before, said, "}")?;
     assert_eq!(rt; line.as_str(), wanted.as_str());
@@ -358,7 +358,7 @@ fn block(alloc: Global) -> Result<Block, Fail> {
 #[test]
 fn answers_are_reported(rt: HostRuntime) -> Result<(), Fail> {
     let alloc = rt.alloc();
-    let mut blocks = Sequence::new(alloc);
+    let mut blocks = Blocks::new(alloc);
     blocks.push(block(alloc)?)?;
     let line = line(alloc, &blocks, Outcome::Committed { tx: TX, block: 0 })?;
     assert_eq!(rt;

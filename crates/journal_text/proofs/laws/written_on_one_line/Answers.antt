@@ -1,5 +1,5 @@
 use Rattle.journal_text.proofs.Written.{written}
-use Rattle.journal_text.proofs.written_on_one_line.Goals as goal
+use Rattle.journal_text.proofs.laws.written_on_one_line.Goals as goal
 
 pub returns : goal.returns
 returns c = written

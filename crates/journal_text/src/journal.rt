@@ -1,0 +1,104 @@
+//! A journal, read line by line.
+ghost use Rattle.std.specs.Prelude.{◌≡◌, ◌≤◌, ◌+◌, ◌==◌, None, true, [], ◌∷◌, ◌++◌, drop, length, IfOk, IfErr, MatchOption};
+ghost use Rattle.std.specs.List.{position};
+ghost use Rattle.ledger_model.specs.Damages.{damage_behind};
+ghost use Rattle.ledger_model.specs.Recovered.{has_no_line_feed, IsLineOf, IsJournal};
+ghost use Rattle.journal_text.specs.Reading.{IsFault, IsRefused, StandsBehind};
+
+use crate::checks::damage_of;
+use crate::lines::block_of;
+use crate::registry::Registry;
+use ion_values::OutOfMemory;
+use ledger_model::{Block, Blocks, Damage};
+use std::alloc::Global;
+
+/// Why no journal is read.
+#[derive(Clone, Copy, Debug, PartialEq, Eq)]
+pub enum JournalFault {
+    /// The first damaged line, counted from 0, and the check that it fails first.
+    Damaged { sequence: u64, kind: Damage },
+    OutOfMemory,
+}
+
+impl From<OutOfMemory> for JournalFault {
+    ghost use Rattle.std.specs.Prelude.{◌≡◌};
+    ghost use Rattle.journal_text.specs.declared.journal.JournalFault.TheVariants as fails;
+
+    ghost from_gives = { λ _ e. e ≡ fails.OutOfMemory };
+
+    fn from(_error: OutOfMemory) -> JournalFault {
+        JournalFault::OutOfMemory
+    }
+}
+
+/// Where the first line feed stands, if there is one.
+fn first_feed(bytes: &[u8]) -> Option<usize>
+    ensures { result ≡ position (λ byte. byte == 10) bytes.now }
+{
+    bytes.iter().position(|byte| *byte == b'\n')
+}
+
+/// What stands in front of the first line feed, if there is one.
+fn first_line(bytes: &[u8]) -> Option<&[u8]>
+    ensures { MatchOption result (has_no_line_feed bytes.now ≡ true) (λ text. (has_no_line_feed text.now ≡ true) × (bytes.now ≡ text.now ++ 10 ∷ drop (length text.now + 1) bytes.now)) }
+{
+    let Some(end) = first_feed(bytes) else {
+        return None;
+    };
+    let (text, _) = bytes.split_at(end);
+    Some(text)
+}
+
+/// What stands from a place on.
+fn rest_of(bytes: &[u8], at: usize) -> &[u8]
+    requires { at ≤ length bytes.now }
+    ensures { result.now ≡ drop at bytes.now }
+{
+    let (_, rest) = bytes.split_at(at);
+    rest
+}
+
+/// The block whose line this text is, with a line feed behind it, where it passes each check behind these blocks, of
+/// which the registry is. The registry takes it in; after an error it is of no more use.
+fn next_block(
+    alloc: Global,
+    registry: &mut Registry,
+    before: &[Block],
+    text: &[u8],
+) -> Result<Block, JournalFault>
+    requires { StandsBehind before.now registry.old }
+    ensures line { IfOk result (λ b. IsLineOf (text.now ++ 10 ∷ []) b) }
+    ensures undamaged { IfOk result (λ b. damage_behind before.now b ≡ None) }
+    ensures stands { IfOk result (λ b. StandsBehind (before.now ++ b ∷ []) registry.new) }
+    ensures fault { IfErr result (λ fault. IsRefused before.now (text.now ++ 10 ∷ []) fault) }
+{
+    let sequence = before.len() as u64;
+    let Some(block) = block_of(alloc, text)? else {
+        return Err(JournalFault::Damaged {
+            sequence,
+            kind: Damage::NotALine,
+        });
+    };
+    match damage_of(alloc, registry, before, &block)? {
+        None => Ok(block),
+        Some(kind) => Err(JournalFault::Damaged { sequence, kind }),
+    }
+}
+
+/// The blocks of all whole lines of a journal, and the offset of the rest, in which no line feed stands. `Damaged` comes
+/// exactly at the first whole line that fails a check, with the first check that it fails.
+pub fn read_journal(alloc: Global, bytes: &[u8]) -> Result<(Blocks, u64), JournalFault>
+    ensures journal { IfOk result (λ read. IsJournal bytes.now read.0.list (drop read.1 bytes.now)) }
+    ensures within { IfOk result (λ read. read.1 ≤ length bytes.now) }
+    ensures fault { IfErr result (λ fault. IsFault bytes.now fault) }
+{
+    let mut blocks = Blocks::new(alloc);
+    let mut registry = Registry::new(alloc);
+    let mut at = 0;
+    'lines: while let Some(text) = first_line(rest_of(bytes, at)) {
+        let block = next_block(alloc, &mut registry, blocks.as_slice(), text)?;
+        blocks.push(block)?;
+        at += text.len() + 1;
+    }
+    Ok((blocks, at as u64))
+}

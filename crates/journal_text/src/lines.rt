@@ -1,0 +1,64 @@
+//! One line of a journal, read back.
+ghost use Rattle.std.specs.Prelude.{◌≡◌, ◌≢◌, [], ◌∷◌, ◌++◌, IfOk, IsTrue, ◌↔◌, MatchOption};
+ghost use Rattle.ion_values.specs.declared.value.Value.{Value};
+ghost use Rattle.ion_forms.specs.Write.{value_text};
+ghost use Rattle.journal_text.specs.Lines.{GivesOne, IsLineRead};
+
+use block_form::from_ion;
+use ion_text::{ReadFault, read_is_within, read_stream, write, written_is_read};
+use ion_values::{OutOfMemory, Value, Values};
+use ledger_model::Block;
+use std::alloc::Global;
+
+/// How deep a block nests at most.
+const DEEPEST: u32 = 256;
+
+/// The value of a list of one.
+fn only(mut values: Values) -> Option<Value>
+    ensures { MatchOption result ((v : Value) → values ≢ v ∷ []) (λ v. values ≡ v ∷ []) }
+{
+    if values.len() == 1 {
+        values.pop()
+    } else {
+        None
+    }
+}
+
+/// The value that a text gives, where it gives one and no other.
+fn only_value(alloc: Global, text: &[u8]) -> Result<Option<Value>, OutOfMemory>
+    ensures { IfOk result (λ found. GivesOne text.now found) }
+{
+    match read_stream(alloc, text, DEEPEST) {
+        Ok(values) => Ok(only(values)),
+        Err(ReadFault::Ion(_)) => Ok(None),
+        Err(ReadFault::OutOfMemory) => Err(OutOfMemory),
+    }
+}
+
+/// Whether this is the text that is written of the value.
+fn is_written(alloc: Global, value: &Value, text: &[u8]) -> Result<bool, OutOfMemory>
+    ensures { IfOk result (λ b. IsTrue b ↔ (text.now ≡ value_text value.now)) }
+{
+    let written = write(alloc, value)?;
+    Ok(written.as_str().as_bytes() == text)
+}
+
+/// The whole block whose line this text is, with a line feed behind it. None comes exactly where it is that of no whole
+/// block.
+pub(crate) fn block_of(alloc: Global, text: &[u8]) -> Result<Option<Block>, OutOfMemory>
+    ensures { IfOk result (λ found. IsLineRead (text.now ++ 10 ∷ []) found) }
+{
+    written_is_read();
+    read_is_within();
+    let Some(value) = only_value(alloc, text)? else {
+        return Ok(None);
+    };
+    let Some(block) = from_ion(alloc, &value)? else {
+        return Ok(None);
+    };
+    if is_written(alloc, &value, text)? {
+        Ok(Some(block))
+    } else {
+        Ok(None)
+    }
+}
