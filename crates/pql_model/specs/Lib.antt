@@ -1,0 +1,17 @@
+pub mod Expressions
+pub mod Grammar
+pub mod Parameters
+pub mod Parse
+pub mod Productions
+pub mod Rules
+pub mod Tokens
+pub mod Words
+pub mod Made
+pub mod Arithmetic
+pub mod Comparisons
+pub mod Lists
+pub mod Logic
+pub mod Steps
+pub mod Texts
+pub mod Meaning
+pub mod MeaningDepth

@@ -1,5 +1,25 @@
-//! What PartiQL statements are made of. So far it is the kinds of their faults.
+//! What PartiQL statements are made of, and the definitions of their tokens, their grammar and their
+//! meaning, which the contracts of the crates above cite.
 #![tactic(auto)]
+
+mod counts;
+mod expr;
+mod laws;
+mod mark;
+mod scope;
+mod statement;
+mod token;
+
+pub use counts::parameters;
+pub use expr::{Expr, Exprs, Member, Members, Operator, Path, PathStep, PathSteps};
+pub use laws::depth_is_bounded;
+pub use mark::{Mark, Marks, Place, Role};
+pub use scope::{Bindings, Bound, Evaluated, Scope};
+pub use statement::{
+    Change, FromClause, Select, SelectItem, SelectItems, Setting, Settings, Source, SourceKind,
+    Sources, Statement,
+};
+pub use token::{Lexed, Located, Symbol, Token, Tokens};
 
 /// Why a text is no statement.
 #[derive(Clone, Copy, Debug, PartialEq, Eq)]

@@ -1,0 +1,19 @@
+//! What expressions mean under one row and the parameters of a statement.
+#![tactic(auto)]
+
+mod arithmetic;
+mod comparisons;
+mod containers;
+mod evaluation;
+mod logic;
+mod made;
+mod operators;
+mod paths;
+mod patterns;
+mod texts;
+mod words;
+
+pub use evaluation::eval;
+
+#[cfg(test)]
+mod tests;
