@@ -1,16 +1,22 @@
 -- What a run claims of the blocks that it leaves and of the outcomes that it tells: the blocks are one serial history,
 -- and each outcome is true of it.
-use Rattle.std.specs.Prelude.{◌≡◌, ℕ, ◌<◌, ◌≤◌, List, [], ◌∷◌, length, take, drop, slice_get, Some, Contains, false}
+use Rattle.std.specs.Prelude.{◌≡◌, ℕ, ◌+◌, ◌^◌, ◌<◌, ◌≤◌, ◌-◌, max, List, [], ◌∷◌, ◌++◌, length, take, drop, slice_get, Some, Contains, true, false}
 use Rattle.std.specs.List.{AllByRecursion}
 use Rattle.ion_values.specs.declared.time.TimeParts.{TimeParts}
-use Rattle.ql_types.specs.Ids.{raw_id}
+use Rattle.ql_types.specs.Ids.{raw_id, transaction_in}
 use Rattle.ql_types.specs.declared.Place.{Place}
 use Rattle.ql_types.specs.declared.TxId.{TxId}
 use Rattle.ledger_model.specs.declared.block.Block.{Block}
 use Rattle.ledger_model.specs.declared.outcome.Outcome.{Outcome}
-use Rattle.ledger_model.specs.declared.outcome.Outcome.TheVariants.{Committed, StoreFault, OutOfMemory}
+use Rattle.ledger_model.specs.declared.outcome.Outcome.TheVariants.{Committed, Conflict, Refused, DigestDiffers, StoreFault, JournalFull, IdsSpent, Aborted, OutOfMemory}
 use Rattle.ledger_model.specs.declared.outcome.PlacedOutcome.{PlacedOutcome}
+use Rattle.ledger_model.specs.declared.outcome.Refusal.{Refusal}
+use Rattle.ledger_model.specs.State.{state}
+use Rattle.ledger_model.specs.Run.{Progress, Ran, run, ran, refused}
 use Rattle.ledger_model.specs.Legal.{Legal, asked_in}
+use Rattle.ledger_model.specs.Follows.{all_differ}
+use Rattle.ledger_model.specs.Damages.{Undamaged}
+use Rattle.ledger_model.specs.Making.{time_behind}
 use Rattle.ledger_model.specs.Script.{Placed}
 
 -- what a run was told and what it left: the mask of the ids, the time of its blocks, the script's jobs in order, how
@@ -28,6 +34,13 @@ pub record RunRecord : Type 0 where
 -- the blocks that the run made
 abbrev pub made : RunRecord → List Block
 made t = drop (length t.before) t.after
+
+-- ---- the blocks
+
+-- each block is as late as the one before it, or has this time where that is later
+abbrev pub HaveTimes : TimeParts → List Block → List Block → Type 0
+HaveTimes time before [] = Unit {0}
+HaveTimes time before (b ∷ bs) = (b.header.time ≡ time_behind before time) × HaveTimes time (before ++ b ∷ []) bs
 
 -- the block is that of this job: it has the job's place and statements, and the job is to be committed
 pub record IsOfJob (b : Block) (p : Placed) : Type 0 where
@@ -49,6 +62,82 @@ abbrev pub InSessionOrder : List Block → Type 0
 InSessionOrder [] = Unit {0}
 InSessionOrder (b ∷ bs) = AllByRecursion (Before b.info.place) bs × InSessionOrder bs
 
+-- the blocks are a history of the script's jobs: what holds of them whatever is told
+pub record FitsBlocks (t : RunRecord) : Type 0 where
+  pub begins : take (length t.before) t.after ≡ t.before
+  pub undamaged : Undamaged t.after
+  pub serial : Legal t.mask t.after (length t.before)
+  pub times : HaveTimes t.time t.before (made t)
+  pub of_jobs : AllByRecursion (IsOfSomeJob t.jobs) (made t)
+  pub once : InSessionOrder (made t)
+
+-- ---- transactions and their numbers
+
+-- the greatest number of a transaction of the journal, 0 where there is none
+abbrev pub greatest : ℕ → List Block → ℕ
+greatest mask [] = 0
+greatest mask (b ∷ bs) = max (transaction_in mask b.header.tx.raw) (greatest mask bs)
+
+-- how many attempts the jobs may make: each one, and again after each conflict
+abbrev pub attempts : List Placed → ℕ
+attempts [] = 0
+attempts (p ∷ ps) = (p.job.retries + 1) + attempts ps
+
+-- the transaction has a number of this run
+pub record HasNumber (t : RunRecord) (tx : TxId) (number : ℕ) : Type 0 where
+  pub id : tx.raw ≡ raw_id t.mask number 0
+  pub above : greatest t.mask t.before < number
+  pub within : number ≤ greatest t.mask t.before + attempts t.jobs
+
+-- the ids of the transactions that the outcomes tell, in order
+abbrev pub told_id : Outcome → List ℕ
+told_id (Committed tx block) = tx.raw ∷ []
+told_id (Conflict tx since named) = tx.raw ∷ []
+told_id (Refused tx since statement cause) = tx.raw ∷ []
+told_id (DigestDiffers tx since mine given) = tx.raw ∷ []
+told_id (StoreFault tx count) = tx.raw ∷ []
+told_id (JournalFull tx blocks) = tx.raw ∷ []
+told_id (IdsSpent last) = []
+told_id (Aborted tx since) = tx.raw ∷ []
+told_id OutOfMemory = []
+
+abbrev pub told_ids : List PlacedOutcome → List ℕ
+told_ids [] = []
+told_ids (o ∷ os) = told_id o.outcome ++ told_ids os
+
+-- how often the store had failed, where the outcomes tell it
+abbrev pub told_count : Outcome → List ℕ
+told_count (StoreFault tx count) = count ∷ []
+told_count _ = []
+
+abbrev pub told_counts : List PlacedOutcome → List ℕ
+told_counts [] = []
+told_counts (o ∷ os) = told_count o.outcome ++ told_counts os
+
+-- ---- on which blocks a transaction ran
+
+-- the block that an outcome tells stands below
+abbrev pub IsBelow : ℕ → Outcome → Type 0
+IsBelow since (Committed tx block) = block < since
+IsBelow since _ = Unit {0}
+
+-- The transaction ran on the first `since` blocks: those before the run, and each one that a job which runs before this one
+-- committed. One after another, all jobs in front of it do.
+pub record IsFresh (t : RunRecord) (done : List PlacedOutcome) (since : ℕ) : Type 0 where
+  pub from_before : length t.before ≤ since
+  pub not_past : since ≤ length t.after
+  pub above : AllByRecursion (λ o. IsBelow since o.outcome) done
+
+-- how the job's statements end on the first `since` blocks
+abbrev pub ran_on : RunRecord → Placed → ℕ → ℕ → Ran
+ran_on t p number since = run (record { mask = t.mask; number = number }) (state (take since t.after)) p.job.statements
+
+-- ---- the outcomes
+
+-- no block of the run is the job's
+abbrev pub HasNoBlock : RunRecord → Placed → Type 0
+HasNoBlock t p = AllByRecursion (λ b. b.info.place ≡ p.place → ⊥) (made t)
+
 -- the block of this number was made by the run, and it is the transaction's
 pub record IsCommitted (t : RunRecord) (p : Placed) (tx : TxId) (block : ℕ) : Type 0 where
   pub sealed : Block
@@ -56,36 +145,73 @@ pub record IsCommitted (t : RunRecord) (p : Placed) (tx : TxId) (block : ℕ) : 
   pub there : slice_get t.after block ≡ Some sealed
   pub place : sealed.info.place ≡ p.place
   pub id : sealed.header.tx ≡ tx
+  pub number : ℕ
+  pub numbered : HasNumber t tx number
+
+-- this statement is refused where the transaction ran
+pub record IsRefused (t : RunRecord) (done : List PlacedOutcome) (p : Placed) (tx : TxId) (since statement : ℕ) (cause : Refusal) : Type 0 where
+  pub number : ℕ
+  pub numbered : HasNumber t tx number
+  pub fresh : IsFresh t done since
+  pub ends : ran_on t p number since ≡ refused statement cause
+  pub blockless : HasNoBlock t p
+
+-- the job says so, and none of its statements is refused
+pub record IsAborted (t : RunRecord) (done : List PlacedOutcome) (p : Placed) (tx : TxId) (since : ℕ) : Type 0 where
+  pub number : ℕ
+  pub numbered : HasNumber t tx number
+  pub fresh : IsFresh t done since
+  pub progress : Progress
+  pub ends : ran_on t p number since ≡ ran progress
+  pub aborts : p.job.abort ≡ true
+  pub blockless : HasNoBlock t p
 
 -- the store failed in the transaction's commit, and then had failed so often
-pub record IsStoreFault (t : RunRecord) (tx : TxId) (count : ℕ) : Type 0 where
+pub record IsStoreFault (t : RunRecord) (p : Placed) (tx : TxId) (count : ℕ) : Type 0 where
   pub number : ℕ
-  pub id : tx.raw ≡ raw_id t.mask number 0
+  pub numbered : HasNumber t tx number
+  pub commits : p.job.abort ≡ false
   pub rose : t.opened < count
   pub not_past : count ≤ t.closed
+  pub blockless : HasNoBlock t p
 
--- what an outcome says is true; want of memory may come to any transaction, and the others can't come yet
-abbrev pub Holds : RunRecord → Placed → Outcome → Type 0
-Holds t p (Committed tx block) = IsCommitted t p tx block
-Holds t p (StoreFault tx count) = IsStoreFault t tx count
-Holds t p OutOfMemory = Unit {0}
-Holds t p _ = ⊥
+-- the journal has as many blocks as it can have
+pub record IsJournalFull (t : RunRecord) (p : Placed) (tx : TxId) (blocks : ℕ) : Type 0 where
+  pub number : ℕ
+  pub numbered : HasNumber t tx number
+  pub commits : p.job.abort ≡ false
+  pub full : length t.after ≡ 2 ^ 32 - 1
+  pub told : blocks ≡ 2 ^ 32 - 1
+  pub blockless : HasNoBlock t p
 
--- an outcome for each job, in order
-abbrev pub EachHolds : RunRecord → List Placed → List PlacedOutcome → Type 0
-EachHolds t [] [] = Unit {0}
-EachHolds t (p ∷ ps) (o ∷ os) = (o.place ≡ p.place) × Holds t p o.outcome × EachHolds t ps os
-EachHolds t [] (o ∷ os) = ⊥
-EachHolds t (p ∷ ps) [] = ⊥
+-- no number is left
+pub record IsSpent (t : RunRecord) (p : Placed) (last : ℕ) : Type 0 where
+  pub greatest_last : last ≡ 2 ^ 64 - 1
+  pub reached : 2 ^ 64 ≤ greatest t.mask t.before + attempts t.jobs
+  pub blockless : HasNoBlock t p
 
--- the blocks are a history of the script's jobs: what holds of them whatever is told
-pub record FitsBlocks (t : RunRecord) : Type 0 where
-  pub begins : take (length t.before) t.after ≡ t.before
-  pub serial : Legal t.mask t.after (length t.before)
-  pub times : AllByRecursion (λ b. b.header.time ≡ t.time) (made t)
-  pub of_jobs : AllByRecursion (IsOfSomeJob t.jobs) (made t)
-  pub once : InSessionOrder (made t)
+-- what an outcome says is true, behind the outcomes of the jobs in front; want of memory may come to any transaction. No
+-- digest is sent and no two transactions run at once so far.
+abbrev pub Holds : RunRecord → List PlacedOutcome → Placed → Outcome → Type 0
+Holds t done p (Committed tx block) = IsCommitted t p tx block
+Holds t done p (Conflict tx since named) = ⊥
+Holds t done p (Refused tx since statement cause) = IsRefused t done p tx since statement cause
+Holds t done p (DigestDiffers tx since mine given) = ⊥
+Holds t done p (StoreFault tx count) = IsStoreFault t p tx count
+Holds t done p (JournalFull tx blocks) = IsJournalFull t p tx blocks
+Holds t done p (IdsSpent last) = IsSpent t p last
+Holds t done p (Aborted tx since) = IsAborted t done p tx since
+Holds t done p OutOfMemory = HasNoBlock t p
+
+-- an outcome for each job, in order, behind those of the jobs in front
+abbrev pub EachHolds : RunRecord → List PlacedOutcome → List Placed → List PlacedOutcome → Type 0
+EachHolds t done [] [] = Unit {0}
+EachHolds t done (p ∷ ps) (o ∷ os) = (o.place ≡ p.place) × Holds t done p o.outcome × EachHolds t (done ++ o ∷ []) ps os
+EachHolds t done [] (o ∷ os) = ⊥
+EachHolds t done (p ∷ ps) [] = ⊥
 
 pub record Fits (t : RunRecord) : Type 0 where
   pub blocks : FitsBlocks t
-  pub outcomes : EachHolds t t.jobs t.outcomes
+  pub outcomes : EachHolds t [] t.jobs t.outcomes
+  pub numbers : all_differ (told_ids t.outcomes) ≡ true
+  pub counts : all_differ (told_counts t.outcomes) ≡ true

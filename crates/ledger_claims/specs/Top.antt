@@ -1,18 +1,21 @@
 -- What the program does with its words, its input, its output and its store, by the status with which it ends.
-use Rattle.std.specs.Prelude.{◌≡◌, ℕ, ◌<◌, ◌⊎◌, List, [], length, String, Option, IfSome}
+use Rattle.std.specs.Prelude.{◌≡◌, ℕ, ◌⊎◌, List, String, Option, IfSome}
 use Rattle.std.specs.declared.alloc.Global.{Global}
 use Rattle.std.specs.Io.KnownBytes.{Appends}
 use Rattle.ion_values.specs.declared.time.TimeParts.{TimeParts}
+use Rattle.ledger_model.specs.declared.damage.Damage.{Damage}
 use Rattle.ledger_model.specs.declared.script.Job.{Job}
 use Rattle.ledger_model.specs.Script.{all_placed}
-use Rattle.ledger_model.specs.Unbuilt.{Judged, too_long, faulty, unbuilt, served, judged}
+use Rattle.ledger_model.specs.Recovered.{IsDamaged}
+use Rattle.ledger_model.specs.Unbuilt.{Judged, too_long, faulty, misspelt, unbuilt, served, judged}
 use Rattle.ledger_model.specs.Report.{report}
 use Rattle.ledger_claims.specs.Fits.{RunRecord, Fits, FitsBlocks}
+use Rattle.ledger_claims.specs.Attempts.{mask_of}
 use Rattle.ledger_claims.specs.Words.{IsRun}
-use Rattle.ledger_claims.specs.Lines.{BadInput, input_line}
+use Rattle.ledger_claims.specs.Lines.{BadInput, input_line, damaged_line}
 use Rattle.ledger_claims.specs.Lines as bad
 use Rattle.ledger_claims.specs.Streams.{Taken, WasRead, AppendsPart, WritesLine}
-use Rattle.ledger_claims.specs.Stores.{Holding, AllSynced, HoldingWithRest}
+use Rattle.ledger_claims.specs.Stores.{HasJournal, Holding, IsSynced, HoldingWithRest}
 
 -- ---- what the source, the sink and the store told at entry and at the end
 
@@ -60,22 +63,22 @@ pub record IsJudged (left_before left_after : Option (List ℕ)) (what : Judged)
 abbrev pub HasScript : Option (List ℕ) → Option (List ℕ) → List (List Job) → Type 0
 HasScript left_before left_after script = IsJudged left_before left_after (served script)
 
--- the record is that of a run of this script on an empty journal, with plain ids and blocks of this time
+-- the record is that of a run of this script on the store's journal, with plain ids, the journal's own or the mask 0, and
+-- blocks of this time
 pub record IsOfRun (time : TimeParts) (script : List (List Job)) (s : Stored) (t : RunRecord) : Type 0 where
-  pub plain : t.mask ≡ 0
+  pub found : HasJournal t.before s.held_before
+  pub mask_is : t.mask ≡ mask_of 0 t.before
   pub time_is : t.time ≡ time
   pub jobs : t.jobs ≡ all_placed script
   pub opened : t.opened ≡ s.faults_before
   pub closed : t.closed ≡ s.faults_after
-  pub before : t.before ≡ []
 
--- the journal was empty, the script was run, and the store holds the journal that is left, synced
+-- the script was run, and the store holds the journal that is left, synced where it was synced
 pub record IsDone (time : TimeParts) (script : List (List Job)) (s : Stored) (t : RunRecord) : Type 0 where
   pub of_run : IsOfRun time script s t
   pub fits : Fits t
-  pub was_empty : IfSome s.held_before (λ held. held ≡ [])
   pub holding : Holding t.after s.held_after
-  pub synced : AllSynced s.synced_before s.held_after s.synced_after
+  pub synced : IsSynced s.held_before s.synced_before → IsSynced s.held_after s.synced_after
 
 -- the script was run with this time, and the text is the report of that run
 pub record IsReportOf (time : TimeParts) (script : List (List Job)) (s : Stored) (text : List ℕ) : Type 0 where
@@ -131,19 +134,29 @@ pub record IsTooLong (left_before left_after : Option (List ℕ)) : Type 0 where
   pub taken : Taken left_before left_after input
   pub judged_is : judged input ≡ too_long
 
--- the input is not served so far, or it is a script that is served and the store holds something already
-abbrev pub IsUnbuilt : Option (List ℕ) → Option (List ℕ) → Option (List ℕ) → Type 0
-IsUnbuilt left_before left_after held =
-    IsJudged left_before left_after unbuilt
-    ⊎ ((script : List (List Job)) × HasScript left_before left_after script × IfSome held (λ bytes. 0 < length bytes))
-
-abbrev pub IsBadInput : BadInput → Option (List ℕ) → Option (List ℕ) → Option (List ℕ) → Type 0
-IsBadInput bad.too_long left_before left_after held = IsTooLong left_before left_after
-IsBadInput (bad.faulty fault) left_before left_after held = IsJudged left_before left_after (faulty fault)
-IsBadInput bad.unbuilt left_before left_after held = IsUnbuilt left_before left_after held
+abbrev pub IsBadInput : BadInput → Option (List ℕ) → Option (List ℕ) → Type 0
+IsBadInput bad.too_long left_before left_after = IsTooLong left_before left_after
+IsBadInput (bad.faulty fault) left_before left_after = IsJudged left_before left_after (faulty fault)
+IsBadInput (bad.misspelt fault) left_before left_after = IsJudged left_before left_after (misspelt fault)
+IsBadInput bad.unbuilt left_before left_after = IsJudged left_before left_after unbuilt
 
 -- the input is refused for this cause, and the cause's line was written
-pub record RefusesInput (io : Streams) (held : Option (List ℕ)) (sink_before sink_after : ℕ) : Type 0 where
+pub record RefusesInput (io : Streams) (sink_before sink_after : ℕ) : Type 0 where
   pub cause : BadInput
-  pub why : IsBadInput cause io.left_before io.left_after held
+  pub why : IsBadInput cause io.left_before io.left_after
   pub line : WritesLine io.written_before io.written_after sink_before sink_after (input_line cause)
+
+-- ---- a journal that is damaged
+
+-- the input is a script that is served, the store's journal was read, and this line of it fails this check first
+pub record IsDamagedAt (left_before left_after : Option (List ℕ)) (held : Option (List ℕ)) (sequence : ℕ) (kind : Damage) : Type 0 where
+  pub script : List (List Job)
+  pub has : HasScript left_before left_after script
+  pub damaged : IfSome held (λ bytes. IsDamaged bytes sequence kind)
+
+-- and the line that says so was written
+pub record RefusesJournal (io : Streams) (held : Option (List ℕ)) (sink_before sink_after : ℕ) : Type 0 where
+  pub sequence : ℕ
+  pub kind : Damage
+  pub why : IsDamagedAt io.left_before io.left_after held sequence kind
+  pub line : WritesLine io.written_before io.written_after sink_before sink_after (damaged_line sequence kind)

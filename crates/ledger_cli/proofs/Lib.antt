@@ -1,10 +1,7 @@
 pub mod CommandWords
-pub mod Committed
-pub mod Each
 pub mod Ending
-pub mod Kept
-pub mod Left
-pub mod Pairs
+pub mod Loaded
 pub mod Pieces
-pub mod Puts
+pub mod Runnable
+pub mod Running
 pub mod TimeWords

@@ -1,14 +1,17 @@
 -- What is so where a command ends, by how it ends.
-use Rattle.std.specs.Prelude.{◌≡◌, ℕ, ◌<◌, Bool, true, List, codes, String, Option, Result, Ok, Err}
+use Rattle.std.specs.Prelude.{◌≡◌, ℕ, ◌<◌, ◌⊎◌, Bool, true, List, codes, String, Option, Result, Ok, Err}
+use Rattle.std.specs.Io.KnownBytes.{Appends}
 use Rattle.std.specs.declared.alloc.Global.{Global}
 use Rattle.ion_values.specs.declared.time.TimeParts.{TimeParts}
 use Rattle.ledger_model.specs.declared.script.Job.{Job}
-use Rattle.ledger_model.specs.Unbuilt.{is_built}
-use Rattle.ledger_claims.specs.Lines.{words_line, faults_line}
+use Rattle.ledger_claims.specs.Lines.{words_line, input_line, damaged_line, faults_line}
 use Rattle.ledger_claims.specs.Words.{IsRun}
-use Rattle.ledger_claims.specs.Streams.{WritesLine}
-use Rattle.ledger_claims.specs.Top.{Streams, Stored, HasScript, HasReport, Reports, ReportsPart, Leaves, IsBadInput, RefusesInput}
-use Rattle.ledger_cli.specs.Judgements.{cause_of}
+use Rattle.ledger_claims.specs.Streams.{WritesLine, AppendsPart}
+use Rattle.ledger_claims.specs.Top.{Streams, Stored, HasScript, HasReport, Reports, ReportsPart, Leaves, IsBadInput, IsDamagedAt, RefusesInput, RefusesJournal}
+use Rattle.ledger_cli.specs.Judgements.{AreRunnable, cause_of}
+use Rattle.ledger_cli.specs.declared.run.RunFault.{RunFault}
+use Rattle.ledger_cli.specs.declared.run.RunFault.TheVariants as fault
+use Rattle.ledger_cli.specs.declared.top.Order.{Order}
 use Rattle.ledger_cli.specs.declared.top.Status.{Status}
 use Rattle.ledger_cli.specs.declared.top.Status.TheVariants as status
 use Rattle.ledger_cli.specs.declared.top.Stop.{Stop}
@@ -42,24 +45,80 @@ HasFailed s last_failed = (s.faults_before < s.faults_after) × (last_failed ≡
 
 -- there is a script that is served, or a cause why not; a store is not asked
 abbrev pub ReadsScript : Result (List (List Job)) Stop → Option (List ℕ) → Option (List ℕ) → ℕ → ℕ → Type 0
-ReadsScript (Ok script) left_before left_after before after = HasScript left_before left_after script × (is_built script ≡ true)
+ReadsScript (Ok script) left_before left_after before after = HasScript left_before left_after script × AreRunnable script
 ReadsScript (Err stop.BadWords) left_before left_after before after = ⊥
-ReadsScript (Err (stop.BadInput cause)) left_before left_after before after =
-    (held : Option (List ℕ)) → IsBadInput (cause_of cause) left_before left_after held
+ReadsScript (Err (stop.BadInput cause)) left_before left_after before after = IsBadInput (cause_of cause) left_before left_after
+ReadsScript (Err (stop.Damaged sequence kind)) left_before left_after before after = ⊥
 ReadsScript (Err stop.SourceFailed) left_before left_after before after = before < after
 ReadsScript (Err stop.StoreFailed) left_before left_after before after = ⊥
 ReadsScript (Err stop.OutOfMemory) left_before left_after before after = Unit {0}
+
+-- the words ask for a run too, or they don't
+abbrev pub IsOrdered : Result Order Stop → List (String Global) → Option (List ℕ) → Option (List ℕ) → ℕ → ℕ → Type 0
+IsOrdered (Ok order) words left_before left_after before after =
+    IsRun words order.time × HasScript left_before left_after order.script × AreRunnable order.script
+IsOrdered (Err stop.BadWords) words left_before left_after before after = IsNotAsked words
+IsOrdered (Err (stop.BadInput cause)) words left_before left_after before after = IsAsked words × IsBadInput (cause_of cause) left_before left_after
+IsOrdered (Err (stop.Damaged sequence kind)) words left_before left_after before after = ⊥
+IsOrdered (Err stop.SourceFailed) words left_before left_after before after = IsAsked words × (before < after)
+IsOrdered (Err stop.StoreFailed) words left_before left_after before after = ⊥
+IsOrdered (Err stop.OutOfMemory) words left_before left_after before after = Unit {0}
 
 -- there is the text of a report, or a cause why not
 abbrev pub Works : Result (List ℕ) Stop → List (String Global) → Option (List ℕ) → Option (List ℕ) → Stored → Bool → ℕ → ℕ → Type 0
 Works (Ok text) words left_before left_after s last_failed before after = HasReport words left_before left_after s text
 Works (Err stop.BadWords) words left_before left_after s last_failed before after = IsNotAsked words × IsUntouched s
 Works (Err (stop.BadInput cause)) words left_before left_after s last_failed before after =
-    IsAsked words × IsBadInput (cause_of cause) left_before left_after s.held_before × IsUntouched s
+    IsAsked words × IsBadInput (cause_of cause) left_before left_after × IsUntouched s
+Works (Err (stop.Damaged sequence kind)) words left_before left_after s last_failed before after =
+    IsAsked words × IsDamagedAt left_before left_after s.held_before sequence kind × IsUntouched s
 Works (Err stop.SourceFailed) words left_before left_after s last_failed before after = IsAsked words × (before < after) × IsUntouched s
 Works (Err stop.StoreFailed) words left_before left_after s last_failed before after =
     IsAsked words × HasFailed s last_failed × Leaves words left_before left_after s
 Works (Err stop.OutOfMemory) words left_before left_after s last_failed before after = Leaves words left_before left_after s
+
+-- why there is no report, by why a run has none
+abbrev pub stop_of : Result (List ℕ) RunFault → Result (List ℕ) Stop
+stop_of (Ok text) = Ok text
+stop_of (Err (fault.Damaged sequence kind)) = Err (stop.Damaged sequence kind)
+stop_of (Err fault.StoreFailed) = Err stop.StoreFailed
+stop_of (Err fault.OutOfMemory) = Err stop.OutOfMemory
+
+-- ---- how it is written
+
+-- how often the source and the store have failed, what the sink was told before and after, and how often it had failed
+pub record Written : Type 0 where
+  pub faults : ℕ
+  pub store_faults : ℕ
+  pub written_before : Option (List ℕ)
+  pub written_after : Option (List ℕ)
+  pub sink_before : ℕ
+  pub sink_after : ℕ
+
+abbrev pub WritesTo : Written → List ℕ → Type 0
+WritesTo w text = WritesLine w.written_before w.written_after w.sink_before w.sink_after text
+
+-- this status and the line, or want of memory
+abbrev pub IsLine : Status → Status → Written → List ℕ → Type 0
+IsLine s own w text = ((s ≡ own) × WritesTo w text) ⊎ (s ≡ status.OutOfMemory)
+
+-- all of the report was written, or a part of it where the sink failed or memory was wanted
+pub record IsReportEnd (s : Status) (w : Written) (text : List ℕ) : Type 0 where
+  pub known : (s ≡ status.Done) ⊎ (s ≡ status.SinkFailed) ⊎ (s ≡ status.OutOfMemory)
+  pub done : s ≡ status.Done → Appends w.written_before w.written_after text
+  pub part : AppendsPart w.written_before w.written_after text
+  pub failed : s ≡ status.SinkFailed → w.sink_before < w.sink_after
+
+abbrev pub EndsBy : Result (List ℕ) Stop → Status → Written → Type 0
+EndsBy (Ok text) s w = IsReportEnd s w text
+EndsBy (Err stop.BadWords) s w = IsLine s status.BadWords w words_line
+EndsBy (Err (stop.BadInput cause)) s w = IsLine s status.BadInput w (input_line (cause_of cause))
+EndsBy (Err (stop.Damaged sequence kind)) s w = IsLine s status.Damaged w (damaged_line sequence kind)
+EndsBy (Err stop.SourceFailed) s w = IsLine s status.SourceFailed w (faults_line (codes "4") w.faults)
+EndsBy (Err stop.StoreFailed) s w = IsLine s status.StoreFailed w (faults_line (codes "5") w.store_faults)
+EndsBy (Err stop.OutOfMemory) s w = s ≡ status.OutOfMemory
+
+-- ---- the end
 
 abbrev pub Writes : Call → List ℕ → Type 0
 Writes k text = WritesLine k.io.written_before k.io.written_after k.sink_before k.sink_after text
@@ -67,7 +126,8 @@ Writes k text = WritesLine k.io.written_before k.io.written_after k.sink_before 
 abbrev pub Ends : Status → Call → Type 0
 Ends status.Done k = Reports k.words k.io k.store
 Ends status.BadWords k = IsNotAsked k.words × Writes k words_line × IsUntouched k.store
-Ends status.BadInput k = IsAsked k.words × RefusesInput k.io k.store.held_before k.sink_before k.sink_after × IsUntouched k.store
+Ends status.BadInput k = IsAsked k.words × RefusesInput k.io k.sink_before k.sink_after × IsUntouched k.store
+Ends status.Damaged k = IsAsked k.words × RefusesJournal k.io k.store.held_before k.sink_before k.sink_after × IsUntouched k.store
 Ends status.SourceFailed k =
     IsAsked k.words × (k.source_before < k.source_after) × Writes k (faults_line (codes "4") k.source_after) × IsUntouched k.store
 Ends status.StoreFailed k =
@@ -81,6 +141,7 @@ abbrev pub number_of : Status → ℕ
 number_of status.Done = 0
 number_of status.BadWords = 1
 number_of status.BadInput = 2
+number_of status.Damaged = 3
 number_of status.SourceFailed = 4
 number_of status.StoreFailed = 5
 number_of status.SinkFailed = 6

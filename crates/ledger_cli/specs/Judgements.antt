@@ -1,7 +1,11 @@
--- What a judgement of the input in memory stands for.
-use Rattle.ledger_model.specs.Unbuilt.{Judged, too_long, faulty, unbuilt, served}
+-- What a judgement of the input in memory stands for, and what is so of a script that is run.
+use Rattle.std.specs.Prelude.{ℕ, ◌<◌, ◌^◌, List, length}
+use Rattle.std.specs.List.{AllByRecursion}
+use Rattle.ledger_model.specs.declared.script.Job.{Job}
+use Rattle.ledger_model.specs.Unbuilt.{Judged, too_long, faulty, misspelt, unbuilt, served}
 use Rattle.ledger_claims.specs.Lines.{BadInput}
 use Rattle.ledger_claims.specs.Lines as bad
+use Rattle.ledger_claims.specs.Makes.{IsWithin}
 use Rattle.ledger_cli.specs.declared.lines.BadInput as held
 use Rattle.ledger_cli.specs.declared.lines.BadInput.TheVariants as cause
 use Rattle.ledger_cli.specs.declared.served.Judgement.{Judgement}
@@ -10,10 +14,27 @@ use Rattle.ledger_cli.specs.declared.served.Judgement.TheVariants as judgement
 abbrev pub judged_of : Judgement → Judged
 judged_of judgement.TooLong = too_long
 judged_of (judgement.Faulty fault) = faulty fault
+judged_of (judgement.Misspelt fault) = misspelt fault
 judged_of judgement.Unbuilt = unbuilt
 judged_of (judgement.Served script) = served script
 
 abbrev pub cause_of : held.BadInput → BadInput
 cause_of cause.TooLong = bad.too_long
 cause_of (cause.Faulty fault) = bad.faulty fault
+cause_of (cause.Misspelt fault) = bad.misspelt fault
 cause_of cause.Unbuilt = bad.unbuilt
+
+-- each statement of these transactions is within its ranges, and they can be counted in 32 bits
+pub record IsRunnable (jobs : List Job) : Type 0 where
+  pub within : AllByRecursion (λ job. AllByRecursion IsWithin job.statements) jobs
+  pub few : length jobs < 2 ^ 32
+
+-- the same of each session of a script, and the sessions can be counted too
+pub record AreRunnable (script : List (List Job)) : Type 0 where
+  pub sessions : AllByRecursion IsRunnable script
+  pub few : length script < 2 ^ 32
+
+-- a script that is served is such
+abbrev pub ServesRunnable : Judgement → Type 0
+ServesRunnable (judgement.Served script) = AreRunnable script
+ServesRunnable _ = Unit {0}

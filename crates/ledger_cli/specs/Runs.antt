@@ -1,47 +1,104 @@
--- What the commit of a run's one block leaves, and what is told of it.
-use Rattle.std.specs.Prelude.{◌≡◌, ℕ, List, [], ◌∷◌, Result, Ok}
-use Rattle.ql_types.specs.declared.TxId.{TxId}
-use Rattle.outside.specs.declared.traits.OutFault.{OutFault}
-use Rattle.outside.specs.declared.traits.OutFault.TheVariants as out
+-- How far the run of a script has come, what is so between two of its transactions, and how it ends.
+use Rattle.std.specs.Prelude.{◌≡◌, ℕ, ◌<◌, Bool, true, false, List, ◌++◌, Option, IfSome, Result, Ok, Err}
+use Rattle.ion_values.specs.declared.time.TimeParts.{TimeParts}
 use Rattle.ledger_model.specs.declared.block.Block.{Block}
-use Rattle.ledger_model.specs.declared.outcome.Outcome.{Outcome}
-use Rattle.ledger_model.specs.declared.outcome.Outcome.TheVariants as outcome
-use Rattle.ledger_model.specs.Journal.{line}
+use Rattle.ledger_model.specs.declared.outcome.PlacedOutcome.{PlacedOutcome}
+use Rattle.ledger_model.specs.Journal.{journal_bytes}
+use Rattle.ledger_model.specs.Recovered.{IsDamaged}
 use Rattle.ledger_model.specs.Report.{report}
-use Rattle.ledger_claims.specs.Top.{Stored}
-use Rattle.ledger_cli.specs.declared.commit.CommitEnd.{CommitEnd}
-use Rattle.ledger_cli.specs.declared.commit.CommitEnd.TheVariants as end
+use Rattle.ledger_model.specs.Script.{Placed}
+use Rattle.ledger_claims.specs.Attempts.{Standing, IsStanding}
+use Rattle.ledger_claims.specs.Fits.{RunRecord, Fits}
+use Rattle.ledger_claims.specs.SoFar.{SoFar, LeavesRun, standing}
+use Rattle.ledger_claims.specs.Stores.{Holding, IsSynced}
+use Rattle.ledger_core.specs.Tails.{TellsSynced}
+use Rattle.ledger_core.specs.declared.keeping.SettleFault.{SettleFault}
+use Rattle.ledger_core.specs.declared.keeping.SettleFault.TheVariants as settle
+use Rattle.ledger_core.specs.declared.reload.LoadCause.{LoadCause}
+use Rattle.ledger_core.specs.declared.reload.LoadCause.TheVariants as load
 use Rattle.ledger_cli.specs.declared.run.RunFault.{RunFault}
-use Rattle.ledger_cli.specs.declared.run.RunFault.TheVariants as run
-use Rattle.ledger_cli.specs.Commits.{CommitLeaves}
-use Rattle.ledger_cli.specs.Transactions.{first_place}
+use Rattle.ledger_cli.specs.declared.run.RunFault.TheVariants as fault
 
-abbrev pub fault_of : OutFault → RunFault
-fault_of out.Failed = run.StoreFailed
-fault_of out.OutOfMemory = run.OutOfMemory
+-- what the ledger stands for, whether its store is to be cut, what the store tells of its bytes, of their synced length and
+-- of its failures, and the outcomes so far
+pub record Come : Type 0 where
+  pub stands : Standing
+  pub marked : Bool
+  pub held : Option (List ℕ)
+  pub synced : Option ℕ
+  pub faults : ℕ
+  pub outcomes : List PlacedOutcome
 
--- the outcome of a transaction whose commit ended so
-abbrev pub outcome_of : CommitEnd → TxId → Outcome
-outcome_of end.Sealed tx = outcome.Committed tx 0
-outcome_of (end.StoreFault count) tx = outcome.StoreFault tx count
-outcome_of end.OutOfMemory tx = outcome.OutOfMemory
+abbrev pub come : Standing → Bool → Option (List ℕ) → Option ℕ → ℕ → List PlacedOutcome → Come
+come stands marked held synced faults outcomes = record {
+  stands = stands;
+  marked = marked;
+  held = held;
+  synced = synced;
+  faults = faults;
+  outcomes = outcomes;
+}
 
--- the blocks that stand then
-abbrev pub blocks_after : CommitEnd → List Block → List Block
-blocks_after end.Sealed blocks = blocks
-blocks_after (end.StoreFault count) blocks = []
-blocks_after end.OutOfMemory blocks = []
+-- what is told of the run when it has come so far
+abbrev pub record_of : RunRecord → Come → RunRecord
+record_of t c = record t { after = c.stands.blocks; outcomes = c.outcomes; closed = c.faults }
 
-abbrev pub Left : Block → Stored → Result CommitEnd OutFault → Type 0
-Left b s ended = CommitLeaves ended (line b) s.held_after s.synced_before s.synced_after s.faults_before s.faults_after
+-- the store's bytes begin with the lines of these blocks
+abbrev pub BeginsWith : List Block → Option (List ℕ) → Type 0
+BeginsWith blocks held = IfSome held (λ bytes. (rest : List ℕ) × (bytes ≡ journal_bytes blocks ++ rest))
 
--- the block's commit ended, and the text is the report of that
-pub record IsReported (b : Block) (s : Stored) (text : List ℕ) : Type 0 where
-  pub ended : CommitEnd
-  pub left : Left b s (Ok ended)
-  pub text_is : text ≡ report (blocks_after ended (b ∷ [])) (record { place = first_place; outcome = outcome_of ended b.header.tx } ∷ [])
+-- Of this run, whose blocks have this time, these transactions are to come. What it made and told so far is true, and the
+-- store holds the journal of it, or that of one transaction more, which was not told.
+pub record IsRunning (t : RunRecord) (time : TimeParts) (rest : List Placed) (c : Come) : Type 0 where
+  pub timed : t.time ≡ time
+  pub done : List Placed
+  pub so_far : SoFar (record_of t c) done rest c.stands.last
+  pub stands_so : c.stands ≡ standing (record_of t c) c.stands.last
+  pub sound : IsStanding c.stands
+  pub left : LeavesRun (record_of t c) c.faults c.held
+  pub begins : BeginsWith c.stands.blocks c.held
 
--- the block's commit ended, or the mending of the store failed
-pub record IsStopped (b : Block) (s : Stored) : Type 0 where
-  pub ended : Result CommitEnd OutFault
-  pub left : Left b s ended
+-- the same, whatever is to come
+abbrev pub IsStopped : RunRecord → TimeParts → Come → Type 0
+IsStopped t time c = (rest : List Placed) × IsRunning t time rest c
+
+-- where nothing is to be cut, all bytes that the store tells are synced
+pub record IsKept (c : Come) : Type 0 where
+  pub tells : TellsSynced c.held c.synced
+  pub synced : c.marked ≡ false → IsSynced c.held c.synced
+
+-- ---- the end
+
+-- the text is the report of the whole run, and the store holds the journal of the blocks that it left
+pub record IsReported (t : RunRecord) (held : Option (List ℕ)) (faults : ℕ) (text : List ℕ) : Type 0 where
+  pub blocks : List Block
+  pub outcomes : List PlacedOutcome
+  pub fits : Fits (record t { after = blocks; outcomes = outcomes; closed = faults })
+  pub holding : Holding blocks held
+  pub text_is : text ≡ report blocks outcomes
+
+-- why a run has no report, by why no journal was loaded
+abbrev pub cause_of : LoadCause → RunFault
+cause_of (load.Damaged sequence kind) = fault.Damaged sequence kind
+cause_of (load.StoreFault count) = fault.StoreFailed
+cause_of load.OutOfMemory = fault.OutOfMemory
+
+-- and by why nothing was cut
+abbrev pub told : Result (List ℕ) SettleFault → Result (List ℕ) RunFault
+told (Ok text) = Ok text
+told (Err (settle.StoreFault count)) = Err fault.StoreFailed
+told (Err settle.OutOfMemory) = Err fault.OutOfMemory
+
+-- the store failed in its last call; want of memory says nothing, and no line is damaged
+abbrev pub IsSettled : RunFault → ℕ → ℕ → Bool → Type 0
+IsSettled (fault.Damaged sequence kind) before after last_failed = ⊥
+IsSettled fault.StoreFailed before after last_failed = (before < after) × (last_failed ≡ true)
+IsSettled fault.OutOfMemory before after last_failed = Unit {0}
+
+-- The store's journal is damaged there, and it was left as it was; or the store failed in its last call. Want of memory says
+-- nothing.
+abbrev pub IsRunFault : RunFault → Option (List ℕ) → Option (List ℕ) → ℕ → ℕ → Bool → Type 0
+IsRunFault (fault.Damaged sequence kind) before after faults_before faults_after last_failed =
+    IfSome before (λ bytes. IsDamaged bytes sequence kind) × (after ≡ before)
+IsRunFault fault.StoreFailed before after faults_before faults_after last_failed = (faults_before < faults_after) × (last_failed ≡ true)
+IsRunFault fault.OutOfMemory before after faults_before faults_after last_failed = Unit {0}

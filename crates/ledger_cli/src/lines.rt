@@ -1,9 +1,10 @@
 //! The lines that are written in place of a report.
 ghost use Rattle.std.specs.Prelude.{◌≡◌, ◌++◌, IfOk, OnOk};
-ghost use Rattle.ledger_claims.specs.Lines.{faulty, input_line, fault_text, faults_line, kind_name};
+ghost use Rattle.ledger_claims.specs.Lines.{damage_name, damaged_line, fault_text, faults_line, faulty, input_line, kind_name, script_fault_text, script_kind_name};
 ghost use Rattle.ledger_cli.specs.Judgements.{cause_of};
 
 use ion_values::{IonFault, IonKind, OutOfMemory, Text};
+use ledger_model::{Damage, ScriptFault, ScriptKind};
 use std::alloc::Global;
 
 /// Why an input is refused.
@@ -13,7 +14,9 @@ pub enum BadInput {
     TooLong,
     /// It is no Ion text that is read.
     Faulty(IonFault),
-    /// It spells no script that is served so far, or the store holds something already.
+    /// Its values spell no script.
+    Misspelt(ScriptFault),
+    /// It spells a script that isn't served so far.
     Unbuilt,
 }
 
@@ -35,6 +38,7 @@ fn push_cause(alloc: Global, line: &mut Text, cause: BadInput) -> Result<(), Out
     match cause {
         BadInput::TooLong => line.push_str("kind:InputTooLong")?,
         BadInput::Faulty(fault) => push_fault(alloc, line, fault)?,
+        BadInput::Misspelt(fault) => push_script_fault(alloc, line, fault)?,
         BadInput::Unbuilt => line.push_str("kind:Unbuilt")?,
     }
     Ok(())
@@ -66,6 +70,68 @@ fn kind_name(kind: IonKind) -> &'static str
         IonKind::SymbolIdRefused => "SymbolIdRefused",
         IonKind::BadTimestamp => "BadTimestamp",
         IonKind::BadBase64 => "BadBase64",
+    }
+}
+
+/// Writes the session, the transaction and the kind of a script's fault.
+fn push_script_fault(alloc: Global, line: &mut Text, fault: ScriptFault) -> Result<(), OutOfMemory>
+    ensures { OnOk result (line.new ≡ line.old ++ script_fault_text fault) }
+{
+    let session = fault.session.to_string(alloc)?;
+    let transaction = fault.transaction.to_string(alloc)?;
+    line.push_str("session:")?;
+    line.push_str(session.as_str())?;
+    line.push_str(",transaction:")?;
+    line.push_str(transaction.as_str())?;
+    line.push_str(",kind:")?;
+    line.push_str(script_kind_name(fault.kind))?;
+    Ok(())
+}
+
+/// The name of a kind of faults of scripts.
+fn script_kind_name(kind: ScriptKind) -> &'static str
+    ensures { result.now ≡ script_kind_name kind }
+{
+    match kind {
+        ScriptKind::TooManySessions => "TooManySessions",
+        ScriptKind::NotASession => "NotASession",
+        ScriptKind::NotATransaction => "NotATransaction",
+        ScriptKind::RepeatedField => "RepeatedField",
+        ScriptKind::UnknownField => "UnknownField",
+        ScriptKind::MissingField => "MissingField",
+        ScriptKind::NotAStatement => "NotAStatement",
+        ScriptKind::BadRetries => "BadRetries",
+        ScriptKind::BadDigest => "BadDigest",
+        ScriptKind::BadEnd => "BadEnd",
+    }
+}
+
+/// The error line of a journal whose line of this number, counted from 0, fails this check first.
+pub fn damaged_line(alloc: Global, sequence: u64, kind: Damage) -> Result<Text, OutOfMemory>
+    ensures { IfOk result (λ line. line ≡ damaged_line sequence kind) }
+{
+    let number = sequence.to_string(alloc)?;
+    let mut line = Text::new(alloc);
+    line.push_str("{status:3,fault:{sequence:")?;
+    line.push_str(number.as_str())?;
+    line.push_str(",kind:")?;
+    line.push_str(damage_name(kind))?;
+    line.push_str("}}\n")?;
+    Ok(line)
+}
+
+/// The name of a check that a line fails.
+fn damage_name(kind: Damage) -> &'static str
+    ensures { result.now ≡ damage_name kind }
+{
+    match kind {
+        Damage::NotALine => "NotALine",
+        Damage::WrongAddress => "WrongAddress",
+        Damage::WrongId => "WrongId",
+        Damage::TimeFell => "TimeFell",
+        Damage::WrongPrevious => "WrongPrevious",
+        Damage::WrongHash => "WrongHash",
+        Damage::WrongState => "WrongState",
     }
 }
 

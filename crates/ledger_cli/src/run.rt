@@ -1,213 +1,223 @@
-//! The run of a script of one transaction on an empty journal.
-ghost use Rattle.std.specs.Prelude.{◌≡◌, ◌<◌, ◌≤◌, ◌⊎◌, [], ◌∷◌, length, true, false, IfOk, IfSome, OnOk, OnErr, IsErrOf};
-ghost use Rattle.ledger_model.specs.State.{empty};
-ghost use Rattle.ledger_model.specs.Run.{run, ran};
-ghost use Rattle.ledger_model.specs.Report.{report};
-ghost use Rattle.ledger_model.specs.Unbuilt.{are_built, is_built};
+//! The run of a script on the journal that a store keeps.
+ghost use Rattle.std.specs.Prelude.{◌≡◌, ◌<◌, ◌≤◌, ◌⊎◌, [], ◌∷◌, ◌++◌, List, Err, IfOk, IfErr, OnOk, OnErr, vec_capacity, vec_len};
+ghost use Rattle.std.specs.List.{AllByRecursion};
+ghost use Rattle.ledger_model.specs.Script.{Placed, placed_from, all_placed};
+ghost use Rattle.ledger_claims.specs.Fits.{RunRecord};
+ghost use Rattle.ledger_claims.specs.Makes.{IsWithin};
+ghost use Rattle.ledger_claims.specs.SoFar.{LeavesRun};
+ghost use Rattle.ledger_claims.specs.Stores.{IsSynced};
 ghost use Rattle.ledger_claims.specs.Top.{IsReportOf, HoldsRun, stored};
-ghost use Rattle.ledger_cli.specs.Transactions.{progress_of, begun_of, first_place, IsFirstBlock};
-ghost use Rattle.ledger_cli.specs.Runs.{fault_of, outcome_of, blocks_after, IsReported, IsStopped};
+ghost use Rattle.ledger_core.specs.Faults.{IsSettleFault};
+ghost use Rattle.ledger_cli.specs.Judgements.{IsRunnable, AreRunnable};
+ghost use Rattle.ledger_cli.specs.Runs.{IsRunning, IsStopped, IsKept, IsReported, IsSettled, IsRunFault, cause_of, come, told};
 
-use crate::commit::{CommitEnd, commit};
-use crate::served::is_insert;
-use crate::transaction::Transaction;
 use ion_values::{IonTime, OutOfMemory, Text};
-use journal_text::{line, written_on_one_line};
-use ledger_model::{Block, Blocks, Job, Outcome, PlacedOutcome, Request, Script};
+use journal_text::written_on_one_line;
+use ledger_core::{LoadCause, LoadFault, SettleFault, Tail};
+use ledger_model::{Damage, Job, PlacedOutcome, Script, Session};
 use lists::Sequence;
-use outside::{JournalStore, OutFault};
-use ql_types::{IdMask, Place, TxId};
+use outside::JournalStore;
+use ql_types::{IdMask, Place};
 use script_form::report;
 use std::alloc::Global;
 
 /// Why a run has no report.
 #[derive(Clone, Copy, Debug, PartialEq, Eq)]
 pub enum RunFault {
-    /// The store failed, and failed again where it was to be mended.
+    /// The first damaged line of the journal, counted from 0, and the check that it fails first.
+    Damaged { sequence: u64, kind: Damage },
+    /// The store failed when the journal was read, or when it was to be cut at the end.
     StoreFailed,
-    /// The store holds a journal already.
-    NotEmpty,
     OutOfMemory,
 }
 
-impl From<OutOfMemory> for RunFault {
-    ghost use Rattle.ledger_cli.specs.declared.run.RunFault.TheVariants as fault;
-
-    ghost from_gives = { λ _ e. e ≡ fault.OutOfMemory };
-
-    fn from(_error: OutOfMemory) -> RunFault {
-        RunFault::OutOfMemory
-    }
+/// The report of a run, or why there is none, and the store and the clock that it was given.
+#[derive(Drop)]
+pub struct Ran<S, C> {
+    pub report: Result<Text, RunFault>,
+    pub store: S,
+    pub clock: C,
 }
 
-/// Runs the statements of a transaction on an empty journal.
-fn run_statements(
+/// Runs a job as the next transaction and keeps its outcome. The room for the outcome is made before, so that none is lost.
+fn run_job<S: JournalStore, C>(
     alloc: Global,
-    mask: IdMask,
-    number: u64,
-    asked: &[Request],
-) -> Result<Transaction, OutOfMemory>
-    requires { are_built asked.now ≡ true }
-    ensures begun { IfOk result (λ t. begun_of t ≡ record { mask = mask.bits; number = number }) }
-    ensures ran { IfOk result (λ t. run (record { mask = mask.bits; number = number }) empty asked.now ≡ ran (progress_of t)) }
+    job: &Job,
+    place: Place,
+    time: IonTime,
+    tail: &mut Tail<S, C>,
+    outcomes: &mut Vec<PlacedOutcome>,
+) -> Result<(), OutOfMemory>
+    requires { AllByRecursion IsWithin job.now.statements }
+    ensures runs { OnOk result ((t : RunRecord) (rest : List Placed) → IsRunning t time (record { place = place; job = job.now } ∷ rest) (come tail.old.standing tail.old.marked (S.bytes tail.old.store) (S.synced tail.old.store) (S.fault_count tail.old.store) outcomes.old.items) → IsRunning t time rest (come tail.new.standing tail.new.marked (S.bytes tail.new.store) (S.synced tail.new.store) (S.fault_count tail.new.store) outcomes.new.items)) }
+    ensures kept { OnOk result (IsKept (come tail.old.standing tail.old.marked (S.bytes tail.old.store) (S.synced tail.old.store) (S.fault_count tail.old.store) outcomes.old.items) → IsKept (come tail.new.standing tail.new.marked (S.bytes tail.new.store) (S.synced tail.new.store) (S.fault_count tail.new.store) outcomes.new.items)) }
+    ensures same { OnErr result ((tail.new ≡ tail.old) × (outcomes.new.items ≡ outcomes.old.items)) }
+    ensures later { S.fault_count tail.old.store ≤ S.fault_count tail.new.store }
+    ensures clock { tail.new.clock ≡ tail.old.clock }
 {
-    let [first, rest @ ..] = asked else {
-        unreachable!()
-    };
-    let mut transaction = Transaction::begin(alloc, mask, number);
-    let table = transaction.create(alloc, first)?;
-    'statements: for request in rest {
-        if is_insert(request) {
-            transaction.insert(alloc, table, request)?;
-        } else {
-            transaction.select(alloc, table, request)?;
-        }
-    }
-    Ok(transaction)
+    written_on_one_line();
+    outcomes.reserve(1)?;
+    let outcome = tail.attempt(alloc, job, place, time);
+    keep(outcomes, PlacedOutcome { place, outcome });
+    Ok(())
 }
 
-/// The block of a transaction of these statements, the first one of the first session, on an empty journal.
-fn first_block(alloc: Global, asked: &[Request], time: IonTime) -> Result<Block, OutOfMemory>
-    requires { are_built asked.now ≡ true }
-    ensures { IfOk result (λ block. IsFirstBlock asked.now time block) }
+/// Keeps an outcome. There is room for it.
+fn keep(outcomes: &mut Vec<PlacedOutcome>, outcome: PlacedOutcome)
+    requires { vec_len outcomes.old < vec_capacity outcomes.old }
+    ensures { outcomes.new.items ≡ outcomes.old.items ++ outcome ∷ [] }
 {
-    let place = Place {
-        session: 1,
-        transaction: 1,
-    };
-    let transaction = run_statements(alloc, IdMask { bits: 0 }, 1, asked)?;
-    let block = transaction.into_block(alloc, place, time)?;
-    Ok(block)
+    outcomes.push(outcome).unwrap();
 }
 
-/// Refuses a store that holds anything.
-fn check_empty<St: JournalStore>(store: &mut St) -> Result<(), RunFault>
-    ensures empty { OnOk result (IfSome (St.bytes store.old) (λ held. held ≡ [])) }
-    ensures more { IsErrOf result RunFault.NotEmpty → IfSome (St.bytes store.old) (λ held. 0 < length held) }
-    ensures bytes { St.bytes store.new ≡ St.bytes store.old }
-    ensures synced { St.synced store.new ≡ St.synced store.old }
-    ensures later { St.fault_count store.old ≤ St.fault_count store.new }
-    ensures failed { IsErrOf result RunFault.StoreFailed → St.fault_count store.old < St.fault_count store.new }
-    ensures last { IsErrOf result RunFault.StoreFailed → St.last_failed store.new ≡ true }
-{
-    match store.size() {
-        Ok(size) => {
-            if size == 0 {
-                Ok(())
-            } else {
-                Err(RunFault::NotEmpty)
-            }
-        }
-        Err(fault) => Err(fault_of(fault)),
-    }
-}
-
-fn fault_of(fault: OutFault) -> RunFault
-    ensures { result ≡ fault_of fault }
-{
-    match fault {
-        OutFault::Failed => RunFault::StoreFailed,
-        OutFault::OutOfMemory => RunFault::OutOfMemory,
-    }
-}
-
-/// The report of one outcome, that of the first transaction of the first session.
-fn report_of(alloc: Global, blocks: &Blocks, outcome: Outcome) -> Result<Text, OutOfMemory>
-    ensures { IfOk result (λ text. text ≡ report blocks.now.list (record { place = first_place; outcome = outcome } ∷ [])) }
-{
-    let place = Place {
-        session: 1,
-        transaction: 1,
-    };
-    let mut outcomes = Sequence::new(alloc);
-    outcomes.push(PlacedOutcome { place, outcome })?;
-    let text = report(alloc, blocks, &outcomes)?;
-    Ok(text)
-}
-
-fn outcome_of(end: CommitEnd, tx: TxId) -> Outcome
-    ensures { result ≡ outcome_of end tx }
-{
-    match end {
-        CommitEnd::Sealed => Outcome::Committed { tx, block: 0 },
-        CommitEnd::StoreFault { count } => Outcome::StoreFault { tx, count },
-        CommitEnd::OutOfMemory => Outcome::OutOfMemory,
-    }
-}
-
-/// The blocks that stand after a commit: the new one only where it was sealed.
-fn blocks_after(alloc: Global, end: CommitEnd, blocks: Blocks) -> Blocks
-    ensures { result.list ≡ blocks_after end blocks.list }
-{
-    match end {
-        CommitEnd::Sealed => blocks,
-        CommitEnd::StoreFault { .. } => Blocks::new(alloc),
-        CommitEnd::OutOfMemory => Blocks::new(alloc),
-    }
-}
-
-/// Commits block 0 to an empty store, and reports the outcome.
-fn commit_block<St: JournalStore>(
+/// Runs the jobs of the session of this number, one after another.
+fn run_session<S: JournalStore, C>(
     alloc: Global,
-    block: Block,
-    store: &mut St,
-) -> Result<Text, RunFault>
-    requires { IfSome (St.bytes store.old) (λ held. held ≡ []) }
-    ensures done { IfOk result (λ text. IsReported block (stored (St.bytes store.old) (St.bytes store.new) (St.synced store.old) (St.synced store.new) (St.fault_count store.old) (St.fault_count store.new)) text) }
-    ensures stopped { OnErr result ((St.bytes store.new ≡ St.bytes store.old) ⊎ IsStopped block (stored (St.bytes store.old) (St.bytes store.new) (St.synced store.old) (St.synced store.new) (St.fault_count store.old) (St.fault_count store.new))) }
-    ensures failed { IsErrOf result RunFault.StoreFailed → St.fault_count store.old < St.fault_count store.new }
-    ensures last { IsErrOf result RunFault.StoreFailed → St.last_failed store.new ≡ true }
-    ensures known { ¬ IsErrOf result RunFault.NotEmpty }
+    session: u32,
+    jobs: &[Job],
+    time: IonTime,
+    tail: &mut Tail<S, C>,
+    outcomes: &mut Vec<PlacedOutcome>,
+) -> Result<(), OutOfMemory>
+    requires { IsRunnable jobs.now }
+    ensures runs { OnOk result ((t : RunRecord) (rest : List Placed) → IsRunning t time (placed_from session 1 jobs.now ++ rest) (come tail.old.standing tail.old.marked (S.bytes tail.old.store) (S.synced tail.old.store) (S.fault_count tail.old.store) outcomes.old.items) → IsRunning t time rest (come tail.new.standing tail.new.marked (S.bytes tail.new.store) (S.synced tail.new.store) (S.fault_count tail.new.store) outcomes.new.items)) }
+    ensures stopped { OnErr result ((t : RunRecord) (rest : List Placed) → IsRunning t time (placed_from session 1 jobs.now ++ rest) (come tail.old.standing tail.old.marked (S.bytes tail.old.store) (S.synced tail.old.store) (S.fault_count tail.old.store) outcomes.old.items) → IsStopped t time (come tail.new.standing tail.new.marked (S.bytes tail.new.store) (S.synced tail.new.store) (S.fault_count tail.new.store) outcomes.new.items)) }
+    ensures kept { OnOk result (IsKept (come tail.old.standing tail.old.marked (S.bytes tail.old.store) (S.synced tail.old.store) (S.fault_count tail.old.store) outcomes.old.items) → IsKept (come tail.new.standing tail.new.marked (S.bytes tail.new.store) (S.synced tail.new.store) (S.fault_count tail.new.store) outcomes.new.items)) }
+    ensures later { S.fault_count tail.old.store ≤ S.fault_count tail.new.store }
+    ensures clock { tail.new.clock ≡ tail.old.clock }
 {
-    let tx = block.header.tx;
-    let text = line(alloc, &block)?;
-    // the room for the block is made before the store is touched
-    let mut blocks = Blocks::new(alloc);
-    blocks.push(block)?;
-    let end = match commit(store, text.as_str().as_bytes()) {
-        Ok(end) => end,
-        Err(fault) => return Err(fault_of(fault)),
-    };
-    let blocks = blocks_after(alloc, end, blocks);
-    let text = report_of(alloc, &blocks, outcome_of(end, tx))?;
-    Ok(text)
+    'jobs: for (at, job) in jobs.iter().enumerate() {
+        let place = Place {
+            session,
+            transaction: at as u32 + 1,
+        };
+        run_job(alloc, job, place, time, tail, outcomes)?;
+    }
+    Ok(())
 }
 
-/// The one transaction of a script that is served.
-fn only_job(script: &Script) -> &Job
-    requires { is_built script.now ≡ true }
-    ensures only { script.now ≡ (result.now ∷ []) ∷ [] }
-    ensures built { are_built result.now.statements ≡ true }
-    ensures commits { result.now.abort ≡ false }
+/// Runs the sessions, one after another, each whole.
+fn run_sessions<S: JournalStore, C>(
+    alloc: Global,
+    sessions: &[Session],
+    time: IonTime,
+    tail: &mut Tail<S, C>,
+    outcomes: &mut Vec<PlacedOutcome>,
+) -> Result<(), OutOfMemory>
+    requires { AreRunnable sessions.now }
+    ensures runs { OnOk result ((t : RunRecord) → IsRunning t time (all_placed sessions.now) (come tail.old.standing tail.old.marked (S.bytes tail.old.store) (S.synced tail.old.store) (S.fault_count tail.old.store) outcomes.old.items) → IsRunning t time [] (come tail.new.standing tail.new.marked (S.bytes tail.new.store) (S.synced tail.new.store) (S.fault_count tail.new.store) outcomes.new.items)) }
+    ensures stopped { OnErr result ((t : RunRecord) → IsRunning t time (all_placed sessions.now) (come tail.old.standing tail.old.marked (S.bytes tail.old.store) (S.synced tail.old.store) (S.fault_count tail.old.store) outcomes.old.items) → IsStopped t time (come tail.new.standing tail.new.marked (S.bytes tail.new.store) (S.synced tail.new.store) (S.fault_count tail.new.store) outcomes.new.items)) }
+    ensures kept { OnOk result (IsKept (come tail.old.standing tail.old.marked (S.bytes tail.old.store) (S.synced tail.old.store) (S.fault_count tail.old.store) outcomes.old.items) → IsKept (come tail.new.standing tail.new.marked (S.bytes tail.new.store) (S.synced tail.new.store) (S.fault_count tail.new.store) outcomes.new.items)) }
+    ensures later { S.fault_count tail.old.store ≤ S.fault_count tail.new.store }
+    ensures clock { tail.new.clock ≡ tail.old.clock }
 {
-    let [session] = script.as_slice() else {
-        unreachable!()
-    };
-    let [job] = session.as_slice() else {
-        unreachable!()
-    };
-    job
+    'sessions: for (at, jobs) in sessions.iter().enumerate() {
+        run_session(alloc, at as u32 + 1, jobs.as_slice(), time, tail, outcomes)?;
+    }
+    Ok(())
 }
 
-/// Runs the script on an empty store, with its block made at this time, and reports it.
-pub fn run_script<St: JournalStore>(
+/// Runs the script, cuts away what stands behind the journal, and answers the report.
+fn run_and_report<S: JournalStore, C>(
     alloc: Global,
     script: &Script,
     time: IonTime,
-    store: &mut St,
-) -> Result<Text, RunFault>
-    requires { is_built script.now ≡ true }
-    ensures done { IfOk result (λ text. IsReportOf time script.now (stored (St.bytes store.old) (St.bytes store.new) (St.synced store.old) (St.synced store.new) (St.fault_count store.old) (St.fault_count store.new)) text) }
-    ensures left { OnErr result ((St.bytes store.new ≡ St.bytes store.old) ⊎ HoldsRun time script.now (stored (St.bytes store.old) (St.bytes store.new) (St.synced store.old) (St.synced store.new) (St.fault_count store.old) (St.fault_count store.new))) }
-    ensures failed { IsErrOf result RunFault.StoreFailed → St.fault_count store.old < St.fault_count store.new }
-    ensures last { IsErrOf result RunFault.StoreFailed → St.last_failed store.new ≡ true }
-    ensures more { IsErrOf result RunFault.NotEmpty → IfSome (St.bytes store.old) (λ held. 0 < length held) }
-    ensures kept { IsErrOf result RunFault.NotEmpty → St.bytes store.new ≡ St.bytes store.old }
+    tail: &mut Tail<S, C>,
+) -> Result<Text, SettleFault>
+    requires { AreRunnable script.now }
+    ensures done { IfOk result (λ text. (t : RunRecord) → IsRunning t time (all_placed script.now) (come tail.old.standing tail.old.marked (S.bytes tail.old.store) (S.synced tail.old.store) (S.fault_count tail.old.store) []) → IsReported t (S.bytes tail.new.store) (S.fault_count tail.new.store) text) }
+    ensures kept { OnOk result (IsKept (come tail.old.standing tail.old.marked (S.bytes tail.old.store) (S.synced tail.old.store) (S.fault_count tail.old.store) []) → IsSynced (S.bytes tail.new.store) (S.synced tail.new.store)) }
+    ensures left { OnErr result ((t : RunRecord) → IsRunning t time (all_placed script.now) (come tail.old.standing tail.old.marked (S.bytes tail.old.store) (S.synced tail.old.store) (S.fault_count tail.old.store) []) → LeavesRun t (S.fault_count tail.new.store) (S.bytes tail.new.store)) }
+    ensures fault { IfErr result (λ fault. IsSettleFault fault (S.fault_count tail.old.store) (S.fault_count tail.new.store) (S.last_failed tail.new.store)) }
+    ensures later { S.fault_count tail.old.store ≤ S.fault_count tail.new.store }
+    ensures clock { tail.new.clock ≡ tail.old.clock }
 {
-    written_on_one_line();
-    check_empty(store)?;
-    let job = only_job(script);
-    let block = first_block(alloc, job.statements.as_slice(), time)?;
-    let text = commit_block(alloc, block, store)?;
+    let mut outcomes = Vec::new(alloc);
+    run_sessions(alloc, script.as_slice(), time, tail, &mut outcomes)?;
+    tail.settle()?;
+    let text = report(alloc, tail.blocks(), &Sequence::from_vec(outcomes))?;
     Ok(text)
+}
+
+/// Runs the script on this tail, and gives its store and its clock back.
+fn run_on<S: JournalStore, C>(
+    alloc: Global,
+    script: &Script,
+    time: IonTime,
+    tail: Tail<S, C>,
+) -> Ran<S, C>
+    requires { AreRunnable script.now }
+    ensures done { IfOk result.report (λ text. (t : RunRecord) → IsRunning t time (all_placed script.now) (come tail.standing tail.marked (S.bytes tail.store) (S.synced tail.store) (S.fault_count tail.store) []) → IsReported t (S.bytes result.store) (S.fault_count result.store) text) }
+    ensures kept { OnOk result.report (IsKept (come tail.standing tail.marked (S.bytes tail.store) (S.synced tail.store) (S.fault_count tail.store) []) → IsSynced (S.bytes result.store) (S.synced result.store)) }
+    ensures left { OnErr result.report ((t : RunRecord) → IsRunning t time (all_placed script.now) (come tail.standing tail.marked (S.bytes tail.store) (S.synced tail.store) (S.fault_count tail.store) []) → LeavesRun t (S.fault_count result.store) (S.bytes result.store)) }
+    ensures fault { IfErr result.report (λ fault. IsSettled fault (S.fault_count tail.store) (S.fault_count result.store) (S.last_failed result.store)) }
+    ensures clock { result.clock ≡ tail.clock }
+{
+    let mut tail = tail;
+    let report = run_and_report(alloc, script, time, &mut tail);
+    let (_blocks, store, clock) = tail.into_parts();
+    Ran {
+        report: told(report),
+        store,
+        clock,
+    }
+}
+
+fn told(report: Result<Text, SettleFault>) -> Result<Text, RunFault>
+    ensures { result ≡ told report }
+{
+    match report {
+        Ok(text) => Ok(text),
+        Err(SettleFault::StoreFault { .. }) => Err(RunFault::StoreFailed),
+        Err(SettleFault::OutOfMemory) => Err(RunFault::OutOfMemory),
+    }
+}
+
+/// What there is where no journal was loaded.
+fn unloaded<S, C>(fault: LoadFault<S, C>) -> Ran<S, C>
+    ensures report { result.report ≡ Err (cause_of fault.cause) }
+    ensures store { result.store ≡ fault.store }
+    ensures clock { result.clock ≡ fault.clock }
+{
+    let LoadFault {
+        cause,
+        store,
+        clock,
+    } = fault;
+    Ran {
+        report: Err(cause_of(cause)),
+        store,
+        clock,
+    }
+}
+
+fn cause_of(cause: LoadCause) -> RunFault
+    ensures { result ≡ cause_of cause }
+{
+    match cause {
+        LoadCause::Damaged { sequence, kind } => RunFault::Damaged { sequence, kind },
+        LoadCause::StoreFault { .. } => RunFault::StoreFailed,
+        LoadCause::OutOfMemory => RunFault::OutOfMemory,
+    }
+}
+
+/// Runs the script on the journal that the store keeps, with plain ids, each block made at this time or at that of the block
+/// before it where that is later, and reports it. A whole line of the journal is never changed; a rest behind the lines is cut.
+pub fn run_script<S: JournalStore, C>(
+    alloc: Global,
+    script: &Script,
+    time: IonTime,
+    store: S,
+    clock: C,
+) -> Ran<S, C>
+    requires { AreRunnable script.now }
+    ensures done { IfOk result.report (λ text. IsReportOf time script.now (stored (S.bytes store) (S.bytes result.store) (S.synced store) (S.synced result.store) (S.fault_count store) (S.fault_count result.store)) text) }
+    ensures left { OnErr result.report ((S.bytes result.store ≡ S.bytes store) ⊎ HoldsRun time script.now (stored (S.bytes store) (S.bytes result.store) (S.synced store) (S.synced result.store) (S.fault_count store) (S.fault_count result.store))) }
+    ensures fault { IfErr result.report (λ fault. IsRunFault fault (S.bytes store) (S.bytes result.store) (S.fault_count store) (S.fault_count result.store) (S.last_failed result.store)) }
+    ensures clock { result.clock ≡ clock }
+{
+    match Tail::reload(alloc, store, clock, IdMask { bits: 0 }) {
+        Ok(tail) => run_on(alloc, script, time, tail),
+        Err(fault) => unloaded(fault),
+    }
 }

@@ -1,26 +1,21 @@
 //! What an input is judged, and which scripts are served so far.
-ghost use Rattle.std.specs.Prelude.{◌≡◌, ◌&&◌, length, count_by, nat_le, IfOk};
-ghost use Rattle.std.specs.List.{list_all};
+ghost use Rattle.std.specs.Prelude.{◌≡◌, ◌<◌, ◌^◌, true, length, Ok, IfOk};
+ghost use Rattle.std.specs.List.{All, list_all};
+ghost use Rattle.ion_values.specs.Within.{within};
 ghost use Rattle.ion_values.specs.declared.value.Body.{out-Body};
-ghost use Rattle.ledger_model.specs.Script.{script_of};
-ghost use Rattle.ledger_model.specs.Unbuilt.{is_struct, is_document, has_document, is_create, is_insert, is_insert_or_select, are_built, is_built, judged_script, judged};
-ghost use Rattle.ledger_cli.specs.Judgements.{judged_of};
+ghost use Rattle.ion_grammar.specs.Short.{all_short};
+ghost use Rattle.ledger_model.specs.ReadScript.{read_script};
+ghost use Rattle.ledger_model.specs.Values.{is_struct};
+ghost use Rattle.ledger_model.specs.Unbuilt.{has_struct, is_served, is_served_job, is_served_script, judged_script, judged};
+ghost use Rattle.script_form.specs.Answers.{IsCountable};
+ghost use Rattle.ledger_cli.specs.Judgements.{ServesRunnable, judged_of};
 
 use crate::input::LONGEST;
-use crate::script::script_of;
-use ion_text::{ReadFault, read_stream, write};
-use ion_values::{Body, IonFault, OutOfMemory, Value, depth};
-use ledger_model::{Request, Script};
+use ion_text::{ReadFault, read_is_within, read_stream};
+use ion_values::{Body, IonFault, OutOfMemory, Value};
+use ledger_model::{Job, Request, Script, ScriptFault};
+use script_form::{ScriptAnswer, read_script};
 use std::alloc::Global;
-
-/// The longest text of a document, in bytes.
-const LONGEST_DOCUMENT: usize = 131_072;
-
-/// The deepest nesting of a document.
-const DEEPEST_DOCUMENT: u32 = 64;
-
-/// The most inserts of a transaction.
-const MOST_INSERTS: usize = 40;
 
 /// The deepest nesting of an input.
 const DEEPEST: u32 = 80;
@@ -32,7 +27,9 @@ pub enum Judgement {
     TooLong,
     /// It is no Ion text that is read.
     Faulty(IonFault),
-    /// It spells no script that is served so far.
+    /// Its values spell no script.
+    Misspelt(ScriptFault),
+    /// It spells a script that isn't served so far.
     Unbuilt,
     Served(Script),
 }
@@ -44,122 +41,112 @@ fn is_struct(v: &Value) -> bool
     matches!(v.body, Body::Struct(_))
 }
 
-/// Whether the value is a struct that nests not too deep and has a text that isn't too long.
-fn is_document(alloc: Global, v: &Value) -> Result<bool, OutOfMemory>
-    ensures { IfOk result (λ document. document ≡ is_document v.now) }
-{
-    if !is_struct(v) {
-        return Ok(false);
-    }
-    if depth(v) > DEEPEST_DOCUMENT {
-        return Ok(false);
-    }
-    let text = write(alloc, v)?;
-    Ok(text.len() <= LONGEST_DOCUMENT)
-}
-
-fn has_document(alloc: Global, params: &[Value]) -> Result<bool, OutOfMemory>
-    ensures { IfOk result (λ document. document ≡ has_document params.now) }
+/// Whether there is one value, and it is a struct.
+fn has_struct(params: &[Value]) -> bool
+    ensures { result ≡ has_struct params.now }
 {
     match params {
-        [value] => is_document(alloc, value),
-        _ => Ok(false),
+        [value] => is_struct(value),
+        _ => false,
     }
 }
 
-fn is_create(request: &Request) -> bool
-    ensures { result ≡ is_create request.now }
+/// Whether the statement is one of the three that are served.
+fn is_served(request: &Request) -> bool
+    ensures { result ≡ is_served request.now }
 {
-    if request.text.as_str() == "CREATE TABLE t" {
+    let text = request.text.as_str();
+    if text == "INSERT INTO t ?" {
+        return has_struct(request.params.as_slice());
+    }
+    if text == "CREATE TABLE t" || text == "SELECT * FROM t" {
         request.params.is_empty()
     } else {
         false
     }
 }
 
-/// Whether the statement is the insert.
-pub fn is_insert(request: &Request) -> bool
-    ensures { result ≡ is_insert request.now }
+/// Whether all of the statements are served.
+fn are_served(asked: &[Request]) -> bool
+    ensures { result ≡ list_all is_served asked.now }
 {
-    request.text.as_str() == "INSERT INTO t ?"
-}
-
-fn is_insert_or_select(alloc: Global, request: &Request) -> Result<bool, OutOfMemory>
-    ensures { IfOk result (λ served. served ≡ is_insert_or_select request.now) }
-{
-    if is_insert(request) {
-        return has_document(alloc, request.params.as_slice());
-    }
-    if request.text.as_str() == "SELECT * FROM t" {
-        Ok(request.params.is_empty())
-    } else {
-        Ok(false)
-    }
-}
-
-/// Whether the statements behind the first one are selects and at most 40 inserts.
-fn are_inserts_and_selects(alloc: Global, rest: &[Request]) -> Result<bool, OutOfMemory>
-    ensures { IfOk result (λ served. served ≡ (list_all is_insert_or_select rest.now && nat_le (count_by is_insert rest.now) 40)) }
-{
-    let mut inserts = 0;
-    'statements: for request in rest {
-        if !is_insert_or_select(alloc, request)? {
-            return Ok(false);
-        }
-        if is_insert(request) {
-            inserts += 1;
+    'statements: for request in asked {
+        if !is_served(request) {
+            return false;
         }
     }
-    Ok(inserts <= MOST_INSERTS)
+    true
 }
 
-fn are_built(alloc: Global, asked: &[Request]) -> Result<bool, OutOfMemory>
-    ensures { IfOk result (λ built. built ≡ are_built asked.now) }
+/// Whether the transaction sends no digest, and its statements are served.
+fn is_served_job(job: &Job) -> bool
+    ensures { result ≡ is_served_job job.now }
 {
-    let [first, rest @ ..] = asked else {
-        return Ok(false);
-    };
-    if !is_create(first) {
-        return Ok(false);
-    }
-    are_inserts_and_selects(alloc, rest)
+    are_served(job.statements.as_slice()) && job.digest.is_none()
 }
 
-/// Whether the script is one session of one transaction of the statements that are served.
-fn is_built(alloc: Global, script: &Script) -> Result<bool, OutOfMemory>
-    ensures { IfOk result (λ built. built ≡ is_built script.now) }
+fn is_served_session(jobs: &[Job]) -> bool
+    ensures { result ≡ list_all is_served_job jobs.now }
 {
-    let [session] = script.as_slice() else {
-        return Ok(false);
-    };
-    let [job] = session.as_slice() else {
-        return Ok(false);
-    };
-    if job.abort {
-        return Ok(false);
+    'jobs: for job in jobs {
+        if !is_served_job(job) {
+            return false;
+        }
     }
-    are_built(alloc, job.statements.as_slice())
+    true
+}
+
+fn is_served_script(script: &Script) -> bool
+    ensures { result ≡ is_served_script script.now }
+{
+    'sessions: for session in script.as_slice() {
+        if !is_served_session(session.as_slice()) {
+            return false;
+        }
+    }
+    true
 }
 
 /// What the values of an input are judged.
 fn judge_values(alloc: Global, values: &[Value]) -> Result<Judgement, OutOfMemory>
-    ensures { IfOk result (λ judgement. judged_of judgement ≡ judged_script (script_of values.now)) }
+    requires { All IsCountable values.now }
+    ensures { IfOk result (λ judgement. judged_of judgement ≡ judged_script (read_script values.now)) }
 {
-    let Some(script) = script_of(alloc, values)? else {
-        return Ok(Judgement::Unbuilt);
-    };
-    if is_built(alloc, &script)? {
-        Ok(Judgement::Served(script))
-    } else {
-        Ok(Judgement::Unbuilt)
+    match read_script(alloc, values) {
+        Ok(script) => Ok(judge_script(script)),
+        Err(
+            ScriptAnswer::Fault {
+                session,
+                transaction,
+                kind,
+            },
+        ) => Ok(Judgement::Misspelt(ScriptFault {
+            session,
+            transaction,
+            kind,
+        })),
+        Err(ScriptAnswer::OutOfMemory) => Err(OutOfMemory),
     }
 }
 
-/// What an input is judged: whether it is too long, where it is no Ion text, or the script that it spells, where such
-/// scripts are served.
-pub fn judge(alloc: Global, input: &[u8]) -> Result<Judgement, OutOfMemory>
-    ensures { IfOk result (λ judgement. judged_of judgement ≡ judged input.now) }
+/// What a script is judged.
+fn judge_script(script: Script) -> Judgement
+    ensures { judged_of result ≡ judged_script (Ok script) }
 {
+    if is_served_script(&script) {
+        Judgement::Served(script)
+    } else {
+        Judgement::Unbuilt
+    }
+}
+
+/// What an input is judged: whether it is too long, where it is no Ion text or no script, or the script that it spells,
+/// where such scripts are served.
+pub fn judge(alloc: Global, input: &[u8]) -> Result<Judgement, OutOfMemory>
+    ensures judged { IfOk result (λ judgement. judged_of judgement ≡ judged input.now) }
+    ensures runnable { IfOk result ServesRunnable }
+{
+    read_is_within();
     if input.len() > LONGEST {
         return Ok(Judgement::TooLong);
     }

@@ -113,6 +113,17 @@ const LINE: &str = "{blockAddress:{strandId:\"0000000000000000000000\",sequenceN
     metadata:{id:\"0000000000000000018OWI\",version:0,txTime:2020-01-01T00:00:00.000Z,\
     txId:\"0000000000000000018OWG\"}}]}\n";
 
+/// Two sessions of two transactions, of which one is given up.
+const SESSIONS: &str = "[{statements:[\"CREATE TABLE t\"]},\
+    {statements:[{text:\"INSERT INTO t ?\",params:[{a:1}]}],end:abort}]\n\
+    [{statements:[{text:\"INSERT INTO t ?\",params:[{a:2}]}],retries:0},{statements:[\"SELECT * FROM t\"]}]\n";
+
+const FOUR_OUTCOMES: &str =
+    "{session:1,transaction:1,outcome:committed,tx:\"0000000000000000018OWG\",block:0,answers:[[{tableId:\"0000000000000000018OWH\"}]]}\n\
+    {session:1,transaction:2,outcome:aborted,tx:\"000000000000000002Gn2W\",since:1}\n\
+    {session:2,transaction:1,outcome:committed,tx:\"000000000000000003PBYm\",block:1,answers:[[{documentId:\"000000000000000003PBYn\"}]]}\n\
+    {session:2,transaction:2,outcome:committed,tx:\"000000000000000004Xa52\",block:2,answers:[[{a:2}]]}\n";
+
 #[test]
 fn scripts(rt: HostRuntime) -> Result<(), Fail> {
     let alloc = rt.alloc();
@@ -120,29 +131,155 @@ fn scripts(rt: HostRuntime) -> Result<(), Fail> {
         "[{statements:[\"CREATE TABLE t\",\n {params:[{b:\"x\",b:-7}] , text:\"INSERT INTO t ?\"},\"SELECT * FROM t\",\"SELECT * FROM t\"]}]\n";
     let twice =
         "{session:1,transaction:1,outcome:committed,tx:\"0000000000000000018OWG\",block:0,answers:[[{tableId:\"0000000000000000018OWH\"}],[{documentId:\"0000000000000000018OWI\"}],[{b:\"x\",b:-7}],[{b:\"x\",b:-7}]]}\n";
-    // comments, an annotated struct of many kinds of values, and commas behind the last members
-    let whole =
-        "[{'statements':[\"CREATE TABLE t\",/* one */{text:'''INSERT ''' '''INTO t ?''',params:[x::{a:1.50,\"b\":2001-02-03T04:05Z,c:(+ [null,'y z']),}]},// all\n\"SELECT * FROM t\",]}]";
-    let kept =
-        "{session:1,transaction:1,outcome:committed,tx:\"0000000000000000018OWG\",block:0,answers:[[{tableId:\"0000000000000000018OWH\"}],[{documentId:\"0000000000000000018OWI\"}],[{a:150d-2,b:2001-02-03T04:05Z,c:('+' [null,'y z'])}]]}\n";
+    let no_table =
+        "{session:1,transaction:1,outcome:refused,tx:\"0000000000000000018OWG\",since:0,statement:1,cause:{code:2,name:\"t\"}}\n";
     let null_struct =
         "[{statements:[\"CREATE TABLE t\",{text:\"INSERT INTO t ?\",params:[null.struct]}]}]";
-    for (input, status, output) in [
-        (FIRST, 0, COMMITTED),
-        (swapped, 0, twice),
-        (whole, 0, kept),
-        ("5", 2, UNBUILT),
-        ("", 2, UNBUILT),
-        ("[{statements:[\"SELECT * FROM t\"]}]", 2, UNBUILT),
-        (null_struct, 2, UNBUILT),
+    let no_session = "{status:2,fault:{session:1,transaction:0,kind:NotASession}}\n";
+    let bad_retries = "{status:2,fault:{session:1,transaction:1,kind:BadRetries}}\n";
+    // the input, the status, the output, and whether a block is made
+    for (input, status, output, made) in [
+        (FIRST, 0, COMMITTED, true),
+        (swapped, 0, twice, true),
+        (SESSIONS, 0, FOUR_OUTCOMES, true),
+        ("", 0, "", false),
+        ("[{statements:[\"SELECT * FROM t\"]}]", 0, no_table, false),
+        ("5", 2, no_session, false),
+        ("[{statements:[],retries:101}]", 2, bad_retries, false),
+        (null_struct, 2, UNBUILT, false),
     ] {
         let got = run_command(&rt, alloc, to_run(alloc, RUN, input)?)?;
         assert_eq!(rt; got.status, status);
         assert_eq!(rt; got.output.as_str(), output);
-        assert_eq!(rt; got.held.is_empty(), status == 2);
+        assert_eq!(rt; got.held.is_empty(), !made);
         if input == FIRST {
             assert_eq!(rt; got.held.as_slice(), LINE.as_bytes());
         }
+    }
+    Ok(())
+}
+
+/// Runs the script on a store that holds these bytes.
+fn run_on<R: Threads + Wait + Sync>(
+    rt: &R,
+    alloc: Global,
+    input: &str,
+    held: &[u8],
+) -> Result<Told, Fail> {
+    let mut given = to_run(alloc, RUN, input)?;
+    given.held = held.to_vec(alloc)?;
+    run_command(rt, alloc, given)
+}
+
+#[test]
+fn a_kept_journal(rt: HostRuntime) -> Result<(), Fail> {
+    let alloc = rt.alloc();
+    let exists =
+        "{session:1,transaction:1,outcome:refused,tx:\"000000000000000002Gn2W\",since:1,statement:1,cause:{code:3,name:\"t\"}}\n";
+    let mut torn = LINE.as_bytes().to_vec(alloc)?;
+    torn.extend_from_slice(b"{blockAddress")?;
+    // a rest that is no whole line is cut before the report
+    for (input, held, output) in [
+        (FIRST, LINE.as_bytes(), exists),
+        (FIRST, torn.as_slice(), exists),
+        ("", torn.as_slice(), ""),
+    ] {
+        let got = run_on(&rt, alloc, input, held)?;
+        assert_eq!(rt; got.status, 0);
+        assert_eq!(rt; got.output.as_str(), output);
+        assert_eq!(rt; got.held.as_slice(), LINE.as_bytes());
+    }
+    Ok(())
+}
+
+/// Where the block's hash begins in a line, in its base64 digits.
+const HASH_AT: usize = 154;
+
+/// Where the last line begins.
+fn last_line(held: &[u8]) -> usize {
+    let mut start = 0;
+    let mut next = 0;
+    for (at, byte) in held.iter().enumerate() {
+        if *byte == b'\n' {
+            start = next;
+            next = at;
+        }
+    }
+    usize::saturating_add(start, 1)
+}
+
+#[test]
+fn a_damaged_journal(rt: HostRuntime) -> Result<(), Fail> {
+    let alloc = rt.alloc();
+    let whole = run_on(&rt, alloc, SESSIONS, b"")?.held;
+    let start = last_line(&whole);
+    let two = whole.get(..start).unwrap_or_default();
+    // three lines that are cut inside the last one are two blocks
+    let cut = whole
+        .get(..usize::saturating_add(start, HASH_AT))
+        .unwrap_or_default();
+    let got = run_on(&rt, alloc, "", cut)?;
+    assert_eq!(rt; got.status, 0);
+    assert_eq!(rt; got.held.as_slice(), two);
+    // one digit of the last block's hash is another one
+    let mut wrong = whole.as_slice().to_vec(alloc)?;
+    if let Some(digit) = wrong.get_mut(usize::saturating_add(start, HASH_AT)) {
+        *digit = if *digit == b'A' { b'B' } else { b'A' };
+    }
+    // one space more
+    let mut spaced = two.to_vec(alloc)?;
+    spaced.push(b' ')?;
+    spaced.extend_from_slice(whole.get(start..).unwrap_or_default())?;
+    for (held, input, status, line) in [
+        (
+            wrong.as_slice(),
+            FIRST,
+            3,
+            "{status:3,fault:{sequence:2,kind:WrongHash}}\n",
+        ),
+        (
+            spaced.as_slice(),
+            "",
+            3,
+            "{status:3,fault:{sequence:2,kind:NotALine}}\n",
+        ),
+        (
+            b"\n".as_slice(),
+            FIRST,
+            3,
+            "{status:3,fault:{sequence:0,kind:NotALine}}\n",
+        ),
+        // the input is judged before the journal is read
+        (
+            b"\n".as_slice(),
+            "[",
+            2,
+            "{status:2,fault:{at:1,kind:Unclosed}}\n",
+        ),
+    ] {
+        let got = run_on(&rt, alloc, input, held)?;
+        assert_eq!(rt; got.status, status);
+        assert_eq!(rt; got.output.as_str(), line);
+        assert_eq!(rt; got.held.as_slice(), held);
+    }
+    Ok(())
+}
+
+#[test]
+fn a_journal_cut_at_each_byte_of_its_last_line(rt: HostRuntime) -> Result<(), Fail> {
+    let alloc = rt.alloc();
+    let select = "[{statements:[\"SELECT * FROM t\"]}]";
+    let whole = run_on(&rt, alloc, SESSIONS, b"")?.held;
+    let start = last_line(&whole);
+    let two = whole.get(..start).unwrap_or_default();
+    let longer = run_on(&rt, alloc, select, two)?.held;
+    assert_eq!(rt; longer.get(..start).unwrap_or_default(), two);
+    // the next block stands right behind the whole lines
+    for end in start..whole.len() {
+        let cut = whole.get(..end).unwrap_or_default();
+        let got = run_on(&rt, alloc, select, cut)?;
+        assert_eq!(rt; got.status, 0);
+        assert_eq!(rt; got.held.as_slice(), longer.as_slice());
     }
     Ok(())
 }
@@ -167,6 +304,14 @@ fn faults(rt: HostRuntime) -> Result<(), Fail> {
         assert_eq!(rt; got.output.as_str(), line.as_str());
         assert!(rt; got.held.is_empty());
     }
+    let mut given = to_run(alloc, RUN, FIRST)?;
+    given.input.push(0xFF)?;
+    let got = run_command(&rt, alloc, given)?;
+    assert_eq!(rt; got.status, 2);
+    assert_eq!(rt;
+        got.output.as_str(),
+        "{status:2,fault:{at:91,kind:NotUtf8}}\n"
+    );
     Ok(())
 }
 
@@ -240,24 +385,6 @@ fn failing_source_and_sink(rt: HostRuntime) -> Result<(), Fail> {
 }
 
 #[test]
-fn a_store_that_is_not_empty(rt: HostRuntime) -> Result<(), Fail> {
-    let alloc = rt.alloc();
-    // the input is judged before the store is asked
-    for (input, output) in [
-        (FIRST, UNBUILT),
-        ("[", "{status:2,fault:{at:1,kind:Unclosed}}\n"),
-    ] {
-        let mut given = to_run(alloc, RUN, input)?;
-        given.held.push(b'\n')?;
-        let got = run_command(&rt, alloc, given)?;
-        assert_eq!(rt; got.status, 2);
-        assert_eq!(rt; got.output.as_str(), output);
-        assert_eq!(rt; got.held.as_slice(), b"\n".as_slice());
-    }
-    Ok(())
-}
-
-#[test]
 fn failing_store(rt: HostRuntime) -> Result<(), Fail> {
     let alloc = rt.alloc();
     let all = LINE.len() as u64;
@@ -270,11 +397,11 @@ fn failing_store(rt: HostRuntime) -> Result<(), Fail> {
         ((9, 0), none, 0, COMMITTED, all),
         // size
         ((0, 0), (9, 0), 5, one, 0),
-        // append, and the store is mended
+        // append, and the store is cut at the end
         ((1, 0), (9, 0), 0, STORE_FAULT, 0),
         ((1, 10), (9, 0), 0, STORE_FAULT, 0),
         ((1, all), (9, 0), 0, STORE_FAULT, 0),
-        // sync, and the store is mended
+        // sync, and the store is cut at the end
         ((2, 0), (9, 0), 0, STORE_FAULT, 0),
         // then the cut, which is done or not
         ((1, 0), (0, 0), 5, two, 0),
@@ -301,12 +428,6 @@ fn failing_store(rt: HostRuntime) -> Result<(), Fail> {
     Ok(())
 }
 
-/// The text of a script that creates the table and then has these statements.
-fn script(alloc: Global, statements: &str) -> Result<Vec<u8>, Fail> {
-    let text = format!(in alloc; "[{{statements:[\"CREATE TABLE t\"{statements}]}}]")?;
-    Ok(text.as_bytes().to_vec(alloc)?)
-}
-
 /// A text so many times over.
 fn repeated(alloc: Global, text: &str, times: usize) -> Result<String, Fail> {
     let mut all = String::new(alloc);
@@ -314,61 +435,6 @@ fn repeated(alloc: Global, text: &str, times: usize) -> Result<String, Fail> {
         all.push_str(text)?;
     }
     Ok(all)
-}
-
-/// The text of a script that creates the table and then inserts this document.
-fn with_document(alloc: Global, document: &str) -> Result<Vec<u8>, Fail> {
-    let insert = format!(in alloc; ",{{text:\"INSERT INTO t ?\",params:[{document}]}}")?;
-    script(alloc, insert.as_str())
-}
-
-/// A struct that nests so deep and one more.
-fn nested(alloc: Global, around: usize) -> Result<String, Fail> {
-    let opened = repeated(alloc, "{a:", around)?;
-    let closed = repeated(alloc, "}", around)?;
-    Ok(format!(in alloc; "{opened}{{}}{closed}")?)
-}
-
-/// A struct with a string of so many characters.
-fn long(alloc: Global, length: usize) -> Result<String, Fail> {
-    let text = repeated(alloc, "x", length)?;
-    Ok(format!(in alloc; "{{a:\"{text}\"}}")?)
-}
-
-#[test]
-fn limits(rt: HostRuntime) -> Result<(), Fail> {
-    let alloc = rt.alloc();
-    let insert = ",{text:\"INSERT INTO t ?\",params:[{a:1}]}";
-    let mut not_utf8 = FIRST.as_bytes().to_vec(alloc)?;
-    not_utf8.push(0xFF)?;
-    for (input, refused) in [
-        (script(alloc, repeated(alloc, insert, 40)?.as_str())?, None),
-        (
-            script(alloc, repeated(alloc, insert, 41)?.as_str())?,
-            Some(UNBUILT),
-        ),
-        (with_document(alloc, long(alloc, 131_066)?.as_str())?, None),
-        (
-            with_document(alloc, long(alloc, 131_067)?.as_str())?,
-            Some(UNBUILT),
-        ),
-        (with_document(alloc, nested(alloc, 63)?.as_str())?, None),
-        (
-            with_document(alloc, nested(alloc, 64)?.as_str())?,
-            Some(UNBUILT),
-        ),
-        (not_utf8, Some("{status:2,fault:{at:91,kind:NotUtf8}}\n")),
-    ] {
-        let mut given = to_run(alloc, RUN, "")?;
-        given.input = input;
-        let got = run_command(&rt, alloc, given)?;
-        assert_eq!(rt; got.status, if refused.is_some() { 2 } else { 0 });
-        assert_eq!(rt; got.held.is_empty(), refused.is_some());
-        if let Some(line) = refused {
-            assert_eq!(rt; got.output.as_str(), line);
-        }
-    }
-    Ok(())
 }
 
 #[test]

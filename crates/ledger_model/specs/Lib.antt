@@ -17,4 +17,5 @@ pub mod Report
 pub mod Whole
 pub mod Follows
 pub mod Damages
+pub mod Making
 pub mod Recovered

@@ -34,6 +34,11 @@ kind_of (Body-F.List vs) = kind.List
 kind_of (Body-F.Sexp vs) = kind.Sexp
 kind_of (Body-F.Struct fs) = kind.Struct
 
+-- a null struct is none
+abbrev pub is_struct : Body-F Body Field Value → Bool
+is_struct (Body-F.Struct fields) = true
+is_struct _ = false
+
 -- what stands in a value without annotations
 abbrev pub bare : Value → Option (Body-F Body Field Value)
 bare v = if length v.annotations == 0 then Some (out-Body v.body) else None

@@ -7,6 +7,8 @@ mod blocks;
 mod damage;
 mod outcome;
 mod script;
+#[cfg(test)]
+mod tests;
 
 pub use block::{
     Answer, Block, Content, Draft, Drafts, Header, Info, Metadata, Revision, Revisions, Row, Said,

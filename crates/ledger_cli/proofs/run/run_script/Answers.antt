@@ -1,48 +1,48 @@
-use Rattle.std.proofs.Common.{List, ◌∙◌, sym, subst, inl, inr, Ok}
-use Rattle.ledger_model.specs.declared.script.Job.{Job}
-use Rattle.ledger_model.specs.declared.script.Request.{Request}
-use Rattle.ledger_claims.specs.Top.{IsReportOf, HoldsRun, stored}
-use Rattle.ledger_cli.specs.Transactions.{IsFirstBlock}
-use Rattle.ledger_cli.proofs.Left.{IsReportOf-committed, HoldsRun-stopped, CommitLeaves-earlier, on_err}
+use Rattle.std.proofs.Common.{[], refl, ap, ◌∙◌, inl}
+use Rattle.ledger_claims.specs.Top.{Stored, stored}
+use Rattle.ledger_cli.specs.Runs.{Come, come, cause_of}
+use Rattle.ledger_cli.proofs.Loaded.{HasLoaded, loaded_done, loaded_stopped, loaded_fault, unloaded_done, unloaded_left, unloaded_fault}
 use Rattle.ledger_cli.proofs.run.run_script.Goals as goal
 
-pub returns-in_err-text-clause-left : goal.returns-in_err-text-clause-left
-returns-in_err-text-clause-left g c =
-    let before = c.args.store.now in
-    let after = c.commit_block.new.store in
-    let s = stored (g.St.JournalStore.bytes before) (g.St.JournalStore.bytes after) (g.St.JournalStore.synced before) (g.St.JournalStore.synced after) (g.St.JournalStore.fault_count before) (g.St.JournalStore.fault_count after) in
-    let job = c.only_job-job.result.now in
-    let block = c.in_ok-block.block in
-    let first = subst (λ (asked : List Request). IsFirstBlock asked c.args.time block) c.as_slice.ensures c.in_ok-block.ensures in
-    on_err c.from_residual-in_err-text.result (
-    elim c.in_err-text.ensures.stopped [
-      | inl same ↦ inl (same ∙ c.check_empty.ensures.bytes)
-      | inr stopped ↦ inr (
-          subst (λ (script : List (List Job)). HoldsRun c.args.time script s) (sym c.only_job-job.ensures.only) (
-          HoldsRun-stopped job c.args.time block s c.written_on_one_line.ensures c.only_job-job.ensures.commits first stopped.ended (
-          CommitLeaves-earlier block _ _ (g.St.JournalStore.synced before) _ _ (g.St.JournalStore.fault_count before) _ c.check_empty.ensures.synced
-          c.check_empty.ensures.later stopped.ended stopped.left
-          )
-          )
-          )
-    ]
-    )
+pub returns-in-Ok-clause-done : goal.returns-in-Ok-clause-done
+returns-in-Ok-clause-done g c =
+    let k = c.in-Ok.tail in
+    let l = c.run_on.result.store in
+    let s = stored (g.S.JournalStore.bytes c.args.store) (g.S.JournalStore.bytes l) (g.S.JournalStore.synced c.args.store) (g.S.JournalStore.synced l) (g.S.JournalStore.fault_count c.args.store) (g.S.JournalStore.fault_count l) in
+    let d = come k.standing k.marked (g.S.JournalStore.bytes k.store) (g.S.JournalStore.synced k.store) (g.S.JournalStore.fault_count k.store) [] in
+    let is = c.in-Ok.ensures in
+    let has : HasLoaded s d = record { journal = is.journal; sound = is.standing; mask = is.mask; last = is.last; store = is.store; none = refl } in
+    loaded_done c.args.time c.args.script.now s d has c.run_on.result.report c.run_on.ensures.done c.run_on.ensures.kept
 
-pub returns-clause-done : goal.returns-clause-done
-returns-clause-done g c =
-    let before = c.args.store.now in
-    let after = c.commit_block.new.store in
-    let s = stored (g.St.JournalStore.bytes before) (g.St.JournalStore.bytes after) (g.St.JournalStore.synced before) (g.St.JournalStore.synced after) (g.St.JournalStore.fault_count before) (g.St.JournalStore.fault_count after) in
-    let job = c.only_job-job.result.now in
-    let block = c.in_ok-block.block in
-    let text = c.in_ok-text.text in
-    let reported = c.in_ok-text.ensures.done in
-    let first = subst (λ (asked : List Request). IsFirstBlock asked c.args.time block) c.as_slice.ensures c.in_ok-block.ensures in
-    subst (λ (script : List (List Job)). IsReportOf c.args.time script s text) (sym c.only_job-job.ensures.only) (
-    IsReportOf-committed job c.args.time block s text c.only_job-job.ensures.commits first c.in_ok-check_empty.ensures.empty (record {
-      ended = reported.ended;
-      left = CommitLeaves-earlier block _ _ (g.St.JournalStore.synced before) _ _ (g.St.JournalStore.fault_count before) _ c.check_empty.ensures.synced
-          c.check_empty.ensures.later (Ok reported.ended) reported.left;
-      text_is = reported.text_is;
-    })
-    )
+pub returns-in-Ok-clause-left : goal.returns-in-Ok-clause-left
+returns-in-Ok-clause-left g c =
+    let k = c.in-Ok.tail in
+    let l = c.run_on.result.store in
+    let s = stored (g.S.JournalStore.bytes c.args.store) (g.S.JournalStore.bytes l) (g.S.JournalStore.synced c.args.store) (g.S.JournalStore.synced l) (g.S.JournalStore.fault_count c.args.store) (g.S.JournalStore.fault_count l) in
+    let d = come k.standing k.marked (g.S.JournalStore.bytes k.store) (g.S.JournalStore.synced k.store) (g.S.JournalStore.fault_count k.store) [] in
+    let is = c.in-Ok.ensures in
+    let has : HasLoaded s d = record { journal = is.journal; sound = is.standing; mask = is.mask; last = is.last; store = is.store; none = refl } in
+    loaded_stopped c.args.time c.args.script.now s d has c.run_on.result.report c.run_on.ensures.left
+
+pub returns-in-Ok-clause-fault : goal.returns-in-Ok-clause-fault
+returns-in-Ok-clause-fault g c =
+    let k = c.in-Ok.tail in
+    let l = c.run_on.result.store in
+    let s = stored (g.S.JournalStore.bytes c.args.store) (g.S.JournalStore.bytes l) (g.S.JournalStore.synced c.args.store) (g.S.JournalStore.synced l) (g.S.JournalStore.fault_count c.args.store) (g.S.JournalStore.fault_count l) in
+    let d = come k.standing k.marked (g.S.JournalStore.bytes k.store) (g.S.JournalStore.synced k.store) (g.S.JournalStore.fault_count k.store) [] in
+    let is = c.in-Ok.ensures in
+    let has : HasLoaded s d = record { journal = is.journal; sound = is.standing; mask = is.mask; last = is.last; store = is.store; none = refl } in
+    loaded_fault c.args.time c.args.script.now s d has (g.S.JournalStore.last_failed l) c.run_on.result.report c.run_on.ensures.fault
+
+pub returns-in-Err-clause-done : goal.returns-in-Err-clause-done
+returns-in-Err-clause-done g c = unloaded_done _ c.unloaded.result.report (cause_of c.in-Err.fault.cause) c.unloaded.ensures.report
+
+pub returns-in-Err-clause-left : goal.returns-in-Err-clause-left
+returns-in-Err-clause-left g c =
+    unloaded_left _ c.unloaded.result.report (cause_of c.in-Err.fault.cause) c.unloaded.ensures.report
+    (inl (ap (λ x. g.S.JournalStore.bytes x) c.unloaded.ensures.store ∙ c.in-Err.ensures.returned.0))
+
+pub returns-in-Err-clause-fault : goal.returns-in-Err-clause-fault
+returns-in-Err-clause-fault g c =
+    rw c.unloaded.ensures.store
+    (unloaded_fault c.unloaded.result.report c.in-Err.fault.cause _ _ _ _ _ c.unloaded.ensures.report c.in-Err.ensures.returned.0 c.in-Err.ensures.cause)

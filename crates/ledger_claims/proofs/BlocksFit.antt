@@ -1,0 +1,93 @@
+-- The blocks of a run fit its jobs before the first job, and after each block that is appended.
+use Rattle.std.proofs.Common.{◌≡◌, ℕ, ◌<◌, List, [], ◌∷◌, ◌++◌, length, drop, sym, ap, subst, ◌∙◌, Contains}
+use Rattle.std.specs.List.{AllByRecursion}
+use Rattle.ledger_model.specs.declared.block.Block.{Block}
+use Rattle.ledger_model.specs.declared.outcome.PlacedOutcome.{PlacedOutcome}
+use Rattle.ledger_model.specs.Making.{time_behind}
+use Rattle.ledger_model.specs.Script.{Placed}
+use Rattle.ledger_claims.specs.Fits.{RunRecord, made, HaveTimes, Before, IsOfSomeJob, InSessionOrder, FitsBlocks}
+use Rattle.ledger_claims.specs.Attempts.{IsNextBlock}
+use Rattle.ledger_claims.specs.SoFar.{IsBehind, AreBehind, SoFar, standing}
+use Rattle.ledger_claims.proofs.Lists.{all_append, all_mapped, Contains_seam, whole, begins_on, drop_on}
+use Rattle.ledger_claims.proofs.Histories.{Legal-more, times_more, once_more}
+use Rattle.ledger_claims.proofs.NextBlocks.{next-IsAt, next-Means, next-time, next-place, next-IsOfJob}
+use Rattle.ledger_claims.proofs.Growing.{grown}
+
+-- ---- no block more
+
+-- the outcomes and the failures of the store don't matter
+pub FitsBlocks-same : (t : RunRecord) (outcomes : List PlacedOutcome) (closed : ℕ) → FitsBlocks t → FitsBlocks (grown t t.after outcomes closed)
+FitsBlocks-same t outcomes closed h = record {
+  begins = h.begins;
+  undamaged = h.undamaged;
+  serial = h.serial;
+  times = h.times;
+  of_jobs = h.of_jobs;
+  once = h.once;
+}
+
+pub FitsBlocks-kept : (t : RunRecord) (blocks : List Block) (outcomes : List PlacedOutcome) (closed : ℕ) → blocks ≡ t.after → FitsBlocks t
+    → FitsBlocks (grown t blocks outcomes closed)
+FitsBlocks-kept t blocks outcomes closed same h =
+    subst (λ (x : List Block). FitsBlocks (grown t x outcomes closed)) (sym same) (FitsBlocks-same t outcomes closed h)
+
+-- ---- one block more
+
+module _ (t : RunRecord) (p : Placed) (b : Block) (last : ℕ) (h : FitsBlocks t) (next : IsNextBlock (standing t last) t.time p b) where
+  abbrev more : List Block
+  more = t.after ++ b ∷ []
+
+  made_more : drop (length t.before) more ≡ made t ++ b ∷ []
+  made_more = drop_on t.before t.after (b ∷ []) h.begins
+
+  times_on : HaveTimes t.time t.before (drop (length t.before) more)
+  times_on =
+      let time : b.header.time ≡ time_behind (t.before ++ made t) t.time =
+      next-time (standing t last) t.time p b next ∙ ap (λ (x : List Block). time_behind x t.time) (sym (whole t.before t.after (b ∷ []) h.begins)) in
+      subst (λ (x : List Block). HaveTimes t.time t.before x) (sym made_more) (times_more t.time t.before (made t) b h.times time)
+
+  of_jobs_on : Contains t.jobs p → AllByRecursion (IsOfSomeJob t.jobs) (drop (length t.before) more)
+  of_jobs_on among =
+      subst (λ (x : List Block). AllByRecursion (IsOfSomeJob t.jobs) x) (sym made_more)
+      (all_append (IsOfSomeJob t.jobs) (made t) (b ∷ []) h.of_jobs
+      (record { placed = p; among = among; of_job = next-IsOfJob (standing t last) t.time p b next }, tt))
+
+  once_on : AllByRecursion (λ c. IsBehind c.info.place p) (made t) → InSessionOrder (drop (length t.before) more)
+  once_on behind =
+      let place : p.place ≡ b.info.place = sym (next-place (standing t last) t.time p b next) in
+      let before : AllByRecursion (λ c. Before c.info.place b) (made t) =
+      all_mapped (λ (c : Block). IsBehind c.info.place p) (λ c. Before c.info.place b)
+      (λ c is. subst (λ x. c.info.place.session ≡ x.session → c.info.place.transaction < x.transaction) place is) (made t) behind in
+      subst (λ (x : List Block). InSessionOrder x) (sym made_more) (once_more (made t) b h.once before)
+
+  pub FitsBlocks-more : (outcomes : List PlacedOutcome) (closed : ℕ) → Contains t.jobs p → AllByRecursion (λ c. IsBehind c.info.place p) (made t)
+      → FitsBlocks (grown t more outcomes closed)
+  FitsBlocks-more outcomes closed among behind = record {
+    begins = begins_on t.before t.after (b ∷ []) h.begins;
+    undamaged = next.undamaged;
+    serial = Legal-more t.mask t.before t.after b h.begins h.serial (next-IsAt (standing t last) t.time p b next) (next-Means (standing t last) t.time p b next);
+    times = times_on;
+    of_jobs = of_jobs_on among;
+    once = once_on behind;
+  }
+
+-- ---- of the job that comes next
+
+pub job_among : (t : RunRecord) (done : List Placed) (p : Placed) (rest : List Placed) → t.jobs ≡ done ++ p ∷ rest → Contains t.jobs p
+job_among t done p rest jobs = subst (λ (x : List Placed). Contains x p) (sym jobs) (Contains_seam done p rest)
+
+pub each_behind : (p : Placed) (rest : List Placed) (bs : List Block) → AreBehind bs (p ∷ rest) → AllByRecursion (λ c. IsBehind c.info.place p) bs
+each_behind p rest bs behind = all_mapped (λ (c : Block). AllByRecursion (IsBehind c.info.place) (p ∷ rest)) (λ c. IsBehind c.info.place p) (λ c h. h.0) bs behind
+
+pub others_behind : (p : Placed) (rest : List Placed) (bs : List Block) → AreBehind bs (p ∷ rest) → AreBehind bs rest
+others_behind p rest bs behind = all_mapped (λ (c : Block). AllByRecursion (IsBehind c.info.place) (p ∷ rest)) (λ c. AllByRecursion (IsBehind c.info.place) rest) (λ c h. h.1) bs behind
+
+-- with the block that the next job becomes, whatever is told
+pub FitsBlocks-next : (t : RunRecord) (done : List Placed) (p : Placed) (rest : List Placed) (last : ℕ) (b : Block) (outcomes : List PlacedOutcome) (closed : ℕ)
+    → SoFar t done (p ∷ rest) last → IsNextBlock (standing t last) t.time p b → FitsBlocks (grown t (t.after ++ b ∷ []) outcomes closed)
+FitsBlocks-next t done p rest last b outcomes closed so next =
+    FitsBlocks-more t p b last so.blocks next outcomes closed (job_among t done p rest so.jobs) (each_behind p rest (made t) so.behind)
+
+pub may_extend : (t : RunRecord) (done : List Placed) (p : Placed) (rest : List Placed) (last : ℕ) (b : Block)
+    → SoFar t done (p ∷ rest) last → IsNextBlock (standing t last) t.time p b → FitsBlocks (record t { after = t.after ++ b ∷ [] })
+may_extend t done p rest last b so next = FitsBlocks-next t done p rest last b t.outcomes t.closed so next

@@ -1,0 +1,53 @@
+-- A first block: what is asked of its making can be met, at each time.
+use Rattle.std.proofs.Common.{◌≡◌, true, false, [], ◌∷◌, None, codes, refl, arith}
+use Rattle.ion_values.specs.Time.{is_time}
+use Rattle.ion_values.specs.declared.time.TimeParts.{TimeParts}
+use Rattle.ql_types.specs.Ids.{raw_id}
+use Rattle.ledger_model.specs.declared.block.Schema.TheVariants.{Create}
+use Rattle.ledger_model.specs.declared.script.Request.{Request}
+use Rattle.ledger_model.specs.Values.{named_id}
+use Rattle.ledger_model.specs.Script.{Placed}
+use Rattle.ledger_model.specs.Run.{Progress, ran}
+use Rattle.ledger_model.specs.Making.{block_of}
+use Rattle.ledger_model.specs.Damages.{Undamaged}
+use Rattle.ledger_claims.specs.Attempts.{Standing, IsStanding, next, ran_next}
+use Rattle.ledger_claims.specs.Makes.{CanMake}
+use Rattle.ledger_claims.proofs.MadeParts.{ascii_text}
+use Rattle.ledger_claims.proofs.MadeUndamaged.{next_is_undamaged}
+
+abbrev nothing : Standing
+nothing = record { mask = 5; last = 0; blocks = [] }
+
+abbrev creates : Request
+creates = record { text = codes "CREATE TABLE t"; params = [] }
+
+abbrev job : Placed
+job = record {
+  place = record { session = 1; transaction = 1 };
+  job = record { statements = creates ∷ []; retries = 4; digest = None; abort = false };
+}
+
+abbrev done : Progress
+done = record {
+  said = record { text = codes "CREATE TABLE t"; params = []; answer = record { rows = named_id (codes "tableId") (raw_id 5 1 1) ∷ [] } } ∷ [];
+  schema = Create (codes "t") (record { raw = raw_id 5 1 1 }) ∷ [];
+  log = [];
+  made = 1;
+}
+
+stands : IsStanding nothing
+stands = record { undamaged = tt; strand = refl; drawn = omega arith; counted = omega arith }
+
+can : (time : TimeParts) → is_time time ≡ true → CanMake 5 time job
+can time timed = record {
+  mask_fits = omega arith;
+  timed = timed;
+  placed = refl;
+  requests = (record { text = ascii_text (codes "CREATE TABLE t") refl; params = refl }, tt);
+}
+
+ends : ran_next nothing job ≡ ran done
+ends = refl
+
+first_block : (time : TimeParts) → is_time time ≡ true → Undamaged (block_of (next nothing) [] job.place time done ∷ [])
+first_block time timed = next_is_undamaged nothing time job done stands (can time timed) (omega arith) (omega arith) ends

@@ -1,0 +1,348 @@
+-- The run of a script from one transaction to the next, from its begin to its end.
+use Rattle.std.proofs.Common.{◌≡◌, ℕ, ◌+◌, ◌<◌, ◌≤◌, Bool, true, false, List, [], ◌∷◌, ◌++◌, length, take, drop, drop-cons, get_or, refl, sym, ap, ap₂, subst, ◌∙◌, arith, append_assoc, append-nil, Option, Some, None, ◌⊎◌, inl, inr, zero, suc}
+use Rattle.std.specs.Prelude.{IfSome, IsSome, OnErr, option_map, Result, Ok, Err}
+use Rattle.std.specs.List.{AllByRecursion}
+use Rattle.std.proofs.Math.Seq.{take-append_seam}
+use Rattle.std.proofs.lemmas.List.{drop_all}
+use Rattle.ion_values.specs.declared.time.TimeParts.{TimeParts}
+use Rattle.ion_values.specs.declared.value.Value.{Value}
+use Rattle.ion_forms.specs.Write.{value_text}
+use Rattle.ql_types.specs.declared.TxId.{TxId}
+use Rattle.ledger_model.specs.declared.block.Block.{Block}
+use Rattle.ledger_model.specs.declared.outcome.Outcome.{Outcome}
+use Rattle.ledger_model.specs.declared.outcome.Outcome.TheVariants.{Committed, Conflict, Refused, DigestDiffers, StoreFault, JournalFull, IdsSpent, Aborted, OutOfMemory}
+use Rattle.ledger_model.specs.declared.outcome.PlacedOutcome.{PlacedOutcome}
+use Rattle.ledger_model.specs.declared.script.Job.{Job}
+use Rattle.ledger_model.specs.Journal.{line, journal_bytes}
+use Rattle.ledger_model.specs.Recovered.{has_no_line_feed}
+use Rattle.ledger_model.specs.Report.{report}
+use Rattle.ledger_model.specs.Script.{Placed, placed_from, all_placed, all_placed_from}
+use Rattle.ledger_claims.specs.Fits.{RunRecord, Fits, FitsBlocks, EachHolds, greatest}
+use Rattle.ledger_claims.specs.Attempts.{Standing, IsStanding, Attempted, HoldsBehind, LeavesPart, LeavesStore, mask_of}
+use Rattle.ledger_claims.specs.SoFar.{InOrder, SoFar, LeavesRun, standing, extended}
+use Rattle.ledger_claims.specs.Stores.{HasJournal, Holding, HoldingWithRest, IsSynced}
+use Rattle.ledger_claims.specs.Top.{Stored, IsReportOf, HoldsRun}
+use Rattle.ledger_claims.proofs.BlocksFit.{FitsBlocks-same}
+use Rattle.ledger_claims.proofs.Growing.{IsNotOf, EachHolds-on}
+use Rattle.ledger_claims.proofs.Left.{journal-HoldingWithRest, all-HoldingWithRest, LeavesRun-here, LeavesRun-on, HoldsRun-left}
+use Rattle.ledger_claims.proofs.Places.{InOrder-all_placed}
+use Rattle.ledger_claims.proofs.Runs.{starts, goes_on, ends}
+use Rattle.ledger_core.specs.Faults.{IsSettleFault}
+use Rattle.ledger_core.specs.Loads.{IsLoaded}
+use Rattle.ledger_core.specs.Tails.{AllSynced, MayBeCut, TellsSynced}
+use Rattle.ledger_core.specs.declared.keeping.SettleFault.{SettleFault}
+use Rattle.ledger_core.specs.declared.keeping.SettleFault.TheVariants as settle
+use Rattle.ledger_cli.specs.Runs.{Come, IsRunning, IsStopped, IsKept, IsReported, BeginsWith, record_of}
+
+-- ---- the bytes begin with the journal's lines
+
+begins_here : (blocks : List Block) (rest : List ℕ) (held : Option (List ℕ)) → HoldsBehind blocks rest held → BeginsWith blocks held
+begins_here blocks rest None holds = tt
+begins_here blocks rest (Some bytes) holds = (rest, holds)
+
+begins_journal : (blocks : List Block) (held : Option (List ℕ)) → HasJournal blocks held → BeginsWith blocks held
+begins_journal blocks None has = tt
+begins_journal blocks (Some bytes) has = (has.0, has.1.lines)
+
+module _ (s : Standing) (time : TimeParts) (p : Placed) (now : Standing) (held kept : Option (List ℕ)) (begins : BeginsWith s.blocks held) where
+  begins_same : now.blocks ≡ s.blocks → kept ≡ held → BeginsWith now.blocks kept
+  begins_same same stays = subst (λ (x : List Block). BeginsWith x kept) (sym same) (subst (λ (x : Option (List ℕ)). BeginsWith s.blocks x) (sym stays) begins)
+
+  begins_part : now.blocks ≡ s.blocks → (kept ≡ held) ⊎ LeavesPart s time p kept → BeginsWith now.blocks kept
+  begins_part same (inl stays) = begins_same same stays
+  begins_part same (inr part) = subst (λ (x : List Block). BeginsWith x kept) (sym same) (begins_here s.blocks (take part.kept (line part.stopped)) kept part.holds)
+
+  begins_on : (before after : ℕ) (o : Outcome) → Attempted s time p before o now after → LeavesStore s time p o now held kept → BeginsWith now.blocks kept
+  begins_on before after (Committed tx block) h leaves = begins_here now.blocks [] kept leaves
+  begins_on before after (Conflict tx since named) h leaves = absurd h
+  begins_on before after (Refused tx since statement cause) h leaves = begins_same h.1.blocks leaves
+  begins_on before after (DigestDiffers tx since mine given) h leaves = absurd h
+  begins_on before after (StoreFault tx count) h leaves = begins_part h.1.blocks leaves
+  begins_on before after (JournalFull tx blocks) h leaves = begins_same h.1.blocks leaves
+  begins_on before after (IdsSpent last) h leaves = begins_same (ap (λ (x : Standing). x.blocks) h.0) leaves
+  begins_on before after (Aborted tx since) h leaves = begins_same h.1.blocks leaves
+  begins_on before after OutOfMemory h leaves = begins_part h.blocks leaves
+
+-- ---- from one transaction to the next
+
+abbrev told : Placed → Outcome → PlacedOutcome
+told p o = record { place = p.place; outcome = o }
+
+module _ (t : RunRecord) (time : TimeParts) (p : Placed) (rest : List Placed) (c d : Come) (o : Outcome)
+    (law : (v : Value) → has_no_line_feed (value_text v) ≡ true)
+    (attempted : Attempted c.stands time p c.faults o d.stands d.faults) (leaves : LeavesStore c.stands time p o d.stands c.held d.held)
+    (later : c.faults ≤ d.faults) (outcomes : d.outcomes ≡ c.outcomes ++ told p o ∷ []) (runs : IsRunning t time (p ∷ rest) c) where
+  abbrev u : RunRecord
+  u = record_of t c
+
+  abbrev v : RunRecord
+  v = extended u d.stands.blocks p o d.faults
+
+  as_told : Attempted (standing u c.stands.last) t.time p c.faults o d.stands d.faults
+  as_told =
+      subst (λ (x : TimeParts). Attempted (standing u c.stands.last) x p c.faults o d.stands d.faults) (sym runs.timed)
+      (subst (λ (x : Standing). Attempted x time p c.faults o d.stands d.faults) runs.stands_so attempted)
+
+  as_left : LeavesStore (standing u c.stands.last) t.time p o d.stands c.held d.held
+  as_left =
+      subst (λ (x : TimeParts). LeavesStore (standing u c.stands.last) x p o d.stands c.held d.held) (sym runs.timed)
+      (subst (λ (x : Standing). LeavesStore x time p o d.stands c.held d.held) runs.stands_so leaves)
+
+  same_record : v ≡ record_of t d
+  same_record = λ i. record t { after = d.stands.blocks; outcomes = sym outcomes i; closed = d.faults }
+
+  one_further : SoFar v (runs.done ++ p ∷ []) rest d.stands.last × IsStanding d.stands × (d.stands ≡ standing v d.stands.last)
+  one_further =
+      goes_on u runs.done p rest c.stands.last o d.stands d.faults runs.so_far
+      (subst (λ (x : Standing). IsStanding x) runs.stands_so runs.sound) later as_told
+
+  pub runs_on : IsRunning t time rest d
+  runs_on = record {
+    timed = runs.timed;
+    done = runs.done ++ p ∷ [];
+    so_far = subst (λ (x : RunRecord). SoFar x (runs.done ++ p ∷ []) rest d.stands.last) same_record one_further.0;
+    stands_so = subst (λ (x : RunRecord). d.stands ≡ standing x d.stands.last) same_record one_further.2;
+    sound = one_further.1;
+    left = subst (λ (x : RunRecord). LeavesRun x d.faults d.held) same_record
+        (LeavesRun-on u runs.done p rest c.stands.last o d.stands d.faults c.faults d.faults c.held d.held law runs.so_far as_told as_left runs.left);
+    begins = begins_on c.stands time p d.stands c.held d.held runs.begins c.faults d.faults o attempted leaves;
+  }
+
+-- ---- the jobs of a session, and the sessions
+
+-- the job at a place, and those behind it
+pub jobs_left : (session at : ℕ) (jobs : List Job) (job : Job) (rest : List Placed) → at < length jobs → job ≡ get_or jobs at job
+    → placed_from session (1 + at) (drop at jobs) ++ rest
+    ≡ record { place = record { session = session; transaction = at + 1 }; job = job } ∷ (placed_from session (1 + (at + 1)) (drop (at + 1) jobs) ++ rest)
+jobs_left session at jobs job rest within is =
+    let first : drop at jobs ≡ get_or jobs at job ∷ drop (suc at) jobs = drop-cons jobs at job within in
+    let step : suc at ≡ at + 1 = omega arith in
+    let one : drop at jobs ≡ job ∷ drop (at + 1) jobs = first ∙ ap₂ (λ (x : Job) (n : ℕ). x ∷ drop n jobs) (sym is) step in
+    let same : 1 + at ≡ at + 1 = omega arith in
+    let next : (at + 1) + 1 ≡ 1 + (at + 1) = omega arith in
+    ap (λ (x : List Job). placed_from session (1 + at) x ++ rest) one
+    ∙ ap (λ n. placed_from session n (job ∷ drop (at + 1) jobs) ++ rest) same
+    ∙ ap (λ n. record { place = record { session = session; transaction = at + 1 }; job = job } ∷ (placed_from session n (drop (at + 1) jobs) ++ rest)) next
+
+-- the session at a place, and those behind it
+pub sessions_left : (at : ℕ) (script : List (List Job)) (jobs d : List Job) → at < length script → jobs ≡ get_or script at d
+    → all_placed_from (1 + at) (drop at script) ≡ placed_from (at + 1) 1 jobs ++ all_placed_from (1 + (at + 1)) (drop (at + 1) script)
+sessions_left at script jobs d within is =
+    let first : drop at script ≡ get_or script at d ∷ drop (suc at) script = drop-cons script at d within in
+    let step : suc at ≡ at + 1 = omega arith in
+    let one : drop at script ≡ jobs ∷ drop (at + 1) script = first ∙ ap₂ (λ (x : List Job) (n : ℕ). x ∷ drop n script) (sym is) step in
+    let same : 1 + at ≡ at + 1 = omega arith in
+    let next : (at + 1) + 1 ≡ 1 + (at + 1) = omega arith in
+    ap (λ (x : List (List Job)). all_placed_from (1 + at) x) one
+    ∙ ap (λ n. all_placed_from n (jobs ∷ drop (at + 1) script)) same
+    ∙ ap (λ n. placed_from (at + 1) 1 jobs ++ all_placed_from n (drop (at + 1) script)) next
+
+-- none is left
+pub jobs_done : (session at : ℕ) (jobs : List Job) (rest : List Placed) → length jobs ≤ at → placed_from session (1 + at) (drop at jobs) ++ rest ≡ rest
+jobs_done session at jobs rest past = ap (λ (x : List Job). placed_from session (1 + at) x ++ rest) (drop_all at jobs past)
+
+pub sessions_done : (at : ℕ) (script : List (List Job)) → length script ≤ at → all_placed_from (1 + at) (drop at script) ≡ []
+sessions_done at script past = ap (λ (x : List (List Job)). all_placed_from (1 + at) x) (drop_all at script past)
+
+-- what is so is so where there is an error
+pub on_err : {A E Q : Type 0} (r : Result A E) → Q → OnErr r Q
+on_err (Ok x) q = tt
+on_err (Err e) q = q
+
+-- a run that came no further stopped there
+pub stopped_at : (t : RunRecord) (time : TimeParts) (rest : List Placed) (c d : Come) → d ≡ c → IsRunning t time rest c → IsStopped t time d
+stopped_at t time rest c d same runs = (rest, subst (λ (x : Come). IsRunning t time rest x) (sym same) runs)
+
+pub all_at : {A : Type 0} (P : A → Type 0) (xs : List A) (k : ℕ) (d : A) → AllByRecursion P xs → k < length xs → P (get_or xs k d)
+all_at P [] k d h within = absurd (omega (arith, within))
+all_at P (x ∷ xs) zero d h within = h.0
+all_at P (x ∷ xs) (suc k) d h within = all_at P xs k d h.1 (omega (arith, within))
+
+-- ---- the begin
+
+-- no job is done
+pub runs_begun : (t : RunRecord) (time : TimeParts) (script : List (List Job)) (c : Come) → t.before ≡ c.stands.blocks → t.mask ≡ c.stands.mask → t.time ≡ time
+    → t.jobs ≡ all_placed script → t.opened ≤ c.faults → c.outcomes ≡ [] → IsStanding c.stands → c.stands.last ≡ greatest c.stands.mask c.stands.blocks
+    → HasJournal c.stands.blocks c.held → IsRunning t time (all_placed script) c
+runs_begun t time script c before masks times jobs opens none sound last has =
+    let u : RunRecord = record_of t c in
+    let so : SoFar u [] u.jobs c.stands.last =
+    starts u c.stands (subst (λ (x : List Placed). InOrder x) (sym jobs) (InOrder-all_placed script)) (sym before) none opens sound (sym before) (sym masks)
+    (last ∙ (λ i. greatest (sym masks i) (sym before i))) in
+    record {
+      timed = times;
+      done = [];
+      so_far = subst (λ (x : List Placed). SoFar u [] x c.stands.last) jobs so;
+      stands_so = λ i. record { mask = sym masks i; last = c.stands.last; blocks = c.stands.blocks };
+      sound = sound;
+      left = LeavesRun-here u c.faults c.held so.blocks (journal-HoldingWithRest c.stands.blocks c.held has);
+      begins = begins_journal c.stands.blocks c.held has;
+    }
+
+-- ---- the end
+
+-- of no blocks none is a job's
+none_of : (qs : List Placed) → AllByRecursion (λ q. AllByRecursion (IsNotOf q) []) qs
+none_of [] = tt
+none_of (q ∷ qs) = (tt, none_of qs)
+
+-- that the store fails more often changes nothing
+Fits-later : (t : RunRecord) (closed : ℕ) → t.closed ≤ closed → Fits t → Fits (record t { closed = closed })
+Fits-later t closed later fits = record {
+  blocks = FitsBlocks-same t t.outcomes closed fits.blocks;
+  outcomes =
+      EachHolds-on t t.after [] t.outcomes closed
+      (record { begins = fits.blocks.begins; behind = sym (append-nil t.after); later = later; room = λ _. refl })
+      [] t.jobs t.outcomes (none_of t.jobs) fits.outcomes;
+  numbers = fits.numbers;
+  counts = fits.counts;
+}
+
+-- the whole run was told
+pub runs_ended : (t : RunRecord) (time : TimeParts) (c : Come) (now : Standing) (closed : ℕ) → IsRunning t time [] c → now ≡ c.stands → c.faults ≤ closed
+    → Fits (record t { after = now.blocks; outcomes = c.outcomes; closed = closed })
+runs_ended t time c now closed runs same later =
+    subst (λ (x : Standing). Fits (record t { after = x.blocks; outcomes = c.outcomes; closed = closed })) (sym same)
+    (Fits-later (record_of t c) closed later (ends (record_of t c) runs.done c.stands.last runs.so_far))
+
+-- what a run leaves that stopped
+pub stopped_leaves : (t : RunRecord) (time : TimeParts) (rest : List Placed) (c : Come) → IsRunning t time rest c → LeavesRun t c.faults c.held
+stopped_leaves t time rest c runs = record {
+  blocks = runs.left.blocks;
+  fits = FitsBlocks-same (record (record_of t c) { after = runs.left.blocks; closed = c.faults }) t.outcomes c.faults runs.left.fits;
+  holding = runs.left.holding;
+}
+
+leaves_later : (t : RunRecord) (before closed : ℕ) (held kept : Option (List ℕ)) → kept ≡ held → LeavesRun t before held → LeavesRun t closed kept
+leaves_later t before closed held kept same left = record {
+  blocks = left.blocks;
+  fits = FitsBlocks-same (record t { after = left.blocks; closed = before }) t.outcomes closed left.fits;
+  holding = subst (λ (x : Option (List ℕ)). HoldingWithRest left.blocks x) (sym same) left.holding;
+}
+
+leaves_all : (t : RunRecord) (time : TimeParts) (rest : List Placed) (c : Come) (closed : ℕ) (kept : Option (List ℕ)) → IsRunning t time rest c
+    → Holding c.stands.blocks kept → LeavesRun t closed kept
+leaves_all t time rest c closed kept runs holds = record {
+  blocks = c.stands.blocks;
+  fits = FitsBlocks-same (record_of t c) t.outcomes closed runs.so_far.blocks;
+  holding = all-HoldingWithRest c.stands.blocks kept holds;
+}
+
+-- cut to the lines of the blocks
+cut_holds : (blocks : List Block) (held : Option (List ℕ)) → BeginsWith blocks held → Holding blocks (option_map (take (length (journal_bytes blocks))) held)
+cut_holds blocks None begins = tt
+cut_holds blocks (Some bytes) begins =
+    ap (λ (x : List ℕ). take (length (journal_bytes blocks)) x) begins.1 ∙ take-append_seam (journal_bytes blocks) begins.0
+
+pub cut_leaves : (t : RunRecord) (time : TimeParts) (rest : List Placed) (c : Come) (closed : ℕ) (kept : Option (List ℕ)) → IsRunning t time rest c
+    → MayBeCut c.held kept (length (journal_bytes c.stands.blocks)) → LeavesRun t closed kept
+cut_leaves t time rest c closed kept runs (inl same) = leaves_later t c.faults closed c.held kept same (stopped_leaves t time rest c runs)
+cut_leaves t time rest c closed kept runs (inr cut) =
+    leaves_all t time rest c closed kept runs (subst (λ (x : Option (List ℕ)). Holding c.stands.blocks x) (sym cut) (cut_holds c.stands.blocks c.held runs.begins))
+
+-- where the report finds no memory
+pub settled_leaves : (t : RunRecord) (time : TimeParts) (rest : List Placed) (c : Come) (now : Standing) (closed : ℕ) (kept : Option (List ℕ)) → IsRunning t time rest c
+    → now ≡ c.stands → Holding now.blocks kept → LeavesRun t closed kept
+settled_leaves t time rest c now closed kept runs same holds =
+    leaves_all t time rest c closed kept runs (subst (λ (x : Standing). Holding x.blocks kept) same holds)
+
+-- ---- what is synced
+
+tells_synced : (held : Option (List ℕ)) (synced : Option ℕ) → IsSynced held synced → TellsSynced held synced
+tells_synced None synced is = tt
+tells_synced (Some bytes) synced is = subst (λ (x : Option ℕ). IsSome x) (sym is) refl
+
+pub kept_begun : (c : Come) → IsSynced c.held c.synced → IsKept c
+kept_begun c is = record { tells = tells_synced c.held c.synced is; synced = λ _. is }
+
+-- a store that was cut or not tells its synced length still
+told_still : (was kept : Option (List ℕ)) (told : Option ℕ) (size : ℕ) → TellsSynced was told → MayBeCut was kept size → IfSome kept (λ _. IsSome told)
+told_still was None told size tells cut = tt
+told_still None (Some bytes) told size tells (inl same) = let bad : ⊥ = cc in absurd bad
+told_still None (Some bytes) told size tells (inr cut) = let bad : ⊥ = cc in absurd bad
+told_still (Some held) (Some bytes) told size tells cut = tells
+
+synced_all : (kept : Option (List ℕ)) (told synced : Option ℕ) → IfSome kept (λ _. IsSome told) → AllSynced told kept synced → IsSynced kept synced
+synced_all None told synced tells all = tt
+synced_all (Some bytes) None synced tells all = let bad : ⊥ = cc in absurd bad
+synced_all (Some bytes) (Some n) synced tells all = all
+
+synced_by : (marked : Bool) (was kept : Option (List ℕ)) (told synced : Option ℕ) (size : ℕ) → TellsSynced was told → (marked ≡ false → IsSynced was told)
+    → MayBeCut was kept size → (marked ≡ true → AllSynced told kept synced) → (marked ≡ false → (kept ≡ was) × (synced ≡ told)) → IsSynced kept synced
+synced_by true was kept told synced size tells is cut all same = synced_all kept told synced (told_still was kept told size tells cut) (all refl)
+synced_by false was kept told synced size tells is cut all same =
+    let both = same refl in
+    subst (λ (x : Option ℕ). IsSynced kept x) (sym both.1) (subst (λ (x : Option (List ℕ)). IsSynced x told) (sym both.0) (is refl))
+
+pub kept_settled : (c : Come) (kept : Option (List ℕ)) (synced : Option ℕ) (size : ℕ) → MayBeCut c.held kept size → (c.marked ≡ true → AllSynced c.synced kept synced)
+    → (c.marked ≡ false → (kept ≡ c.held) × (synced ≡ c.synced)) → IsKept c → IsSynced kept synced
+kept_settled c kept synced size cut all same is = synced_by c.marked c.held kept c.synced synced size is.tells is.synced cut all same
+
+-- the same run, told of an equal script and an equal state
+pub runs_same : (t : RunRecord) (time : TimeParts) (script given : List (List Job)) (c d : Come) → given ≡ script → d ≡ c → IsRunning t time (all_placed script) c
+    → IsRunning t time (all_placed given) d
+runs_same t time script given c d same come runs =
+    subst (λ (x : List (List Job)). IsRunning t time (all_placed x) d) (sym same) (subst (λ (x : Come). IsRunning t time (all_placed script) x) (sym come) runs)
+
+-- a failure after a later time is one after an earlier time
+pub fault_later : (why : SettleFault) (before between after : ℕ) (last_failed : Bool) → before ≤ between → IsSettleFault why between after last_failed
+    → IsSettleFault why before after last_failed
+fault_later (settle.StoreFault count) before between after last_failed later h = (omega (arith, later, h.0), h.1, h.2)
+fault_later settle.OutOfMemory before between after last_failed later h = tt
+
+-- ---- the whole run
+
+-- the record of a run that begins with what was loaded
+abbrev pub loaded : TimeParts → List (List Job) → ℕ → Standing → RunRecord
+loaded time script opened found = record {
+  mask = found.mask;
+  time = time;
+  jobs = all_placed script;
+  opened = opened;
+  closed = opened;
+  before = found.blocks;
+  after = found.blocks;
+  outcomes = [];
+}
+
+loaded_journal : (held : Option (List ℕ)) (blocks : List Block) (marked : Bool) → IsLoaded held blocks marked → HasJournal blocks held
+loaded_journal None blocks marked is = tt
+loaded_journal (Some bytes) blocks marked is = (is.0, is.1)
+
+module _ (time : TimeParts) (script : List (List Job)) (s : Stored) (found : Standing) (marked : Bool) (journal : IsLoaded s.held_before found.blocks marked)
+    (mask : found.mask ≡ mask_of 0 found.blocks) where
+  abbrev t : RunRecord
+  t = loaded time script s.faults_before found
+
+  -- the run begins
+  pub loaded_begun : (c : Come) → c.stands ≡ found → c.outcomes ≡ [] → s.faults_before ≤ c.faults → c.held ≡ s.held_before → IsStanding found
+      → found.last ≡ greatest found.mask found.blocks → IsRunning t time (all_placed script) c
+  loaded_begun c same none opens held sound last =
+      runs_begun t time script c (ap (λ (x : Standing). x.blocks) (sym same)) (ap (λ (x : Standing). x.mask) (sym same)) refl refl opens none
+      (subst (λ (x : Standing). IsStanding x) (sym same) sound)
+      (subst (λ (x : Standing). x.last ≡ greatest x.mask x.blocks) (sym same) last)
+      (subst (λ (x : Standing). HasJournal x.blocks c.held) (sym same)
+      (subst (λ (x : Option (List ℕ)). HasJournal found.blocks x) (sym held) (loaded_journal s.held_before found.blocks marked journal)))
+
+  pub loaded_reported : (text : List ℕ) → IsReported t s.held_after s.faults_after text
+      → (IsSynced s.held_before s.synced_before → IsSynced s.held_after s.synced_after) → IsReportOf time script s text
+  loaded_reported text reported synced = record {
+    told = record t { after = reported.blocks; outcomes = reported.outcomes; closed = s.faults_after };
+    done = record {
+      of_run = record {
+        found = loaded_journal s.held_before found.blocks marked journal;
+        mask_is = mask;
+        time_is = refl;
+        jobs = refl;
+        opened = refl;
+        closed = refl;
+      };
+      fits = reported.fits;
+      holding = reported.holding;
+      synced = synced;
+    };
+    text_is = reported.text_is;
+  }
+
+  pub loaded_left : LeavesRun t s.faults_after s.held_after → HoldsRun time script s
+  loaded_left left = HoldsRun-left time script s t (loaded_journal s.held_before found.blocks marked journal) mask refl refl refl left

@@ -1,8 +1,0 @@
-use Rattle.std.proofs.Common.{◌≡◌, drop}
-use Rattle.ledger_model.specs.Script.{each, request_of}
-use Rattle.ledger_cli.proofs.Each.{behind}
-use Rattle.ledger_cli.proofs.script.asked_of.Given as goal
-
--- what was made so far and what the rest gives is what all give
-abbrev pub invariant-loop-value : goal.invariant-loop-value
-invariant-loop-value l = behind l.asked (each request_of (drop l.value-index l.values)) ≡ each request_of l.values

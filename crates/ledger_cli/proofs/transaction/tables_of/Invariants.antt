@@ -1,5 +1,0 @@
-use Rattle.std.proofs.Common.{◌≡◌, map, take}
-use Rattle.ledger_cli.proofs.transaction.tables_of.Given as goal
-
-abbrev pub invariant-drafts : goal.invariant-drafts
-invariant-drafts l = l.tables ≡ map (λ d. d.table) (take l.draft-index l.drafts)

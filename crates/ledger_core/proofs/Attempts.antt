@@ -1,0 +1,170 @@
+-- The outcomes of one transaction, case by case: what is drawn, run and committed is what an attempt is to do.
+use Rattle.std.proofs.Common.{◌≡◌, ℕ, ◌+◌, ◌-◌, ◌^◌, ◌<◌, ◌≤◌, ◌⊎◌, ◌&&◌, inl, inr, false, List, [], ◌∷◌, ◌++◌, length, Option, Some, None, refl, sym, ap, subst, ◌∙◌, arith, append-nil, length-append, leb-true}
+use Rattle.std.specs.Prelude.{nat_le, nat_lt, ◌==◌, IsTrue, true}
+use Rattle.std.specs.List.{AllByRecursion}
+use Rattle.std.proofs.lemmas.Bool.{and_from, and_parts, lt-ltb}
+use Rattle.ion_values.specs.declared.time.TimeParts.{TimeParts}
+use Rattle.ion_values.specs.Time.{is_time}
+use Rattle.ql_types.specs.Ids.{raw_id}
+use Rattle.ql_types.specs.declared.Place.{Place}
+use Rattle.ql_types.specs.declared.TxId.{TxId}
+use Rattle.ledger_model.specs.declared.block.Block.{Block}
+use Rattle.ledger_model.specs.declared.outcome.Outcome.{Outcome}
+use Rattle.ledger_model.specs.declared.outcome.Outcome.TheVariants.{Committed, Conflict, Refused, DigestDiffers, StoreFault, JournalFull, IdsSpent, Aborted, OutOfMemory}
+use Rattle.ledger_model.specs.declared.outcome.Refusal.{Refusal}
+use Rattle.ledger_model.specs.Run.{Begun, Progress, ran, refused}
+use Rattle.ledger_model.specs.Making.{block_of}
+use Rattle.ledger_model.specs.Damages.{Undamaged, UndamagedBehind, strand_of}
+use Rattle.ledger_model.specs.Journal.{journal_bytes}
+use Rattle.ledger_model.specs.Script.{Placed}
+use Rattle.ledger_model.specs.Whole.{place_fits}
+use Rattle.ledger_claims.specs.Attempts.{Standing, IsStanding, IsNext, IsNextBlock, Seals, Draws, MayDraw, Attempted, LeavesStore, HoldsBehind, LeavesPart, next, ran_next}
+use Rattle.ledger_claims.specs.Makes.{CanMake, IsWithin}
+use Rattle.ledger_claims.specs.Stores.{Holding}
+use Rattle.ledger_claims.proofs.MadeJournals.{passes_all}
+use Rattle.ledger_claims.proofs.MadeUndamaged.{next_is_undamaged}
+use Rattle.ledger_claims.proofs.Standings.{Attempted-IsStanding}
+use Rattle.ledger_core.specs.Tails.{MayHoldPart, joined}
+use Rattle.ledger_core.specs.declared.transaction.Transaction.{Transaction}
+use Rattle.ledger_core.specs.Transactions.{begun_of, progress_of}
+use Rattle.ledger_core.specs.Attempting.{Commits, CommitLeaves, HasRoom, drawn, next_block}
+
+-- ---- at most 2^32 - 1 blocks
+
+bound_behind : (bs before : List Block) → UndamagedBehind before bs → length before ≤ 2 ^ 32 - 1 → length before + length bs ≤ 2 ^ 32 - 1
+bound_behind [] before u h = omega (arith, h)
+bound_behind (b ∷ bs) before u h =
+    let address = (passes_all before b u.1).address in
+    let two = and_parts ((b.header.address.sequence == length before) && nat_le (length before) (2 ^ 32 - 2)) (b.header.address.strand.raw == strand_of before b) address in
+    let one = and_parts (b.header.address.sequence == length before) (nat_le (length before) (2 ^ 32 - 2)) two.0 in
+    let low : length before ≤ 2 ^ 32 - 2 = leb-true (length before) (2 ^ 32 - 2) one.1 in
+    let long : length (before ++ b ∷ []) ≡ length before + 1 = length-append before (b ∷ []) in
+    let rest = bound_behind bs (before ++ b ∷ []) u.2 (omega (arith, low, long)) in
+    omega (arith, rest, long)
+
+pub bound : (s : Standing) → IsStanding s → length s.blocks ≤ 2 ^ 32 - 1
+bound s is = let h = bound_behind s.blocks [] is.undamaged (omega arith) in omega (arith, h)
+
+-- ---- the number is drawn
+
+pub draws : (s now : Standing) → now ≡ drawn s → Draws s now
+draws s now e = subst (λ (x : Standing). Draws s x) (sym e) (record { mask = refl; last = refl; blocks = refl })
+
+pub may_draw : (s now : Standing) → s.last + 1 < 2 ^ 64 → now ≡ drawn s → MayDraw s now
+may_draw s now counted e =
+    subst (λ (x : Standing). MayDraw s x) (sym e)
+    (record { mask = refl; not_before = omega arith; not_past = omega arith; counted = counted; blocks = refl })
+
+-- ---- what a commit does and leaves
+
+holds_alone : (blocks : List Block) (held : Option (List ℕ)) → Holding blocks held → HoldsBehind blocks [] held
+holds_alone blocks None h = tt
+holds_alone blocks (Some bytes) h = h ∙ sym (append-nil (journal_bytes blocks))
+
+module _ (s : Standing) (time : TimeParts) (p : Placed) (progress : Progress) (is : IsStanding s) (can : CanMake s.mask time p) (counted : s.last + 1 < 2 ^ 64)
+    (runs : ran_next s p ≡ ran progress) (commits : p.job.abort ≡ false) (b : Block) (b_is : b ≡ block_of (next s) s.blocks p.place time progress) where
+  next_made : HasRoom s → IsNextBlock s time p b
+  next_made room = record {
+    made = record { progress = progress; runs = runs; block_is = b_is };
+    undamaged = subst (λ (x : Block). Undamaged (s.blocks ++ x ∷ [])) (sym b_is) (next_is_undamaged s time p progress is can counted room runs);
+    commits = commits;
+    room = room;
+    counted = counted;
+  }
+
+  block_id : b.header.tx ≡ record { raw = raw_id s.mask (s.last + 1) 0 }
+  block_id = ap (λ (x : Block). x.header.tx) b_is
+
+  id_is : (id : TxId) → IsNext s id → id ≡ record { raw = raw_id s.mask (s.last + 1) 0 }
+  id_is id is_next = λ i. record { raw = is_next.id i }
+
+  sealed_next : (id : TxId) → IsNext s id → HasRoom s → Seals s time p id (length s.blocks) (joined (drawn s) b)
+  sealed_next id is_next room = record {
+    sealed = b;
+    is_next = next_made room;
+    id = id_is id is_next ∙ sym block_id;
+    place = refl;
+    mask = refl;
+    last = refl;
+    blocks = refl;
+  }
+
+  pub next_stands : (id : TxId) → IsNext s id → HasRoom s → IsStanding (joined (drawn s) b)
+  next_stands id is_next room =
+      Attempted-IsStanding s time p 0 (Committed id (length s.blocks)) (joined (drawn s) b) 0 is (sealed_next id is_next room)
+
+  same_id : (id tx : TxId) → id ≡ tx → IsNext s tx → IsNext s id
+  same_id id tx e is_next = subst (λ (x : TxId). IsNext s x) (sym e) is_next
+
+  seals : (id tx : TxId) (at : ℕ) (now : Standing) → id ≡ tx → at ≡ length s.blocks → HasRoom s → now ≡ joined (drawn s) b → IsNext s tx → Seals s time p id at now
+  seals id tx at now e place room e_now is_next =
+      subst (λ (n : Standing). Seals s time p id at n) (sym e_now)
+      (subst (λ (k : ℕ). Seals s time p id k (joined (drawn s) b)) (sym place) (sealed_next id (same_id id tx e is_next) room))
+
+  pub commit_is : (tx : TxId) (before : ℕ) (o : Outcome) (now : Standing) (after : ℕ) → IsNext s tx → Commits tx (drawn s) b before o now after → Attempted s time p before o now after
+  commit_is tx before (Committed id at) now after n c = seals id tx at now c.0 c.1 c.2 c.3 n
+  commit_is tx before (Conflict id since named) now after n c = absurd c
+  commit_is tx before (Refused id since statement cause) now after n c = absurd c
+  commit_is tx before (DigestDiffers id since mine given) now after n c = absurd c
+  commit_is tx before (StoreFault id count) now after n c = (same_id id tx c.0 n, draws s now c.2, commits, c.3, c.4)
+  commit_is tx before (JournalFull id blocks) now after n c = (same_id id tx c.0 n, draws s now c.3, commits, c.1, c.2)
+  commit_is tx before (IdsSpent last) now after n c = absurd c
+  commit_is tx before (Aborted id since) now after n c = absurd c
+  commit_is tx before OutOfMemory now after n c = may_draw s now counted c.1
+
+  left_part : (held after : Option (List ℕ)) → HasRoom s → MayHoldPart s.blocks b held after → (after ≡ held) ⊎ LeavesPart s time p after
+  left_part held after room (inl same) = inl same
+  left_part held after room (inr part) = inr (record { stopped = b; is_next = next_made room; kept = part.0; holds = part.1 })
+
+  pub commit_leaves : (tx : TxId) (before : ℕ) (o : Outcome) (now : Standing) (after : ℕ) (held held_after : Option (List ℕ))
+      → Commits tx (drawn s) b before o now after → CommitLeaves s.blocks b o held held_after → LeavesStore s time p o now held held_after
+  commit_leaves tx before (Committed id at) now after held held_after c l =
+      holds_alone now.blocks held_after (subst (λ (x : List Block). Holding x held_after) (sym (ap (λ (n : Standing). n.blocks) c.3)) l)
+  commit_leaves tx before (Conflict id since named) now after held held_after c l = l
+  commit_leaves tx before (Refused id since statement cause) now after held held_after c l = l
+  commit_leaves tx before (DigestDiffers id since mine given) now after held held_after c l = l
+  commit_leaves tx before (StoreFault id count) now after held held_after c l = left_part held held_after c.1 l
+  commit_leaves tx before (JournalFull id blocks) now after held held_after c l = l
+  commit_leaves tx before (IdsSpent last) now after held held_after c l = l
+  commit_leaves tx before (Aborted id since) now after held held_after c l = l
+  commit_leaves tx before OutOfMemory now after held held_after c l = left_part held held_after c.0 l
+
+-- ---- a transaction whose statements are all done
+
+pub place_within : (p : Place) → p.session < 2 ^ 32 → p.transaction < 2 ^ 32 → IsTrue (place_fits p)
+place_within p session transaction =
+    and_from (nat_lt p.session (2 ^ 32)) (nat_lt p.transaction (2 ^ 32)) (lt-ltb p.session (2 ^ 32) session) (lt-ltb p.transaction (2 ^ 32) transaction)
+
+pub can_make : (s : Standing) (time : TimeParts) (p : Placed) → s.mask < 2 ^ 128 → IsTrue (is_time time) → IsTrue (place_fits p.place)
+    → AllByRecursion IsWithin p.job.statements → CanMake s.mask time p
+can_make s time p mask timed placed asked = record { mask_fits = mask; timed = timed; placed = placed; requests = asked }
+
+module _ (s : Standing) (time : TimeParts) (p : Placed) (t : Transaction) (tx : TxId) (is : IsStanding s) (can : CanMake s.mask time p) (n : IsNext s tx)
+    (runs : ran (progress_of t) ≡ ran_next s p) (begun : begun_of t ≡ next s) (commits : p.job.abort ≡ false) where
+  block_is : next_block t s.blocks p.place time ≡ block_of (next s) s.blocks p.place time (progress_of t)
+  block_is = ap (λ (b : Begun). block_of b s.blocks p.place time (progress_of t)) begun
+
+  pub done_stands : HasRoom s → IsStanding (joined (drawn s) (next_block t s.blocks p.place time))
+  done_stands room =
+      next_stands s time p (progress_of t) is can n.counted (sym runs) commits (next_block t s.blocks p.place time) block_is tx n room
+
+  pub done_attempted : (before : ℕ) (o : Outcome) (now : Standing) (after : ℕ)
+      → Commits tx (drawn s) (next_block t s.blocks p.place time) before o now after → Attempted s time p before o now after
+  done_attempted before o now after c =
+      commit_is s time p (progress_of t) is can n.counted (sym runs) commits (next_block t s.blocks p.place time) block_is tx before o now after n c
+
+  pub done_leaves : (before : ℕ) (o : Outcome) (now : Standing) (after : ℕ) (held held_after : Option (List ℕ))
+      → Commits tx (drawn s) (next_block t s.blocks p.place time) before o now after
+      → CommitLeaves s.blocks (next_block t s.blocks p.place time) o held held_after → LeavesStore s time p o now held held_after
+  done_leaves before o now after held held_after c l =
+      commit_leaves s time p (progress_of t) is can n.counted (sym runs) commits (next_block t s.blocks p.place time) block_is tx before o now after held held_after c l
+
+-- ---- a transaction that isn't committed
+
+pub aborted : (s now : Standing) (time : TimeParts) (p : Placed) (t : Transaction) (tx : TxId) (since before after : ℕ) → IsNext s tx → now ≡ drawn s
+    → since ≡ length s.blocks → p.job.abort ≡ true → ran (progress_of t) ≡ ran_next s p → Attempted s time p before (Aborted tx since) now after
+aborted s now time p t tx since before after n e place aborts runs = (n, draws s now e, place, aborts, (progress_of t, sym runs))
+
+pub refused_at : (s now : Standing) (time : TimeParts) (p : Placed) (tx : TxId) (since statement : ℕ) (cause : Refusal) (before after : ℕ) → IsNext s tx
+    → now ≡ drawn s → since ≡ length s.blocks → refused statement cause ≡ ran_next s p → Attempted s time p before (Refused tx since statement cause) now after
+refused_at s now time p tx since statement cause before after n e place runs = (n, draws s now e, place, sym runs)

@@ -1,0 +1,16 @@
+use Rattle.std.proofs.Common.{◌≡◌, ◌∙◌, ap, ◌++◌, take, rules}
+use Rattle.ledger_core.proofs.Read.{front-next, take-inside}
+use Rattle.ledger_core.proofs.reload.read_stored.Goals as goal
+
+pub pieces-preserved : goal.pieces-preserved
+pieces-preserved g c =
+    let grown : c.extend_from_slice.new.self.items ≡ c.pieces.all.items ++ take c.in_ok-count.count c.read_at.new.out =
+    c.in_ok-extend_from_slice.ensures.items ∙ ap (λ xs. c.pieces.all.items ++ xs) (take-inside c.in_ok-count.count c.read_at.new.out _ c.in_ok-count.ensures.bound.0) in
+    record {
+      front = front-next (g.S.JournalStore.bytes c.args.store.now) (g.S.JournalStore.bytes c.pieces.store) c.pieces.all.items c.read_at.new.out _ _ _ _
+          c.pieces.invariant.bytes (search rules) c.pieces.invariant.within c.pieces.invariant.front c.in_ok-count.ensures.given grown;
+      within = search rules;
+      bytes = search rules;
+      synced = search rules;
+      later = search rules;
+    }

@@ -1,0 +1,50 @@
+-- How one transaction is committed: the number that is drawn for it, the block that it becomes, and what the commit does.
+use Rattle.std.specs.Prelude.{◌≡◌, ℕ, ◌+◌, ◌-◌, ◌^◌, ◌<◌, ◌≤◌, ◌⊎◌, List, [], ◌∷◌, ◌++◌, length, Option}
+use Rattle.ion_values.specs.declared.time.TimeParts.{TimeParts}
+use Rattle.ql_types.specs.declared.Place.{Place}
+use Rattle.ql_types.specs.declared.TxId.{TxId}
+use Rattle.ledger_model.specs.declared.block.Block.{Block}
+use Rattle.ledger_model.specs.declared.outcome.Outcome.{Outcome}
+use Rattle.ledger_model.specs.declared.outcome.Outcome.TheVariants.{Committed, StoreFault, JournalFull, OutOfMemory}
+use Rattle.ledger_model.specs.Run.{Begun}
+use Rattle.ledger_model.specs.Making.{block_of}
+use Rattle.ledger_claims.specs.Attempts.{Standing}
+use Rattle.ledger_claims.specs.Stores.{Holding}
+use Rattle.ledger_core.specs.declared.transaction.Transaction.{Transaction}
+use Rattle.ledger_core.specs.Tails.{MayHoldPart, SyncsAll, joined}
+use Rattle.ledger_core.specs.Transactions.{begun_of, progress_of}
+
+-- one number more was drawn
+abbrev pub drawn : Standing → Standing
+drawn s = record s { last = s.last + 1 }
+
+-- the transaction of the last number
+abbrev pub begun_last : Standing → Begun
+begun_last s = record { mask = s.mask; number = s.last }
+
+-- the block that a transaction becomes behind these blocks
+abbrev pub next_block : Transaction → List Block → Place → TimeParts → Block
+next_block t before place time = block_of (begun_of t) before place time (progress_of t)
+
+-- there is a place for one block more
+abbrev pub HasRoom : Standing → Type 0
+HasRoom s = length s.blocks < 2 ^ 32 - 1
+
+-- What the commit of a block does, by its outcome; the store had failed `before` times and then `after` times.
+abbrev pub Commits : TxId → Standing → Block → ℕ → Outcome → Standing → ℕ → Type 0
+Commits tx s b before (Committed id block) now after = (id ≡ tx) × (block ≡ length s.blocks) × HasRoom s × (now ≡ joined s b)
+Commits tx s b before (StoreFault id count) now after = (id ≡ tx) × HasRoom s × (now ≡ s) × (before < count) × (count ≤ after)
+Commits tx s b before (JournalFull id blocks) now after = (id ≡ tx) × (length s.blocks ≡ 2 ^ 32 - 1) × (blocks ≡ 2 ^ 32 - 1) × (now ≡ s)
+Commits tx s b before OutOfMemory now after = HasRoom s × (now ≡ s)
+Commits tx s b before other now after = ⊥
+
+-- what the commit leaves in the store
+abbrev pub CommitLeaves : List Block → Block → Outcome → Option (List ℕ) → Option (List ℕ) → Type 0
+CommitLeaves blocks b (Committed id block) before after = Holding (blocks ++ b ∷ []) after
+CommitLeaves blocks b (StoreFault id count) before after = MayHoldPart blocks b before after
+CommitLeaves blocks b OutOfMemory before after = MayHoldPart blocks b before after
+CommitLeaves blocks b other before after = after ≡ before
+
+-- the store holds the lines of the blocks and nothing else, all synced where it told its synced length before
+abbrev pub IsKept : List Block → Option (List ℕ) → Option ℕ → Option (List ℕ) → Option ℕ → Type 0
+IsKept blocks held_before synced_before held synced = Holding blocks held × SyncsAll held_before synced_before held synced

@@ -1,0 +1,9 @@
+pub mod Attempting
+pub mod Catalogs
+pub mod Faults
+pub mod Known
+pub mod Loads
+pub mod Places
+pub mod Statements
+pub mod Tails
+pub mod Transactions

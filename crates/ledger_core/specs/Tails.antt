@@ -1,0 +1,76 @@
+-- The tail of a journal: the blocks that its store has taken, the numbers that its transactions have, and what stands behind
+-- the lines of the blocks in the store. A store keeps the journal as the lines of its blocks, one behind another.
+use Rattle.std.specs.Prelude.{◌≡◌, ◌⊎◌, ℕ, Bool, false, refl, List, [], ◌∷◌, ◌++◌, length, take, Option, Some, IfSome, option_map, IsSome, if◌then◌else◌}
+use Rattle.std.specs.Coded.{Coded, code_by, coded×, coded_ℕ, coded_bool, coded_list}
+use Rattle.ledger_model.specs.declared.block.Block.{Block}
+use Rattle.ledger_model.specs.contracts.block.Block as block
+use Rattle.ledger_model.specs.Journal.{line, journal_bytes}
+use Rattle.ledger_model.specs.State.{state}
+use Rattle.ledger_claims.specs.Attempts.{Standing, IsStanding, HoldsBehind}
+use Rattle.ledger_claims.specs.Stores.{IsSynced}
+use Rattle.ledger_core.specs.declared.catalog.Catalog.{Catalog}
+use Rattle.ledger_core.specs.Catalogs.{Lists}
+
+-- the store and the clock, what the ledger stands for between two transactions, and whether the store is to be cut to the
+-- lines of the blocks before it takes another one
+pub record TailHeld (S C : Type 0) : Type 0 where
+  pub store : S
+  pub clock : C
+  pub standing : Standing
+  pub marked : Bool
+
+abbrev pub standing_code : Coded Standing
+standing_code =
+    code_by (ℕ × (ℕ × List Block)) (coded× coded_ℕ (coded× coded_ℕ (coded_list block.the_row.coded)))
+    (λ s. (s.mask, (s.last, s.blocks))) (λ p. record { mask = p.0; last = p.1.0; blocks = p.1.1 }) (λ _. refl)
+
+abbrev pub tail_code : {S C : Type 0} → Coded S → Coded C → Coded (TailHeld S C)
+tail_code {S} {C} store clock =
+    code_by (S × (C × (Standing × Bool))) (coded× store (coded× clock (coded× standing_code coded_bool)))
+    (λ t. (t.store, (t.clock, (t.standing, t.marked)))) (λ p. record { store = p.0; clock = p.1.0; standing = p.1.1.0; marked = p.1.1.1 }) (λ _. refl)
+
+-- one block more
+abbrev pub joined : Standing → Block → Standing
+joined s b = record s { blocks = s.blocks ++ b ∷ [] }
+
+-- Behind these bytes the store holds nothing, or a rest that is marked to be cut.
+abbrev pub HoldsMarked : List ℕ → Bool → Option (List ℕ) → Type 0
+HoldsMarked journal marked held = IfSome held (λ bytes. (rest : List ℕ) × (bytes ≡ journal ++ rest) × (marked ≡ false → rest ≡ []))
+
+-- what a tail keeps true of the bytes of its store, its standing, its mark and the length of the lines of its blocks
+pub record IsTail (held : Option (List ℕ)) (standing : Standing) (marked : Bool) (size : ℕ) : Type 0 where
+  pub stands : IsStanding standing
+  pub long : size ≡ length (journal_bytes standing.blocks)
+  pub holds : HoldsMarked (journal_bytes standing.blocks) marked held
+
+-- a catalog that is there lists the state of the blocks
+abbrev pub IsListed : List Block → Option Catalog → Type 0
+IsListed blocks catalog = IfSome catalog (λ listed. Lists (state blocks) listed)
+
+-- where the store told its synced length before and tells its bytes, all of them are synced now
+abbrev pub AllSynced : Option ℕ → Option (List ℕ) → Option ℕ → Type 0
+AllSynced before held now = IfSome before (λ _. IfSome held (λ bytes. now ≡ Some (length bytes)))
+
+-- where the store tells its bytes, it tells its synced length
+abbrev pub TellsSynced : Option (List ℕ) → Option ℕ → Type 0
+TellsSynced held synced = IfSome held (λ _. IsSome synced)
+
+-- where the store told its synced length before with its bytes, all its bytes are synced now
+abbrev pub SyncsAll : Option (List ℕ) → Option ℕ → Option (List ℕ) → Option ℕ → Type 0
+SyncsAll held_before synced_before held synced = TellsSynced held_before synced_before → IsSynced held synced
+
+-- the bytes without what is marked to be cut
+abbrev pub cleared : Bool → ℕ → List ℕ → List ℕ
+cleared marked size held = if marked then take size held else held
+
+-- the bytes are as before or cut to this length
+abbrev pub MayBeCut : Option (List ℕ) → Option (List ℕ) → ℕ → Type 0
+MayBeCut before now size = (now ≡ before) ⊎ (now ≡ option_map (take size) before)
+
+-- what is marked was cut and a part of the line was put behind the rest, perhaps none of it or all
+abbrev pub HoldsPart : Bool → ℕ → List ℕ → Option (List ℕ) → Option (List ℕ) → Type 0
+HoldsPart marked size line before now = (kept : ℕ) × (now ≡ option_map (λ held. cleared marked size held ++ take kept line) before)
+
+-- the bytes are as before, or a part of the block's line stands behind the lines of the blocks, perhaps none of it or all
+abbrev pub MayHoldPart : List Block → Block → Option (List ℕ) → Option (List ℕ) → Type 0
+MayHoldPart blocks b before now = (now ≡ before) ⊎ ((kept : ℕ) × HoldsBehind blocks (take kept (line b)) now)

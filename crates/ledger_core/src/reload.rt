@@ -1,0 +1,228 @@
+//! The tail of what a store holds.
+ghost use Rattle.std.specs.Prelude.{◌≡◌, ◌<◌, ◌≤◌, ◌^◌, true, ℕ, IfOk, IfErr, IfSome, IsErrOf};
+ghost use Rattle.ql_types.specs.Ids.{transaction_in};
+ghost use Rattle.journal_text.specs.Reading.{IsFault};
+ghost use Rattle.ledger_claims.specs.Attempts.{IsStanding, mask_of};
+ghost use Rattle.ledger_claims.specs.Fits.{greatest};
+ghost use Rattle.ledger_core.specs.Loads.{IsRead, IsLoaded, IsCause, cause_told};
+ghost use Rattle.ledger_core.specs.Known.{IsKnown, standing_of};
+
+use crate::catalog::Catalog;
+use crate::keeping::Keeper;
+use crate::tail::{Tail, list_blocks};
+use journal_text::{JournalFault, read_journal};
+use ledger_model::{Block, Blocks, Damage};
+use outside::{JournalStore, OutFault};
+use ql_types::{IdMask, id_parts};
+use std::alloc::Global;
+
+/// Why no journal was loaded.
+#[derive(Clone, Copy, Debug, PartialEq, Eq)]
+pub enum LoadCause {
+    /// The first damaged line, counted from 0, and the check that it fails first.
+    Damaged { sequence: u64, kind: Damage },
+    /// The store failed in its last call, and had failed so often then.
+    StoreFault { count: u64 },
+    OutOfMemory,
+}
+
+impl From<JournalFault> for LoadCause {
+    ghost use Rattle.std.specs.Prelude.{◌≡◌};
+    ghost use Rattle.ledger_core.specs.Loads.{cause_of};
+
+    ghost from_gives = { λ fault cause. cause ≡ cause_of fault };
+
+    fn from(fault: JournalFault) -> LoadCause {
+        match fault {
+            JournalFault::Damaged { sequence, kind } => LoadCause::Damaged { sequence, kind },
+            JournalFault::OutOfMemory => LoadCause::OutOfMemory,
+        }
+    }
+}
+
+/// No journal was loaded. The store and the clock are given back.
+#[derive(Drop)]
+pub struct LoadFault<S, C> {
+    pub cause: LoadCause,
+    pub store: S,
+    pub clock: C,
+}
+
+/// What a journal's bytes tell.
+#[derive(Drop)]
+struct Loaded {
+    mask: IdMask,
+    last: u64,
+    blocks: Blocks,
+    catalog: Catalog,
+    size: u64,
+    marked: bool,
+}
+
+impl<S: JournalStore, C> Tail<S, C> {
+    /// The tail of the journal that the store holds, which is read to its end. A rest that is no whole line is left in place
+    /// and marked to be cut. The mask is what the first block's strand shows, or the given one where there is no block.
+    /// `Damaged` comes at the first damaged line, and `StoreFault` only where the store failed.
+    pub fn reload(
+        alloc: Global,
+        store: S,
+        clock: C,
+        mask: IdMask,
+    ) -> Result<Tail<S, C>, LoadFault<S, C>>
+        ensures journal { IfOk result (λ tail. IsLoaded (S.bytes store) tail.standing.blocks tail.marked) }
+        ensures standing { IfOk result (λ tail. IsStanding tail.standing) }
+        ensures mask { IfOk result (λ tail. tail.standing.mask ≡ mask_of mask.bits tail.standing.blocks) }
+        ensures last { IfOk result (λ tail. tail.standing.last ≡ greatest tail.standing.mask tail.standing.blocks) }
+        ensures store { IfOk result (λ tail. (S.bytes tail.store ≡ S.bytes store) × (S.synced tail.store ≡ S.synced store) × (S.fault_count store ≤ S.fault_count tail.store)) }
+        ensures clock { IfOk result (λ tail. tail.clock ≡ clock) }
+        ensures cause { IfErr result (λ fault. IsCause fault.cause (S.bytes store) (S.fault_count store) (S.fault_count fault.store) (S.last_failed fault.store)) }
+        ensures returned { IfErr result (λ fault. (S.bytes fault.store ≡ S.bytes store) × (S.synced fault.store ≡ S.synced store) × (S.fault_count store ≤ S.fault_count fault.store)) }
+        ensures same_clock { IfErr result (λ fault. fault.clock ≡ clock) }
+    {
+        let mut store = store;
+        match load(alloc, &mut store, mask) {
+            Ok(loaded) => Ok(tail_of(store, clock, loaded)),
+            Err(cause) => Err(LoadFault {
+                cause,
+                store,
+                clock,
+            }),
+        }
+    }
+}
+
+/// The tail of what was loaded from the store.
+fn tail_of<S: JournalStore, C>(store: S, clock: C, loaded: Loaded) -> Tail<S, C>
+    requires read { IsLoaded (S.bytes store) loaded.blocks.list loaded.marked }
+    requires known { (given : ℕ) × IsKnown given loaded }
+    ensures { result ≡ record { store = store; clock = clock; standing = standing_of loaded; marked = loaded.marked } }
+{
+    let Loaded {
+        mask,
+        last,
+        blocks,
+        catalog,
+        size,
+        marked,
+    } = loaded;
+    Tail {
+        keeper: Keeper {
+            store,
+            size,
+            marked,
+        },
+        clock,
+        mask,
+        last,
+        blocks,
+        catalog: Some(catalog),
+    }
+}
+
+/// What the store's journal tells.
+fn load<S: JournalStore>(alloc: Global, store: &mut S, mask: IdMask) -> Result<Loaded, LoadCause>
+    ensures journal { IfOk result (λ loaded. IsLoaded (S.bytes store.old) loaded.blocks.list loaded.marked) }
+    ensures facts { IfOk result (λ loaded. IsKnown mask.bits loaded) }
+    ensures bytes { S.bytes store.new ≡ S.bytes store.old }
+    ensures synced { S.synced store.new ≡ S.synced store.old }
+    ensures later { S.fault_count store.old ≤ S.fault_count store.new }
+    ensures cause { IfErr result (λ cause. IsCause cause (S.bytes store.old) (S.fault_count store.old) (S.fault_count store.new) (S.last_failed store.new)) }
+{
+    let bytes = match read_stored(alloc, store) {
+        Ok(bytes) => bytes,
+        Err(fault) => return Err(stopped(store, fault)),
+    };
+    Ok(loaded_of(alloc, &bytes, mask)?)
+}
+
+/// The store's fault, with how often the store has failed.
+fn stopped<S: JournalStore>(store: &S, fault: OutFault) -> LoadCause
+    ensures { result ≡ cause_told fault (S.fault_count store.now) }
+{
+    match fault {
+        OutFault::Failed => LoadCause::StoreFault {
+            count: store.faults(),
+        },
+        OutFault::OutOfMemory => LoadCause::OutOfMemory,
+    }
+}
+
+/// Reads the store up to the size that it tells, or to its end. Each turn takes at least one byte.
+fn read_stored<S: JournalStore>(alloc: Global, store: &mut S) -> Result<Vec<u8>, OutFault>
+    ensures read { IfOk result (λ all. IfSome (S.bytes store.old) (λ held. all.items ≡ held)) }
+    ensures bytes { S.bytes store.new ≡ S.bytes store.old }
+    ensures synced { S.synced store.new ≡ S.synced store.old }
+    ensures later { S.fault_count store.old ≤ S.fault_count store.new }
+    ensures failed { IsErrOf result OutFault.Failed → S.fault_count store.old < S.fault_count store.new }
+    ensures last { IsErrOf result OutFault.Failed → S.last_failed store.new ≡ true }
+{
+    let size = store.size()?;
+    let mut all = Vec::new(alloc);
+    let mut piece = [0u8; 4096];
+    'pieces: while (all.len() as u64) < size {
+        let at = all.len() as u64;
+        let room = (size - at).min(4096) as usize;
+        let count = store.read_at(at, &mut piece[..room])?;
+        if count == 0 {
+            return Ok(all);
+        }
+        all.extend_from_slice(&piece[..count])?;
+    }
+    Ok(all)
+}
+
+/// What the bytes of a journal tell.
+fn loaded_of(alloc: Global, bytes: &[u8], given: IdMask) -> Result<Loaded, JournalFault>
+    ensures journal { IfOk result (λ loaded. IsRead bytes.now loaded.blocks.list loaded.marked) }
+    ensures facts { IfOk result (λ loaded. IsKnown given.bits loaded) }
+    ensures fault { IfErr result (λ fault. IsFault bytes.now fault) }
+{
+    let (blocks, size) = read_journal(alloc, bytes)?;
+    let mask = mask_of(blocks.as_slice(), given);
+    let last = greatest_number(mask, blocks.as_slice());
+    let catalog = list_blocks(alloc, blocks.as_slice())?;
+    Ok(Loaded {
+        mask,
+        last,
+        blocks,
+        catalog,
+        size,
+        marked: size < bytes.len() as u64,
+    })
+}
+
+/// The mask that the first block's strand shows, or the given one where there is no block.
+fn mask_of(blocks: &[Block], given: IdMask) -> IdMask
+    ensures { result.bits ≡ mask_of given.bits blocks.now }
+{
+    match blocks {
+        [first, ..] => IdMask {
+            bits: first.header.address.strand.raw,
+        },
+        [] => given,
+    }
+}
+
+/// The greatest number of a transaction of the blocks, 0 where there is none.
+fn greatest_number(mask: IdMask, blocks: &[Block]) -> u64
+    ensures { greatest mask.bits blocks.now < 2 ^ 64 → result ≡ greatest mask.bits blocks.now }
+{
+    let mut last = 0;
+    'numbers: for block in blocks {
+        let number = number_of(mask, block);
+        if last < number {
+            last = number;
+        }
+    }
+    last
+}
+
+/// The number of the block's transaction.
+fn number_of(mask: IdMask, block: &Block) -> u64
+    ensures { transaction_in mask.bits block.now.header.tx.raw < 2 ^ 64 → result ≡ transaction_in mask.bits block.now.header.tx.raw }
+{
+    match id_parts(mask, block.header.tx.raw) {
+        Some((number, _)) => number,
+        None => 0,
+    }
+}

@@ -1,0 +1,152 @@
+//! The block that a transaction becomes.
+ghost use Rattle.std.specs.Prelude.{◌≡◌, int_le, map, IfOk, if◌then◌else◌};
+ghost use Rattle.ion_values.specs.Time.{instant_of};
+ghost use Rattle.ledger_model.specs.Legal.{last_hash};
+ghost use Rattle.ledger_model.specs.Making.{block_of, revision_of, time_behind};
+ghost use Rattle.ledger_model.specs.Views.{latest};
+
+use crate::documents::Documents;
+use crate::transaction::Transaction;
+use crate::views::{copy_content, copy_draft};
+use block_form::{revision_hash, seal, strand_hash};
+use ion_values::{IonTime, OutOfMemory};
+use ledger_model::{Block, Draft, Drafts, Header, Info, Metadata, Revision, Revisions, TableIds};
+use lists::Sequence;
+use ql_types::{BlockAddress, Hash32, IdMask, Place, StrandId, TxId, id_raw};
+use std::alloc::Global;
+
+impl Transaction {
+    ghost use Rattle.ledger_core.specs.Transactions.{progress_of, begun_of};
+
+    /// The transaction as the next block behind these: at this place of the script, made at this time, or at that of the
+    /// last block where it is later.
+    pub(crate) fn into_block(
+        self,
+        alloc: Global,
+        place: Place,
+        time: IonTime,
+        before: &[Block],
+    ) -> Result<Block, OutOfMemory>
+        ensures { IfOk result (λ block. block ≡ block_of (begun_of self) before.now place time (progress_of self)) }
+    {
+        let Transaction {
+            mask,
+            number,
+            said,
+            schema,
+            log,
+            ..
+        } = self;
+        let drafts = latest(alloc, log.as_slice())?;
+        // So many revisions find no memory.
+        let Ok(count) = u32::try_from(drafts.len()) else {
+            return Err(OutOfMemory);
+        };
+        let strand = StrandId { raw: mask.bits };
+        let header = Header {
+            address: BlockAddress {
+                strand,
+                sequence: before.len() as u64,
+            },
+            tx: TxId {
+                raw: id_raw(mask, number, 0),
+            },
+            time: time_behind(before, time),
+            revisions: count,
+        };
+        let tables = tables_of(alloc, drafts.as_slice())?;
+        let revisions = revisions_of(alloc, &header, drafts.as_slice())?;
+        let previous = last_hash(alloc, mask, before)?;
+        let info = Info {
+            place,
+            said,
+            schema,
+            tables,
+        };
+        let block = seal(alloc, previous, header, info, revisions)?;
+        Ok(block)
+    }
+}
+
+/// The documents in order of first insertion, each with its latest revision.
+fn latest(alloc: Global, log: &[Draft]) -> Result<Drafts, OutOfMemory>
+    ensures { IfOk result (λ documents. documents ≡ latest log.now) }
+{
+    let mut documents = Documents::new(alloc);
+    'drafts: for draft in log {
+        documents.put(copy_draft(alloc, draft)?)?;
+    }
+    Ok(documents.into_drafts())
+}
+
+/// This time, or that of the last block where it isn't before this one.
+fn time_behind(before: &[Block], time: IonTime) -> IonTime
+    ensures { result ≡ time_behind before.now time }
+{
+    match before.last() {
+        Some(last) => later_time(&last.header, time),
+        None => time,
+    }
+}
+
+/// This time, or the header's where it isn't before this one.
+fn later_time(last: &Header, time: IonTime) -> IonTime
+    ensures { result ≡ (if int_le (instant_of time) (instant_of last.now.time) then last.now.time else time) }
+{
+    let last = last.time;
+    if time.instant() <= last.instant() {
+        last
+    } else {
+        time
+    }
+}
+
+/// The hash of the last block, or that of the strand where there is none.
+fn last_hash(alloc: Global, mask: IdMask, before: &[Block]) -> Result<Hash32, OutOfMemory>
+    ensures { IfOk result (λ hash. hash ≡ last_hash mask.bits before.now) }
+{
+    match before.last() {
+        Some(last) => Ok(last.hash),
+        None => strand_hash(alloc, StrandId { raw: mask.bits }),
+    }
+}
+
+/// The table of each document, in order.
+fn tables_of(alloc: Global, drafts: &[Draft]) -> Result<TableIds, OutOfMemory>
+    ensures { IfOk result (λ tables. tables ≡ map (λ d. d.table) drafts.now) }
+{
+    let mut tables = Sequence::new(alloc);
+    'drafts: for draft in drafts {
+        tables.push(draft.table)?;
+    }
+    Ok(tables)
+}
+
+/// The revisions that the drafts become in the block of this header, in order.
+fn revisions_of(alloc: Global, header: &Header, drafts: &[Draft]) -> Result<Revisions, OutOfMemory>
+    ensures { IfOk result (λ revisions. revisions ≡ map (revision_of header.now) drafts.now) }
+{
+    let mut revisions = Sequence::new(alloc);
+    'drafts: for draft in drafts {
+        revisions.push(revision_of(alloc, header, draft)?)?;
+    }
+    Ok(revisions)
+}
+
+/// The revision that a draft becomes in the block of this header.
+fn revision_of(alloc: Global, header: &Header, draft: &Draft) -> Result<Revision, OutOfMemory>
+    ensures { IfOk result (λ revision. revision ≡ revision_of header.now draft.now) }
+{
+    let metadata = Metadata {
+        id: draft.id,
+        version: draft.version,
+        time: header.time,
+        tx: header.tx,
+    };
+    Ok(Revision {
+        address: header.address,
+        hash: revision_hash(alloc, &draft.content, &metadata)?,
+        content: copy_content(alloc, &draft.content)?,
+        metadata,
+    })
+}

@@ -1,0 +1,144 @@
+//! The tail of a journal over its store.
+ghost use Rattle.std.specs.Prelude.{◌≡◌, IfOk, OnErr, OnOk, IfErr, IfSome, ◌∷◌, ◌++◌, [], ◌<◌, ◌≤◌, ◌⊎◌, true, false};
+ghost use Rattle.ledger_model.specs.State.{State, state, after};
+ghost use Rattle.ledger_claims.specs.Attempts.{IsStanding};
+ghost use Rattle.ledger_claims.specs.Stores.{Holding};
+ghost use Rattle.ledger_core.specs.Catalogs.{Lists};
+ghost use Rattle.ledger_core.specs.Faults.{IsSettleFault};
+ghost use Rattle.ledger_core.specs.Tails.{AllSynced, IsListed, MayHoldPart, SyncsAll, TellsSynced, joined};
+
+use crate::catalog::Catalog;
+use crate::keeping::{Keeper, SettleFault};
+use ion_values::OutOfMemory;
+use journal_text::line;
+use ledger_model::{Block, Blocks};
+use outside::JournalStore;
+use ql_types::IdMask;
+use std::alloc::Global;
+use std::marker::Model;
+
+/// The blocks of a journal and the store that keeps them, with the clock that tells when a block was made. Behind the
+/// lines of the blocks the store holds nothing, or a rest that is marked to be cut.
+#[derive(Drop)]
+pub struct Tail<S: JournalStore, C> {
+    pub(crate) keeper: Keeper<S>,
+    pub(crate) clock: C,
+    pub(crate) mask: IdMask,
+    /// The last number of a transaction that was drawn or found.
+    pub(crate) last: u64,
+    pub(crate) blocks: Blocks,
+    /// What the blocks list. It is made again where there was no memory to take in the last block.
+    pub(crate) catalog: Option<Catalog>,
+}
+
+impl<S: JournalStore, C> Model for Tail<S, C> {
+    ghost use Rattle.ledger_core.specs.Tails.{TailHeld, tail_code, IsTail, IsListed};
+
+    ghost Value = { TailHeld S C };
+
+    ghost coded = { tail_code S.code C.code };
+
+    ghost view = { λ t. record {
+      store = t.keeper.store;
+      clock = t.clock;
+      standing = record { mask = t.mask.bits; last = t.last; blocks = t.blocks.list };
+      marked = t.keeper.marked;
+    } };
+
+    ghost invariant = { λ t. IsTail (S.bytes t.keeper.store) (record { mask = t.mask.bits; last = t.last; blocks = t.blocks.list }) t.keeper.marked t.keeper.size × IsListed t.blocks.list t.catalog };
+}
+
+impl<S: JournalStore, C> Tail<S, C> {
+    /// The blocks of the journal. It takes no memory.
+    pub fn blocks(&self) -> &Blocks
+        ensures blocks { result.now.list ≡ self.now.standing.blocks }
+        ensures standing { IsStanding self.now.standing }
+    {
+        &self.blocks
+    }
+
+    /// Puts a block behind the others, in the store first. After a fault the blocks are as before.
+    pub(crate) fn append_block(&mut self, alloc: Global, block: Block) -> Result<(), SettleFault>
+        requires { IsStanding (joined self.old.standing block) }
+        ensures standing { OnOk result (self.new.standing ≡ joined self.old.standing block) }
+        ensures same { OnErr result (self.new.standing ≡ self.old.standing) }
+        ensures clock { self.new.clock ≡ self.old.clock }
+        ensures holds { OnOk result (Holding self.new.standing.blocks (S.bytes self.new.store)) }
+        ensures synced { OnOk result (AllSynced (S.synced self.old.store) (S.bytes self.new.store) (S.synced self.new.store)) }
+        ensures all_synced { OnOk result (SyncsAll (S.bytes self.old.store) (S.synced self.old.store) (S.bytes self.new.store) (S.synced self.new.store)) }
+        ensures tells { TellsSynced (S.bytes self.old.store) (S.synced self.old.store) → TellsSynced (S.bytes self.new.store) (S.synced self.new.store) }
+        ensures settled { OnOk result (self.new.marked ≡ false) }
+        ensures part { OnErr result (MayHoldPart self.old.standing.blocks block (S.bytes self.old.store) (S.bytes self.new.store)) }
+        ensures marked { IfErr result (λ fault. ((fault ≡ SettleFault.OutOfMemory) × (self.new ≡ self.old)) ⊎ (self.new.marked ≡ true)) }
+        ensures later { S.fault_count self.old.store ≤ S.fault_count self.new.store }
+        ensures fault { IfErr result (λ fault. IsSettleFault fault (S.fault_count self.old.store) (S.fault_count self.new.store) (S.last_failed self.new.store)) }
+    {
+        let text = line(alloc, &block)?;
+        self.blocks.make_room()?;
+        self.keeper.keep_line(text.as_str().as_bytes())?;
+        self.catalog = with_block(alloc, self.catalog.take(), &block);
+        self.blocks.push(block).unwrap();
+        Ok(())
+    }
+
+    /// The catalog of the blocks, to be read and put back. It is made of the blocks where there is none.
+    pub(crate) fn take_catalog(&mut self, alloc: Global) -> Result<Catalog, OutOfMemory>
+        ensures listed { IfOk result (λ catalog. Lists (state self.old.standing.blocks) catalog) }
+        ensures same { self.new ≡ self.old }
+    {
+        match self.catalog.take() {
+            Some(catalog) => Ok(catalog),
+            None => list_blocks(alloc, self.blocks.as_slice()),
+        }
+    }
+
+    /// Puts the catalog of the blocks back.
+    pub(crate) fn put_catalog(&mut self, catalog: Catalog)
+        requires { Lists (state self.old.standing.blocks) catalog }
+        ensures same { self.new ≡ self.old }
+    {
+        self.catalog = Some(catalog);
+    }
+
+    /// The blocks, the store and the clock. It takes no memory.
+    pub fn into_parts(self) -> (Blocks, S, C)
+        ensures blocks { result.0.list ≡ self.standing.blocks }
+        ensures store { result.1 ≡ self.store }
+        ensures clock { result.2 ≡ self.clock }
+    {
+        let Tail {
+            keeper,
+            clock,
+            blocks,
+            mask: _,
+            last: _,
+            catalog: _,
+        } = self;
+        let Keeper {
+            store,
+            size: _,
+            marked: _,
+        } = keeper;
+        (blocks, store, clock)
+    }
+}
+
+/// The catalog with a block more. Where there is no memory to take it in, there is no catalog.
+fn with_block(alloc: Global, catalog: Option<Catalog>, block: &Block) -> Option<Catalog>
+    ensures { (s : State) → IfSome catalog (λ listed. Lists s listed) → IfSome result (λ listed. Lists (after s block.now) listed) }
+{
+    let mut catalog = catalog?;
+    catalog.admit(alloc, block).ok()?;
+    Some(catalog)
+}
+
+/// The catalog of these blocks.
+pub(crate) fn list_blocks(alloc: Global, blocks: &[Block]) -> Result<Catalog, OutOfMemory>
+    ensures { IfOk result (λ listed. Lists (state blocks.now) listed) }
+{
+    let mut catalog = Catalog::new(alloc);
+    'admitted: for block in blocks {
+        catalog.admit(alloc, block)?;
+    }
+    Ok(catalog)
+}
