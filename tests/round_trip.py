@@ -15,7 +15,7 @@ HERE = os.path.dirname(os.path.abspath(__file__))
 ROOT = os.path.dirname(HERE)
 PROGRAM = os.path.join(ROOT, "crates", "ledger", "out", "ledger")
 WORDS = ["run", "--plain-ids", "--at", "2020-01-01T00:00:00.000Z"]
-SELECT = b'[{statements:["SELECT * FROM t"]}]'
+SELECT = b'[{statements:["SELECT * FROM accounts"]}]'
 
 
 def run(program, journal, script):
@@ -48,7 +48,7 @@ def round_trip(program, journal):
     check([b"committed" in line for line in first.splitlines()] == [True, False, False, True], "the first report")
     before = read(journal)
     check(before.count(b"\n") == 2 and before.endswith(b"\n"), "two lines behind the first run")
-    second = run(program, journal, b'[{statements:[{text:"INSERT INTO t ?",params:[{owner:"Alan",amount:7}]}]}]' + SELECT)
+    second = run(program, journal, b'[{statements:[{text:"INSERT INTO accounts ?",params:[{owner:"Alan",amount:7}]}]}]' + SELECT)
     check(b"block:2" in second.splitlines()[0], "the second run goes on at block 2")
     answer = b'answers:[[{owner:"Ada",amount:100},{owner:"Grace",amount:250},{owner:"Alan",amount:7}]]}'
     check(second.splitlines()[1].endswith(answer), "the second run finds what both runs inserted")

@@ -27,6 +27,5 @@ mod MadeRuns
 mod MadeFollows
 mod MadeWhole
 pub mod MadeUndamaged
-pub mod MadeScripts
 mod MadeRows
 mod MadeViews

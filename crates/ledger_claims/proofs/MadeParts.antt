@@ -15,19 +15,16 @@ use Rattle.ion_values.specs.declared.value.Field.{Field}
 use Rattle.ion_values.specs.declared.value.Body.TheVariants as body
 use Rattle.ql_types.specs.Ids.{id_text}
 use Rattle.ql_types.proofs.Digits.{id_text-ascii}
-use Rattle.ql_types.specs.declared.BlockAddress.{BlockAddress}
-use Rattle.ql_types.specs.declared.Hash32.{Hash32}
 use Rattle.ledger_model.specs.declared.block.Content.{Content}
 use Rattle.ledger_model.specs.declared.block.Content.TheVariants.{Deleted, Kept}
-use Rattle.ledger_model.specs.declared.block.Metadata.{Metadata}
-use Rattle.ledger_model.specs.declared.block.Revision.{Revision}
 use Rattle.ledger_model.specs.declared.block.Block.{Block}
-use Rattle.ledger_model.specs.Values.{plain, field}
-use Rattle.ledger_model.specs.Journal.{number, string, moment, structure, list, id_value, revision_value}
+use Rattle.ledger_model.specs.Values.{plain, field, named_id}
+use Rattle.ledger_model.specs.Journal.{number, string, moment, structure, list, id_value}
 use Rattle.ledger_model.specs.Whole as whole
 use Rattle.ledger_model.specs.Whole.{IsWhole}
-use Rattle.ledger_claims.proofs.MadeLists.{passing}
-use Rattle.ledger_claims.proofs.MadeShapes.{Fine, FineField, within_string, depth_string, within_number, depth_number, within_moment, depth_moment, within_blob, depth_blob, within_list, depth_list, within_structure, depth_structure, within_field, depth_field, within_plain, depth_plain}
+use Rattle.ledger_claims.specs.Makes.{content_within}
+use Rattle.ledger_claims.proofs.MadeLists.{all_like, passing}
+use Rattle.ledger_claims.proofs.MadeShapes.{Fine, FineField, Shallow, within_string, depth_string, within_number, depth_number, within_moment, depth_moment, within_blob, depth_blob, within_list, depth_list, within_structure, depth_structure, within_field, depth_field}
 
 -- ---- values that are fine
 
@@ -84,12 +81,21 @@ fine_field d name v h k = record { name = ascii_text name h; value = k }
 pub fine_more : (d e : ℕ) (v : Value) → d ≤ e → Fine d v → Fine e v
 fine_more d e v h k = record { ranges = k.ranges; depth = let l = k.depth in omega (arith, h, l) }
 
--- without its annotations
-pub fine_plain : (d : ℕ) (v : Value) → Fine d v → Fine d (plain v.body)
-fine_plain d v h = record {
-  ranges = (and_parts _ _ (sym (within_plain v) ∙ h.ranges)).1;
-  depth = let e = depth_plain v in let l = h.depth in omega (arith, e, l);
-}
+pub fine_each : (d : ℕ) (vs : List Value) → AllByRecursion (Shallow d) vs → list_all within vs ≡ true → AllByRecursion (Fine d) vs
+fine_each d [] h k = tt
+fine_each d (v ∷ vs) h k = let both = and_parts (within v) (list_all within vs) k in (record { ranges = both.0; depth = h.0 }, fine_each d vs h.1 both.1)
+
+-- ---- values that don't nest too deep
+
+-- a struct of one field
+pub shallow_field : (d : ℕ) (name : List ℕ) (v : Value) → Shallow d v → Shallow (d + 1) (structure (field name v ∷ []))
+shallow_field d name v h = let e = depth_structure (field name v ∷ []) in let f = depth_field (field name v) in omega (arith, e, f, h)
+
+pub shallow_id : (name : List ℕ) (raw : ℕ) → Shallow 65 (named_id name raw)
+shallow_id name raw =
+    let text : Shallow 0 (id_value raw) = (let e = depth_string (id_text raw) in omega (arith, e)) in
+    let one : Shallow 1 (named_id name raw) = shallow_field 0 name (id_value raw) text in
+    omega (arith, one)
 
 -- ---- what is told of members
 
@@ -99,15 +105,8 @@ fields_of (f ∷ fs) h =
     let both = and_parts (field_within f) (all_true (map field_within fs)) h in
     ((and_parts (text_within f.name) (within f.value) (sym (within_field f) ∙ both.0)).1, fields_of fs both.1)
 
-pub structure_of : (fs : List Field) → within (structure fs) ≡ true → AllByRecursion (λ f. within f.value ≡ true) fs
+structure_of : (fs : List Field) → within (structure fs) ≡ true → AllByRecursion (λ f. within f.value ≡ true) fs
 structure_of fs h = fields_of fs (sym (within_structure fs) ∙ h)
-
-members_of : (vs : List Value) → all_true (map within vs) ≡ true → AllByRecursion (λ v. within v ≡ true) vs
-members_of [] h = tt
-members_of (v ∷ vs) h = let both = and_parts (within v) (all_true (map within vs)) h in (both.0, members_of vs both.1)
-
-pub list_of : (vs : List Value) → within (list vs) ≡ true → AllByRecursion (λ v. within v ≡ true) vs
-list_of vs h = members_of vs (sym (within_list vs) ∙ h)
 
 -- ---- what is told of a whole block
 
@@ -116,18 +115,23 @@ abbrev pub FineContent : Content → Type 0
 FineContent Deleted = Unit {0}
 FineContent (Kept v) = Fine 64 v
 
-content_of : (a : BlockAddress) (h : Hash32) (c : Content) (m : Metadata) → within (revision_value (record { address = a; hash = h; content = c; metadata = m })) ≡ true → whole.is_shallow c ≡ true → FineContent c
-content_of a h Deleted m ranges depth = tt
-content_of a h (Kept v) m ranges depth = record { ranges = (structure_of _ ranges).1.1.0; depth = leb-true (depth_of v) 64 depth }
+-- the same of its depth alone
+abbrev pub ShallowContent : Content → Type 0
+ShallowContent Deleted = Unit {0}
+ShallowContent (Kept v) = Shallow 64 v
 
-contents : (rs : List Revision) → AllByRecursion (λ v. within v ≡ true) (map revision_value rs) → AllByRecursion (λ r. whole.is_shallow r.content ≡ true) rs → AllByRecursion (λ r. FineContent r.content) rs
-contents [] h k = tt
-contents (r ∷ rs) h k = (content_of r.address r.hash r.content r.metadata h.0 k.0, contents rs h.1 k.1)
+pub fine_content : (c : Content) → ShallowContent c → content_within c ≡ true → FineContent c
+fine_content Deleted h k = tt
+fine_content (Kept v) h k = record { ranges = k; depth = h }
+
+shallow_content : (c : Content) → whole.is_shallow c ≡ true → ShallowContent c
+shallow_content Deleted h = tt
+shallow_content (Kept v) h = leb-true (depth_of v) 64 h
 
 pub record Parts (b : Block) : Type 0 where
   pub time : is_time b.header.time ≡ true
   pub hash : bytes_within b.hash.bytes ≡ true
-  pub revisions : AllByRecursion (λ r. FineContent r.content) b.revisions
+  pub revisions : AllByRecursion (λ r. ShallowContent r.content) b.revisions
 
 pub parts_of : (b : Block) → IsWhole b → Parts b
 parts_of b w =
@@ -135,5 +139,6 @@ parts_of b w =
     record {
       time = sym (within_moment b.header.time) ∙ fields.1.1.0;
       hash = sym (within_blob b.hash.bytes) ∙ fields.1.1.1.0;
-      revisions = contents b.revisions (list_of (map revision_value b.revisions) fields.1.1.1.1.1.1.1.1.0) (passing (λ r. whole.is_shallow r.content) b.revisions w.documents);
+      revisions = all_like (λ r. whole.is_shallow r.content ≡ true) (λ r. ShallowContent r.content) (λ r h. shallow_content r.content h) b.revisions
+          (passing (λ r. whole.is_shallow r.content) b.revisions w.documents);
     }

@@ -1,56 +1,42 @@
--- What holds of a transaction as far as its statements have run: its ids are made one by one, each change of the schema
--- follows those before it, and what it said and inserted is within its ranges.
-use Rattle.std.proofs.Common.{◌≡◌, ◌∙◌, ◌≤◌, ◌<◌, ◌+◌, ◌^◌, ◌==◌, ℕ, true, false, List, [], ◌∷◌, ◌++◌, length, refl, sym, ap, subst, append_assoc, arith, inl, inr, ◌⊎◌, true≢false}
+-- What holds of a transaction as far as its statements have run: its ids are made one by one, each change of the schema follows
+-- those before it and creates a table, and what it said and inserted doesn't nest too deep.
+use Rattle.std.proofs.Common.{◌≡◌, ◌∙◌, ◌≤◌, ◌<◌, ◌+◌, ◌^◌, ◌==◌, ℕ, true, false, List, [], ◌∷◌, ◌++◌, length, refl, sym, ap, subst, append_assoc, arith}
 use Rattle.std.specs.Prelude.{is_none}
 use Rattle.std.specs.List.{AllByRecursion, list_any}
 use Rattle.std.proofs.lemmas.Bool.{lt-ltb}
 use Rattle.std.proofs.lemmas.List.{length_push, map_push}
-use Rattle.ion_values.specs.Within.{text_within}
 use Rattle.ion_values.specs.declared.value.Value.{Value}
 use Rattle.ql_types.specs.Ids.{raw_id}
 use Rattle.ql_types.specs.declared.TableId.{TableId}
 use Rattle.ledger_model.specs.declared.block.Said.{Said}
 use Rattle.ledger_model.specs.declared.block.Schema.{Schema}
-use Rattle.ledger_model.specs.declared.block.Schema.TheVariants.{Create, Index, Drop}
+use Rattle.ledger_model.specs.declared.block.Schema.TheVariants.{Create}
 use Rattle.ledger_model.specs.declared.block.Content.TheVariants.{Kept}
 use Rattle.ledger_model.specs.declared.block.Draft.{Draft}
 use Rattle.ledger_model.specs.State.{State, Table, all_changed, active_table}
-use Rattle.ledger_model.specs.Statements.{the_table}
+use Rattle.ledger_model.specs.Run.{created_count}
 use Rattle.ledger_model.specs.Whole.{id_fits, schema_fits}
 use Rattle.ledger_model.specs.Follows.{schema_follows, created_ids, has_table, is_kept, all_differ}
 use Rattle.ledger_claims.proofs.MadeLists.{all_push, all_like, all_insert, apart, differ_put, differ_push}
 use Rattle.ledger_claims.proofs.MadeIds.{same_thing, raw_id_fits}
-use Rattle.ledger_claims.proofs.MadeParts.{FineContent, ascii_text}
-use Rattle.ledger_claims.proofs.MadeShapes.{Fine}
+use Rattle.ledger_claims.proofs.MadeParts.{ShallowContent}
+use Rattle.ledger_claims.proofs.MadeShapes.{Shallow}
 use Rattle.ledger_claims.proofs.MadeStates.{TableFits, changed_fits}
 use Rattle.ledger_claims.proofs.MadeViews.{draft_ids}
-use Rattle.ledger_claims.proofs.MadeTables.{all_changed_push, schema_push, created_ids_append, active_push, has_table_more}
+use Rattle.ledger_claims.proofs.MadeTables.{all_changed_push, schema_push, created_ids_append, created_count_push, has_table_more}
 
 -- a new document of an active or new table
 pub record FineDraft (ts : List Table) (created : List ℕ) (d : Draft) : Type 0 where
   pub version : d.version ≡ 0
   pub kept : is_kept d.content ≡ true
-  pub fine : FineContent d.content
+  pub shallow : ShallowContent d.content
   pub table : has_table ts created d.table ≡ true
   pub table_fits : id_fits d.table.raw ≡ true
 
-pub record FineSaid (x : Said) : Type 0 where
-  pub text : text_within x.text ≡ true
-  pub params : AllByRecursion (Fine 64) x.params
-  pub rows : AllByRecursion (Fine 65) x.answer.rows
-
-abbrev pub name_of : Schema → List ℕ
-name_of (Create name id) = name
-name_of (Index name id) = name
-name_of (Drop name id) = name
-
-pub record FineChange (c : Schema) : Type 0 where
-  pub name : text_within (name_of c) ≡ true
-  pub fits : schema_fits c ≡ true
-
--- no change so far, or one, by which the table is active
-abbrev pub HasOne : List Table → List Schema → Type 0
-HasOne ts cs = (cs ≡ []) ⊎ ((length cs ≡ 1) × (is_none (active_table (all_changed ts cs) the_table) ≡ false))
+-- a row is a document of depth 64 at most, or a struct around it
+pub record ShallowSaid (x : Said) : Type 0 where
+  pub params : AllByRecursion (Shallow 64) x.params
+  pub rows : AllByRecursion (Shallow 65) x.answer.rows
 
 abbrev pub all_ids : List Schema → List Draft → List ℕ
 all_ids cs log = created_ids cs ++ draft_ids log
@@ -61,18 +47,10 @@ more_created ts ids more log h =
     all_like (FineDraft ts ids) (FineDraft ts (ids ++ more)) (λ d f. record {
       version = f.version;
       kept = f.kept;
-      fine = f.fine;
+      shallow = f.shallow;
       table = has_table_more ts ids more d.table f.table;
       table_fits = f.table_fits;
     }) log h
-
-none_by_now : (ts : List Table) (cs : List Schema) → HasOne ts cs → is_none (active_table (all_changed ts cs) the_table) ≡ true → length cs ≡ 0
-none_by_now ts cs (inl e) h = ap length e
-none_by_now ts cs (inr one) h = absurd (true≢false (sym h ∙ one.1))
-
-at_most_one : (ts : List Table) (cs : List Schema) → HasOne ts cs → length cs ≤ 1
-at_most_one ts cs (inl e) = let none : length cs ≡ 0 = ap length e in omega (arith, none)
-at_most_one ts cs (inr one) = let is_one = one.0 in omega (arith, is_one)
 
 module _ (mask number : ℕ) (s : State) where
   -- the id is that of one of the things that the transaction has made
@@ -86,15 +64,16 @@ module _ (mask number : ℕ) (s : State) where
     pub ids : AllByRecursion (IsMade made) (all_ids schema log)
     pub differ : all_differ (all_ids schema log) ≡ true
     pub follow : schema_follows s.tables s.indexes schema ≡ true
-    pub changes : AllByRecursion FineChange schema
+    pub fits : AllByRecursion (λ c. schema_fits c ≡ true) schema
     pub tables : AllByRecursion TableFits (all_changed s.tables schema)
     pub drafts : AllByRecursion (FineDraft s.tables (created_ids schema)) log
     pub count : made ≡ length schema + length log
-    pub one : HasOne s.tables schema
-    pub room : length log ≤ 40
+    pub creates : created_count schema ≡ length schema
+    pub few_tables : length schema ≤ 20
+    pub few_documents : length log ≤ 40
 
-  pub few : (schema : List Schema) (log : List Draft) (made : ℕ) → Made schema log made → made ≤ 41
-  few schema log made m = let e = m.count in let o = at_most_one s.tables schema m.one in let r = m.room in omega (arith, e, o, r)
+  pub few : (schema : List Schema) (log : List Draft) (made : ℕ) → Made schema log made → made ≤ 60
+  few schema log made m = let e = m.count in let t = m.few_tables in let d = m.few_documents in omega (arith, e, t, d)
 
   older : (made : ℕ) (ids : List ℕ) → AllByRecursion (IsMade made) ids → AllByRecursion (IsMade (made + 1)) ids
   older made ids h = all_like (IsMade made) (IsMade (made + 1)) (λ id m. record { thing = m.thing; id_is = m.id_is; low = m.low; high = let l = m.high in omega (arith, l) }) ids h
@@ -108,34 +87,32 @@ module _ (mask number : ℕ) (s : State) where
       (λ x m e. let same = same_thing mask number (made + 1) m.thing (e ∙ m.id_is) in let l = m.high in omega (arith, same, l)) ids h)
 
   module _ (mask_fits : mask < 2 ^ 128) (number_fits : number < 2 ^ 64) where
-    new_fits : (made : ℕ) → made ≤ 41 → id_fits (raw_id mask number (made + 1)) ≡ true
+    new_fits : (made : ℕ) → made ≤ 60 → id_fits (raw_id mask number (made + 1)) ≡ true
     new_fits made h = lt-ltb _ _ (raw_id_fits mask number (made + 1) mask_fits number_fits (omega (arith, h)))
 
-    -- the table is created
-    pub create_more : (schema : List Schema) (log : List Draft) (made : ℕ) → Made schema log made → is_none (active_table (all_changed s.tables schema) the_table) ≡ true
-        → Made (schema ++ Create the_table (record { raw = raw_id mask number (made + 1) }) ∷ []) log (made + 1)
-    create_more schema log made m free =
+    -- a table of a free name is created
+    pub create_more : (schema : List Schema) (log : List Draft) (made : ℕ) (name : List ℕ) → Made schema log made
+        → is_none (active_table (all_changed s.tables schema) name) ≡ true → length schema < 20
+        → Made (schema ++ Create name (record { raw = raw_id mask number (made + 1) }) ∷ []) log (made + 1)
+    create_more schema log made name m free room =
         let id = raw_id mask number (made + 1) in
-        let c = Create the_table (record { raw = id }) in
+        let c = Create name (record { raw = id }) in
         let ids = created_ids schema in
         let fits = new_fits made (few schema log made m) in
         let created : created_ids (schema ++ c ∷ []) ≡ ids ++ id ∷ [] = created_ids_append schema (c ∷ []) in
         let all : all_ids (schema ++ c ∷ []) log ≡ ids ++ id ∷ draft_ids log = ap (λ xs. xs ++ draft_ids log) created ∙ append_assoc ids (id ∷ []) (draft_ids log) in
         let tables = all_changed_push schema s.tables c in
-        let none = none_by_now s.tables schema m.one free in
         record {
           ids = subst (AllByRecursion (IsMade (made + 1))) (sym all) (all_insert (IsMade (made + 1)) ids (draft_ids log) id (older made (all_ids schema log) m.ids) (newest made));
           differ = subst (λ xs. all_differ xs ≡ true) (sym all) (differ_put ids (draft_ids log) id m.differ (new_apart made (all_ids schema log) m.ids));
           follow = schema_push schema s.tables s.indexes c m.follow free;
-          changes = all_push FineChange schema c m.changes (record { name = ascii_text the_table refl; fits = fits });
+          fits = all_push (λ d. schema_fits d ≡ true) schema c m.fits fits;
           tables = subst (AllByRecursion TableFits) (sym tables) (changed_fits (all_changed s.tables schema) c m.tables fits);
           drafts = subst (λ xs. AllByRecursion (FineDraft s.tables xs) log) (sym created) (more_created s.tables ids (id ∷ []) log m.drafts);
           count = let e = m.count in let l = length_push schema c in omega (arith, e, l);
-          one = inr (
-            let l = length_push schema c in omega (arith, l, none),
-            subst (λ ts. is_none (active_table ts the_table) ≡ false) (sym tables) (active_push (all_changed s.tables schema) the_table (record { raw = id })),
-          );
-          room = m.room;
+          creates = let e = m.creates in let n = created_count_push schema name (record { raw = id }) in let l = length_push schema c in omega (arith, e, n, l);
+          few_tables = let l = length_push schema c in omega (arith, l, room);
+          few_documents = m.few_documents;
         }
 
     -- a document is inserted
@@ -151,13 +128,25 @@ module _ (mask number : ℕ) (s : State) where
           ids = subst (AllByRecursion (IsMade (made + 1))) (sym all) (all_push (IsMade (made + 1)) (all_ids schema log) id (older made (all_ids schema log) m.ids) (newest made));
           differ = subst (λ xs. all_differ xs ≡ true) (sym all) (differ_push (all_ids schema log) id m.differ (new_apart made (all_ids schema log) m.ids));
           follow = m.follow;
-          changes = m.changes;
+          fits = m.fits;
           tables = m.tables;
           drafts = all_push (FineDraft s.tables (created_ids schema)) log d m.drafts fine;
           count = let e = m.count in let l = length_push log d in omega (arith, e, l);
-          one = m.one;
-          room = let l = length_push log d in omega (arith, l, room);
+          creates = m.creates;
+          few_tables = m.few_tables;
+          few_documents = let l = length_push log d in omega (arith, l, room);
         }
 
   pub none_made : AllByRecursion TableFits s.tables → Made [] [] 0
-  none_made h = record { ids = tt; differ = refl; follow = refl; changes = tt; tables = h; drafts = tt; count = refl; one = inl refl; room = omega arith }
+  none_made h = record {
+    ids = tt;
+    differ = refl;
+    follow = refl;
+    fits = tt;
+    tables = h;
+    drafts = tt;
+    count = refl;
+    creates = refl;
+    few_tables = omega arith;
+    few_documents = omega arith;
+  }

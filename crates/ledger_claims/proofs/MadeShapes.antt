@@ -1,7 +1,6 @@
 -- Values that are within their ranges and don't nest too deep, by how they are made.
 use Rattle.std.proofs.Common.{◌≡◌, ◌+◌, ◌≤◌, ◌^◌, ◌&&◌, ℕ, true, List, map, rules}
 use Rattle.std.specs.Prelude.{nat_lt}
-use Rattle.std.specs.List.{list_all}
 use Rattle.ion_values.specs.Depth.{depth_of, field_depth, deepest}
 use Rattle.ion_values.specs.Within.{within, field_within, all_true, text_within, bytes_within}
 use Rattle.ion_values.specs.Time.{is_time}
@@ -18,7 +17,11 @@ pub record Fine (d : ℕ) (v : Value) : Type 0 where
   pub ranges : within v ≡ true
   pub depth : depth_of v ≤ d
 
--- the same of a field's value, and its name is a text
+-- the value nests at most so deep
+abbrev pub Shallow : ℕ → Value → Type 0
+Shallow d v = depth_of v ≤ d
+
+-- it is fine of a field's value, and its name is a text
 pub record FineField (d : ℕ) (f : Field) : Type 0 where
   pub name : text_within f.name ≡ true
   pub value : Fine d f.value
@@ -68,8 +71,5 @@ pub depth_field : (f : Field) → field_depth f ≡ depth_of f.value
 depth_field f = search (rules, the_lemmas)
 
 -- a value without its annotations
-pub within_plain : (v : Value) → within v ≡ (list_all text_within v.annotations && within (plain v.body))
-within_plain v = search (rules, the_lemmas)
-
 pub depth_plain : (v : Value) → depth_of (plain v.body) ≡ depth_of v
 depth_plain v = search (rules, the_lemmas)

@@ -1,5 +1,5 @@
--- What holds of the state after undamaged blocks: no id in it is of a later transaction, and its documents and the ids of its
--- tables are within their ranges.
+-- What holds of the state after undamaged blocks: no id in it is of a later transaction, and its documents don't nest too deep and the
+-- ids of its tables are within their ranges.
 use Rattle.std.proofs.Common.{◌≡◌, ◌∙◌, ◌≤◌, ◌&&◌, ◌==◌, ℕ, Bool, true, false, List, [], ◌∷◌, ◌++◌, map, Option, Some, None, refl, sym, subst, append-nil, append_assoc, arith, inl, inr, if◌then◌else◌}
 use Rattle.std.specs.Prelude.{is_none}
 use Rattle.std.specs.List.{AllByRecursion, list_all, filter}
@@ -19,7 +19,7 @@ use Rattle.ledger_model.specs.Damages.{UndamagedBehind, Undamaged, strand_of}
 use Rattle.ledger_claims.specs.Attempts.{mask_of}
 use Rattle.ledger_claims.specs.Fits.{greatest}
 use Rattle.ledger_claims.proofs.MadeLists.{all_append, passing}
-use Rattle.ledger_claims.proofs.MadeParts.{FineContent, parts_of}
+use Rattle.ledger_claims.proofs.MadeParts.{ShallowContent, parts_of}
 use Rattle.ledger_claims.proofs.MadeJournals.{passes_all, state_push, strand_is}
 
 -- the id of a table fits its type
@@ -84,7 +84,7 @@ module _ (mask limit : ℕ) where
 
   pub record Sound (s : State) : Type 0 where
     pub ids : AllByRecursion Bounded s.revisions
-    pub contents : AllByRecursion (λ r. FineContent r.revision.content) s.revisions
+    pub contents : AllByRecursion (λ r. ShallowContent r.revision.content) s.revisions
     pub tables : AllByRecursion TableFits s.tables
 
   recorded : (P : Revision → Type 0) (ts : List TableId) (rs : List Revision) → AllByRecursion P rs → AllByRecursion (λ r. P r.revision) (recorded_in ts rs)
@@ -115,7 +115,7 @@ module _ (mask limit : ℕ) where
       let bounded = ids_bounded (transaction_in mask b.header.tx.raw) low s.revisions sound.ids b.revisions (ids_of_follows s b f) in
       record {
         ids = all_append Bounded s.revisions _ sound.ids (recorded (λ r. transaction_in mask r.metadata.id.raw ≤ limit) b.info.tables b.revisions bounded);
-        contents = all_append (λ r. FineContent r.revision.content) s.revisions _ sound.contents (recorded (λ r. FineContent r.content) b.info.tables b.revisions (parts_of b w).revisions);
+        contents = all_append (λ r. ShallowContent r.revision.content) s.revisions _ sound.contents (recorded (λ r. ShallowContent r.content) b.info.tables b.revisions (parts_of b w).revisions);
         tables = all_changed_fits b.info.schema s.tables sound.tables (schemas_fit b w);
       }
 

@@ -1,15 +1,14 @@
 -- Tables and changes of the schema, one after another.
-use Rattle.std.proofs.Common.{◌≡◌, ◌∙◌, ◌&&◌, ◌||◌, ◌==◌, ℕ, Bool, true, false, List, [], ◌∷◌, ◌++◌, map, Option, Some, refl, sym, ap, subst, append_assoc, inl, inr, if◌then◌else◌}
-use Rattle.std.specs.Prelude.{is_none}
+use Rattle.std.proofs.Common.{◌≡◌, ◌∙◌, ◌&&◌, ◌||◌, ◌==◌, ◌+◌, ℕ, Bool, true, false, List, [], ◌∷◌, ◌++◌, map, Option, Some, refl, sym, ap, subst, append_assoc, arith, inl, inr, if◌then◌else◌}
 use Rattle.std.specs.List.{AllByRecursion, list_any}
 use Rattle.std.specs.Str.{bytes_eq}
-use Rattle.std.specs.Cmp.Lexicographic.{bytes_decides}
-use Rattle.std.proofs.lemmas.Bool.{and_from, and_parts, or_cases, or_left, or_right, cond_both, eq-eqb}
+use Rattle.std.proofs.lemmas.Bool.{and_from, and_parts, or_cases, or_left, or_right, eq-eqb}
 use Rattle.std.proofs.lemmas.List.Folds.{list_any-append}
 use Rattle.ql_types.specs.declared.TableId.{TableId}
 use Rattle.ledger_model.specs.declared.block.Schema.{Schema}
 use Rattle.ledger_model.specs.declared.block.Schema.TheVariants.{Create, Index, Drop}
 use Rattle.ledger_model.specs.State.{Table, Indexed, dropped, changed, all_changed, indexed, all_indexed, active_table}
+use Rattle.ledger_model.specs.Run.{created_count}
 use Rattle.ledger_model.specs.Whole.{id_fits}
 use Rattle.ledger_model.specs.Follows.{is_active, change_follows, schema_follows, created_id, created_ids, has_table}
 use Rattle.ledger_claims.proofs.MadeStates.{TableFits}
@@ -30,6 +29,12 @@ schema_push (d ∷ cs) ts is c h k =
 pub created_ids_append : (xs ys : List Schema) → created_ids (xs ++ ys) ≡ created_ids xs ++ created_ids ys
 created_ids_append [] ys = refl
 created_ids_append (x ∷ xs) ys = ap (λ l. created_id x ++ l) (created_ids_append xs ys) ∙ sym (append_assoc (created_id x) (created_ids xs) (created_ids ys))
+
+pub created_count_push : (cs : List Schema) (name : List ℕ) (id : TableId) → created_count (cs ++ Create name id ∷ []) ≡ created_count cs + 1
+created_count_push [] name id = refl
+created_count_push (Create other i ∷ cs) name id = let e = created_count_push cs name id in omega (arith, e)
+created_count_push (Index other i ∷ cs) name id = created_count_push cs name id
+created_count_push (Drop other i ∷ cs) name id = created_count_push cs name id
 
 -- ---- active tables
 
@@ -52,13 +57,6 @@ fits_first t o id h rest false k = rest k
 pub active_fits : (ts : List Table) (name : List ℕ) (id : TableId) → AllByRecursion TableFits ts → active_table ts name ≡ Some id → id_fits id.raw ≡ true
 active_fits [] name id h e = cc
 active_fits (t ∷ ts) name id h e = fits_first t (active_table ts name) id h.0 (λ k. active_fits ts name id h.1 k) (t.active && bytes_eq t.name name) e
-
--- a table that was made last is active
-pub active_push : (ts : List Table) (name : List ℕ) (id : TableId) → is_none (active_table (ts ++ record { name = name; id = id; active = true } ∷ []) name) ≡ false
-active_push [] name id = let own : bytes_eq name name ≡ true = (bytes_decides name name).1 refl in rw own refl
-active_push (t ∷ ts) name id =
-    cond_both (t.active && bytes_eq t.name name) (Some t.id) (active_table (ts ++ record { name = name; id = id; active = true } ∷ []) name) (λ o. is_none o ≡ false)
-    (λ _. refl) (λ _. active_push ts name id)
 
 still : (active drops : Bool) (id other : ℕ) → ((if drops then false else active) && (id == other)) ≡ true → (active && (id == other)) ≡ true
 still active true id other h = cc

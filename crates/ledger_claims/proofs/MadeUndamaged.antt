@@ -20,23 +20,23 @@ use Rattle.ledger_model.specs.Legal.{last_hash}
 use Rattle.ledger_model.specs.Seals.{sealed}
 use Rattle.ledger_model.specs.Making.{later_time, time_behind, revision_of, header_of, info_of, block_of}
 use Rattle.ledger_model.specs.Script.{Placed}
-use Rattle.ledger_model.specs.Whole.{IsWhole, id_fits, hash_fits, entry_fits, header_fits, hashes_fit, info_fits, revision_fits}
+use Rattle.ledger_model.specs.Whole.{IsWhole, id_fits, schema_fits, hash_fits, entry_fits, header_fits, hashes_fit, info_fits, revision_fits}
 use Rattle.ledger_model.specs.Follows.{created_ids, follows}
 use Rattle.ledger_model.specs.Damages.{Undamaged, strand_of, last_block, has_address, has_id, has_previous}
 use Rattle.ledger_claims.specs.Attempts.{Standing, IsStanding, IsNextBlock, mask_of, next, ran_next}
 use Rattle.ledger_claims.specs.Fits.{greatest}
-use Rattle.ledger_claims.specs.Makes.{CanMake}
-use Rattle.ledger_claims.proofs.MadeLists.{all_both, all_like, all_mapped, all_unmapped, differ_rest}
+use Rattle.ledger_claims.specs.Makes.{CanMake, IsWithinAll, change_within, draft_within, said_within}
+use Rattle.ledger_claims.proofs.MadeLists.{all_both, all_like, all_mapped, all_unmapped, differ_rest, passing}
 use Rattle.ledger_claims.proofs.MadeIds.{transaction_of, thing_of, raw_id_fits}
 use Rattle.ledger_claims.proofs.MadeHashes.{IsDigest, hash_of_is, sealed_is, drafts_hashed, sealed_hashes, same_own}
-use Rattle.ledger_claims.proofs.MadeParts.{parts_of}
+use Rattle.ledger_claims.proofs.MadeParts.{FineContent, fine_content, parts_of}
 use Rattle.ledger_claims.proofs.MadeJournals.{Passes, no_damage, undamaged_push, all_whole, last_is, last_hash_is}
 use Rattle.ledger_claims.proofs.MadeStates.{Sound, sound_state}
 use Rattle.ledger_claims.proofs.MadeViews.{draft_ids, latest_all}
-use Rattle.ledger_claims.proofs.MadeProgress.{FineDraft, IsMade, Made, few}
+use Rattle.ledger_claims.proofs.MadeProgress.{FineDraft, IsMade, Made, ShallowSaid, few}
 use Rattle.ledger_claims.proofs.MadeRuns.{FineProgress, so_far_of}
 use Rattle.ledger_claims.proofs.MadeFollows.{follows_made, log_made}
-use Rattle.ledger_claims.proofs.MadeWhole.{FineRevision, FineBlock, whole_of}
+use Rattle.ledger_claims.proofs.MadeWhole.{FineSaid, FineChange, FineRevision, FineBlock, said_is, whole_of}
 
 -- ---- the block's place, id and time
 
@@ -114,12 +114,12 @@ block_with b before place time p drafts =
     sealed (last_hash b.mask before) header (info_of place p drafts) (map (revision_of header) drafts)
 
 module _ (s : Standing) (time : TimeParts) (p : Placed) (progress : Progress) (standing : IsStanding s) (can : CanMake s.mask time p)
-    (counted : s.last + 1 < 2 ^ 64) (room : length s.blocks < 2 ^ 32 - 1) (runs : ran_next s p ≡ ran progress) where
+    (ranges : IsWithinAll progress) (counted : s.last + 1 < 2 ^ 64) (room : length s.blocks < 2 ^ 32 - 1) (runs : ran_next s p ≡ ran progress) where
   sound : Sound s.mask s.last (state s.blocks)
   sound = sound_state s.mask s.last s.blocks standing.undamaged standing.strand standing.drawn
 
   so_far : FineProgress s.mask (s.last + 1) s.last (state s.blocks) sound can.mask_fits counted progress
-  so_far = so_far_of s.mask (s.last + 1) s.last (state s.blocks) sound can.mask_fits counted p.job.statements progress can.requests runs
+  so_far = so_far_of s.mask (s.last + 1) s.last (state s.blocks) sound can.mask_fits counted p.job.statements progress runs
 
   made : Made s.mask (s.last + 1) (state s.blocks) progress.schema progress.log progress.made
   made = so_far.made
@@ -142,24 +142,42 @@ module _ (s : Standing) (time : TimeParts) (p : Placed) (progress : Progress) (s
       let high = x.high in
       subst (λ y. id_fits y ≡ true) (sym x.id_is) (lt-ltb _ _ (raw_id_fits s.mask (s.last + 1) x.thing can.mask_fits counted (omega (arith, f, high))))
 
-  one_revision : (d : Draft) → FineDraft (state s.blocks).tables (created_ids progress.schema) d × (id_fits d.id.raw ≡ true) → FineRevision (revision_of header d)
+  -- a draft whose id fits and whose content is within its range
+  record SoundDraft (d : Draft) : Type 0 where
+    pub fine : FineDraft (state s.blocks).tables (created_ids progress.schema) d
+    pub id : id_fits d.id.raw ≡ true
+    pub content : FineContent d.content
+
+  drafts : AllByRecursion SoundDraft progress.log
+  drafts =
+      let ids = all_like (IsMade s.mask (s.last + 1) (state s.blocks) progress.made) (λ id. id_fits id ≡ true) made_fits (draft_ids progress.log)
+      (log_made s.mask (s.last + 1) s.last (state s.blocks) sound (omega arith) progress.schema progress.log progress.made made) in
+      let within = all_both (λ (d : Draft). id_fits d.id.raw ≡ true) (λ d. draft_within d ≡ true) progress.log
+      (all_unmapped (λ id. id_fits id ≡ true) (λ (d : Draft). d.id.raw) progress.log ids) (passing draft_within progress.log ranges.log) in
+      all_like _ SoundDraft (λ d h. record { fine = h.0; id = h.1.0; content = fine_content d.content h.0.shallow h.1.1 }) progress.log (all_both _ _ progress.log made.drafts within)
+
+  said : AllByRecursion FineSaid progress.said
+  said =
+      all_like (λ x. ShallowSaid x × (said_within x ≡ true)) FineSaid (λ x h. said_is x h.0 h.1) progress.said (
+      all_both ShallowSaid (λ x. said_within x ≡ true) progress.said so_far.said (passing said_within progress.said ranges.said))
+
+  changes : AllByRecursion FineChange progress.schema
+  changes =
+      all_like (λ c. (schema_fits c ≡ true) × (change_within c ≡ true)) FineChange (λ c h. record { name = h.1; fits = h.0 }) progress.schema (
+      all_both (λ c. schema_fits c ≡ true) (λ c. change_within c ≡ true) progress.schema made.fits (passing change_within progress.schema ranges.schema))
+
+  one_revision : (d : Draft) → SoundDraft d → FineRevision (revision_of header d)
   unfolding header
   one_revision d f = record {
     sequence = omega (arith, room);
     strand = lt-ltb s.mask (2 ^ 128) can.mask_fits;
     hash = (drafts_hashed (header_of (next s) s.blocks time progress.log) (d ∷ [])).0;
-    content = f.0.fine;
-    id = f.1;
-    version = let e = f.0.version in omega (arith, e);
+    content = f.content;
+    id = f.id;
+    version = let e = f.fine.version in omega (arith, e);
     time = behind_is s.blocks time whole can.timed;
     tx = tx_fits;
   }
-
-  drafts : AllByRecursion (λ d. FineDraft (state s.blocks).tables (created_ids progress.schema) d × (id_fits d.id.raw ≡ true)) progress.log
-  drafts =
-      let ids = all_like (IsMade s.mask (s.last + 1) (state s.blocks) progress.made) (λ id. id_fits id ≡ true) made_fits (draft_ids progress.log)
-      (log_made s.mask (s.last + 1) s.last (state s.blocks) sound (omega arith) progress.schema progress.log progress.made made) in
-      all_both _ _ progress.log made.drafts (all_unmapped (λ id. id_fits id ≡ true) (λ (d : Draft). d.id.raw) progress.log ids)
 
   fine : FineBlock block
   unfolding block header
@@ -171,17 +189,16 @@ module _ (s : Standing) (time : TimeParts) (p : Placed) (progress : Progress) (s
         strand = lt-ltb s.mask (2 ^ 128) can.mask_fits;
         tx = tx_fits;
         time = behind_is s.blocks time whole can.timed;
-        number = let few_drafts = made.room in omega (arith, few_drafts);
+        number = let few_drafts = made.few_documents in omega (arith, few_drafts);
         digests = sealed_is (last_hash s.mask s.blocks) (header_of (next s) s.blocks time progress.log) (info_of p.place progress progress.log) (map rev progress.log)
             (previous_is s.mask s.blocks whole) (drafts_hashed (header_of (next s) s.blocks time progress.log) progress.log);
         session = ltb-true p.place.session (2 ^ 32) place.0;
         transaction = ltb-true p.place.transaction (2 ^ 32) place.1;
-        said = so_far.said;
-        schema = made.changes;
+        said = said;
+        schema = changes;
         tables = all_mapped (λ (t : TableId). id_fits t.raw ≡ true) (λ (d : Draft). d.table) progress.log (
-            all_like (λ d. FineDraft (state s.blocks).tables (created_ids progress.schema) d × (id_fits d.id.raw ≡ true)) (λ (d : Draft). id_fits d.table.raw ≡ true) (λ d f. f.0.table_fits) progress.log drafts);
-        revisions = all_mapped FineRevision rev progress.log (
-            all_like (λ d. FineDraft (state s.blocks).tables (created_ids progress.schema) d × (id_fits d.id.raw ≡ true)) (λ d. FineRevision (rev d)) one_revision progress.log drafts);
+            all_like SoundDraft (λ (d : Draft). id_fits d.table.raw ≡ true) (λ d f. f.fine.table_fits) progress.log drafts);
+        revisions = all_mapped FineRevision rev progress.log (all_like SoundDraft (λ d. FineRevision (rev d)) one_revision progress.log drafts);
       }
 
   is_whole : IsWhole block
@@ -213,18 +230,18 @@ module _ (s : Standing) (time : TimeParts) (p : Placed) (progress : Progress) (s
       let whole_all : Undamaged (s.blocks ++ block ∷ []) = undamaged_push s.blocks [] block standing.undamaged is_whole (no_damage s.blocks block passes) in
       subst (λ ds. Undamaged (s.blocks ++ block_with (next s) s.blocks p.place time progress ds ∷ [])) (sym all) whole_all
 
--- The block that a job becomes as the next transaction is undamaged behind the blocks so far: where the job's texts,
--- parameters and place, the time and the mask are within their ranges, and there is room and a number for the block.
-pub next_is_undamaged : (s : Standing) (time : TimeParts) (p : Placed) (progress : Progress) → IsStanding s → CanMake s.mask time p → s.last + 1 < 2 ^ 64
+-- The block that a job becomes as the next transaction is undamaged behind the blocks so far: where what the transaction did, the
+-- job's place, the time and the mask are within their ranges, and there is room and a number for the block.
+pub next_is_undamaged : (s : Standing) (time : TimeParts) (p : Placed) (progress : Progress) → IsStanding s → CanMake s.mask time p → IsWithinAll progress → s.last + 1 < 2 ^ 64
     → length s.blocks < 2 ^ 32 - 1 → ran_next s p ≡ ran progress → Undamaged (s.blocks ++ block_of (next s) s.blocks p.place time progress ∷ [])
-next_is_undamaged s time p progress standing can counted room runs = undamaged_behind s time p progress standing can counted room runs
+next_is_undamaged s time p progress standing can ranges counted room runs = undamaged_behind s time p progress standing can ranges counted room runs
 
 -- so it is the job's next block, where the job is to be committed
-pub next_block_is : (s : Standing) (time : TimeParts) (p : Placed) (progress : Progress) → IsStanding s → CanMake s.mask time p → s.last + 1 < 2 ^ 64
+pub next_block_is : (s : Standing) (time : TimeParts) (p : Placed) (progress : Progress) → IsStanding s → CanMake s.mask time p → IsWithinAll progress → s.last + 1 < 2 ^ 64
     → length s.blocks < 2 ^ 32 - 1 → ran_next s p ≡ ran progress → p.job.abort ≡ false → IsNextBlock s time p (block_of (next s) s.blocks p.place time progress)
-next_block_is s time p progress standing can counted room runs commits = record {
+next_block_is s time p progress standing can ranges counted room runs commits = record {
   made = record { progress = progress; runs = runs; block_is = refl };
-  undamaged = next_is_undamaged s time p progress standing can counted room runs;
+  undamaged = next_is_undamaged s time p progress standing can ranges counted room runs;
   commits = commits;
   room = room;
   counted = counted;

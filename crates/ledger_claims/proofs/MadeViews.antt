@@ -9,7 +9,6 @@ use Rattle.ledger_model.specs.declared.block.Content.{Content}
 use Rattle.ledger_model.specs.declared.block.Content.TheVariants.{Deleted, Kept}
 use Rattle.ledger_model.specs.declared.block.Draft.{Draft}
 use Rattle.ledger_model.specs.declared.block.Row.{Row}
-use Rattle.ion_values.specs.Within.{text_within}
 use Rattle.ion_values.specs.declared.value.Body.{out-Body}
 use Rattle.ledger_model.specs.Values.{plain, field, is_struct}
 use Rattle.ledger_model.specs.Journal.{structure}
@@ -18,8 +17,8 @@ use Rattle.ledger_model.specs.Views.{put, latest, latest_from, live, row_of, use
 use Rattle.ledger_model.specs.Run.{all_of}
 use Rattle.ledger_model.specs.Follows.{all_differ}
 use Rattle.ledger_claims.proofs.MadeLists.{all_append, all_mapped, all_like, differ_front}
-use Rattle.ledger_claims.proofs.MadeShapes.{Fine}
-use Rattle.ledger_claims.proofs.MadeParts.{FineContent, fine_plain, fine_structure, fine_more}
+use Rattle.ledger_claims.proofs.MadeShapes.{Shallow, depth_plain}
+use Rattle.ledger_claims.proofs.MadeParts.{ShallowContent, shallow_field}
 
 -- ---- what holds of each revision holds of each latest one
 
@@ -57,45 +56,45 @@ latest_all log h = latest_differing log [] h
 
 -- ---- rows
 
-RowFine : Option Row → Type 0
-RowFine (Some row) = Fine 64 row.value
-RowFine None = Unit {0}
+RowShallow : Option Row → Type 0
+RowShallow (Some row) = Shallow 64 row.value
+RowShallow None = Unit {0}
 
-live_fine : (id : DocId) (c : Content) → FineContent c → RowFine (live id c)
-unfolding RowFine
-live_fine id Deleted h = tt
-live_fine id (Kept v) h = h
+live_shallow : (id : DocId) (c : Content) → ShallowContent c → RowShallow (live id c)
+unfolding RowShallow
+live_shallow id Deleted h = tt
+live_shallow id (Kept v) h = h
 
-row_fine : (table : TableId) (d : Draft) → FineContent d.content → RowFine (row_of table d)
-unfolding RowFine
-row_fine table d h = cond_both (d.table.raw == table.raw) (live d.id d.content) None RowFine (λ _. live_fine d.id d.content h) (λ _. tt)
+row_shallow : (table : TableId) (d : Draft) → ShallowContent d.content → RowShallow (row_of table d)
+unfolding RowShallow
+row_shallow table d h = cond_both (d.table.raw == table.raw) (live d.id d.content) None RowShallow (λ _. live_shallow d.id d.content h) (λ _. tt)
 
-one_row : (o : Option Row) (rest : List Row) → RowFine o → AllByRecursion (λ r. Fine 64 r.value) rest → AllByRecursion (λ r. Fine 64 r.value) (cons_option o rest)
-unfolding RowFine
+one_row : (o : Option Row) (rest : List Row) → RowShallow o → AllByRecursion (λ r. Shallow 64 r.value) rest → AllByRecursion (λ r. Shallow 64 r.value) (cons_option o rest)
+unfolding RowShallow
 one_row None rest h k = k
 one_row (Some x) rest h k = (h, k)
 
-rows_fine : (table : TableId) (ds : List Draft) → AllByRecursion (λ d. FineContent d.content) ds → AllByRecursion (λ r. Fine 64 r.value) (filter_map (row_of table) ds)
-unfolding RowFine
-rows_fine table [] h = tt
-rows_fine table (d ∷ ds) h = one_row (row_of table d) _ (row_fine table d h.0) (rows_fine table ds h.1)
+rows_shallow : (table : TableId) (ds : List Draft) → AllByRecursion (λ d. ShallowContent d.content) ds → AllByRecursion (λ r. Shallow 64 r.value) (filter_map (row_of table) ds)
+unfolding RowShallow
+rows_shallow table [] h = tt
+rows_shallow table (d ∷ ds) h = one_row (row_of table d) _ (row_shallow table d h.0) (rows_shallow table ds h.1)
 
-committed_fine : (rs : List Recorded) → AllByRecursion (λ r. FineContent r.revision.content) rs → AllByRecursion (λ d. FineContent d.content) (map draft_of rs)
-committed_fine rs h = all_mapped (λ d. FineContent d.content) draft_of rs h
+committed_shallow : (rs : List Recorded) → AllByRecursion (λ r. ShallowContent r.revision.content) rs → AllByRecursion (λ d. ShallowContent d.content) (map draft_of rs)
+committed_shallow rs h = all_mapped (λ d. ShallowContent d.content) draft_of rs h
 
--- what `*` makes of a document is fine, one level deeper at most
-all_of_fine : (source : List ℕ) → text_within source ≡ true → (r : Row) → Fine 64 r.value → Fine 65 (all_of source r)
-all_of_fine source h r f =
-    cond_both (is_struct (out-Body r.value.body)) (plain r.value.body) (structure (field source r.value ∷ [])) (Fine 65)
-    (λ _. fine_more 64 65 _ (omega arith) (fine_plain 64 r.value f)) (λ _. fine_structure 64 (field source r.value ∷ []) (record { name = h; value = f }, tt))
+-- what `*` makes of a document nests one level deeper at most
+all_of_shallow : (source : List ℕ) (r : Row) → Shallow 64 r.value → Shallow 65 (all_of source r)
+all_of_shallow source r h =
+    cond_both (is_struct (out-Body r.value.body)) (plain r.value.body) (structure (field source r.value ∷ [])) (Shallow 65)
+    (λ _. let e = depth_plain r.value in omega (arith, e, h)) (λ _. shallow_field 64 source r.value h)
 
 -- each row of a view is a document of its revisions
-pub view_fine : (source : List ℕ) → text_within source ≡ true → (table : TableId) (committed : List Recorded) (pending : List Draft)
-    → AllByRecursion (λ r. FineContent r.revision.content) committed → AllByRecursion (λ d. FineContent d.content) pending
-    → AllByRecursion (Fine 65) (map (all_of source) (user_view table (map draft_of committed) pending))
-view_fine source name table committed pending h k =
+pub view_shallow : (source : List ℕ) (table : TableId) (committed : List Recorded) (pending : List Draft)
+    → AllByRecursion (λ r. ShallowContent r.revision.content) committed → AllByRecursion (λ d. ShallowContent d.content) pending
+    → AllByRecursion (Shallow 65) (map (all_of source) (user_view table (map draft_of committed) pending))
+view_shallow source table committed pending h k =
     let drafts = map draft_of committed ++ pending in
-    let each = all_append (λ d. FineContent d.content) (map draft_of committed) pending (committed_fine committed h) k in
-    let last = all_latest (λ d. FineContent d.content) drafts [] tt each in
-    let rows = rows_fine table (latest drafts) last in
-    all_mapped (Fine 65) (all_of source) _ (all_like (λ r. Fine 64 r.value) (λ r. Fine 65 (all_of source r)) (all_of_fine source name) _ rows)
+    let each = all_append (λ d. ShallowContent d.content) (map draft_of committed) pending (committed_shallow committed h) k in
+    let last = all_latest (λ d. ShallowContent d.content) drafts [] tt each in
+    let rows = rows_shallow table (latest drafts) last in
+    all_mapped (Shallow 65) (all_of source) _ (all_like (λ r. Shallow 64 r.value) (λ r. Shallow 65 (all_of source r)) (all_of_shallow source) _ rows)

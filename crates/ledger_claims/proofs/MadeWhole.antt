@@ -1,10 +1,10 @@
 -- The block of a transaction is whole.
-use Rattle.std.proofs.Common.{◌≡◌, ◌<◌, ◌^◌, ℕ, true, List, [], ◌∷◌, map, length, codes, refl, arith}
+use Rattle.std.proofs.Common.{◌≡◌, ◌<◌, ◌^◌, ◌&&◌, ℕ, true, List, [], ◌∷◌, map, length, codes, refl, arith}
 use Rattle.std.specs.Prelude.{nat_lt}
 use Rattle.std.specs.List.{AllByRecursion, list_all}
-use Rattle.std.proofs.lemmas.Bool.{and_from, lt-ltb, le-leb, eq-eqb}
+use Rattle.std.proofs.lemmas.Bool.{and_from, and_parts, lt-ltb, le-leb, eq-eqb}
 use Rattle.ion_values.specs.Depth.{depth_of}
-use Rattle.ion_values.specs.Within.{text_within}
+use Rattle.ion_values.specs.Within.{within, text_within}
 use Rattle.ion_values.specs.Time.{is_time}
 use Rattle.ion_values.specs.declared.value.Body.TheVariants as body
 use Rattle.ql_types.specs.declared.Hash32.{Hash32}
@@ -25,12 +25,30 @@ use Rattle.ledger_model.specs.declared.block.Block.{Block}
 use Rattle.ledger_model.specs.Values.{plain}
 use Rattle.ledger_model.specs.Journal.{hash_value, hash_bytes, address_value, metadata_value, revision_value, place_value, said_value, change_value, schema_value, document_value, document_values, info_value, block_value}
 use Rattle.ledger_model.specs.Whole as whole
-use Rattle.ledger_model.specs.Whole.{IsWhole, id_fits, table_fits, hash_fits, entry_fits, address_fits, metadata_fits, revision_fits, place_fits, schema_fits, info_fits, header_fits, hashes_fit, block_fits}
+use Rattle.ledger_model.specs.Whole.{IsWhole, id_fits, table_fits, hash_fits, entry_fits, address_fits, revision_fits, place_fits, schema_fits, info_fits, header_fits, hashes_fit, block_fits}
+use Rattle.ledger_claims.specs.Makes.{change_within, said_within}
 use Rattle.ledger_claims.proofs.MadeLists.{all_like, all_mapped, passes}
 use Rattle.ledger_claims.proofs.MadeShapes.{Fine}
 use Rattle.ledger_claims.proofs.MadeHashes.{IsDigest, IsEntry, HasDigests}
-use Rattle.ledger_claims.proofs.MadeParts.{FineContent, fine_string, fine_id, fine_number, fine_moment, fine_blob, fine_list, fine_structure, fine_field, fine_more}
-use Rattle.ledger_claims.proofs.MadeProgress.{FineSaid, FineChange}
+use Rattle.ledger_claims.proofs.MadeParts.{FineContent, fine_string, fine_id, fine_number, fine_moment, fine_blob, fine_list, fine_structure, fine_field, fine_more, fine_each}
+use Rattle.ledger_claims.proofs.MadeProgress.{ShallowSaid}
+
+-- ---- what was said and changed
+
+pub record FineSaid (x : Said) : Type 0 where
+  pub text : text_within x.text ≡ true
+  pub params : AllByRecursion (Fine 64) x.params
+  pub rows : AllByRecursion (Fine 65) x.answer.rows
+
+pub record FineChange (c : Schema) : Type 0 where
+  pub name : change_within c ≡ true
+  pub fits : schema_fits c ≡ true
+
+pub said_is : (x : Said) → ShallowSaid x → said_within x ≡ true → FineSaid x
+said_is x h k =
+    let both = and_parts (text_within x.text && list_all within x.params) (list_all within x.answer.rows) k in
+    let front = and_parts (text_within x.text) (list_all within x.params) both.0 in
+    record { text = front.0; params = fine_each 64 x.params h.params front.1; rows = fine_each 65 x.answer.rows h.rows both.1 }
 
 -- ---- the parts' values
 

@@ -1,22 +1,49 @@
--- What a run is told that a block is made of: a statement's text is UTF-8 (RFC 3629), its parameters are values of the ledger
--- (Ion 1.0), the block's time is a timestamp, and the mask and the place fit their types.
-use Rattle.std.specs.Prelude.{ℕ, ◌<◌, ◌^◌, IsTrue}
-use Rattle.std.specs.List.{AllByRecursion, list_all}
+-- What a block is made of: what its transaction did, with texts that are UTF-8 (RFC 3629) and values of the ledger (Ion 1.0), a
+-- time that is a timestamp, and a mask and a place that fit their types.
+use Rattle.std.specs.Prelude.{ℕ, ◌<◌, ◌^◌, ◌&&◌, Bool, true, IsTrue}
+use Rattle.std.specs.List.{list_all}
 use Rattle.ion_values.specs.Time.{is_time}
 use Rattle.ion_values.specs.Within.{within, text_within}
 use Rattle.ion_values.specs.declared.time.TimeParts.{TimeParts}
-use Rattle.ledger_model.specs.declared.script.Request.{Request}
+use Rattle.ledger_model.specs.declared.block.Content.{Content}
+use Rattle.ledger_model.specs.declared.block.Content.TheVariants.{Deleted, Kept}
+use Rattle.ledger_model.specs.declared.block.Draft.{Draft}
+use Rattle.ledger_model.specs.declared.block.Said.{Said}
+use Rattle.ledger_model.specs.declared.block.Schema.{Schema}
+use Rattle.ledger_model.specs.declared.block.Schema.TheVariants.{Create, Index, Drop}
+use Rattle.ledger_model.specs.Run.{Progress}
 use Rattle.ledger_model.specs.Script.{Placed}
 use Rattle.ledger_model.specs.Whole.{place_fits}
 
--- the statement's text and its parameters are within their ranges
-pub record IsWithin (r : Request) : Type 0 where
-  pub text : IsTrue (text_within r.text)
-  pub params : IsTrue (list_all within r.params)
+-- ---- what a transaction did
 
--- the mask of the ids, the time and the job, of which a block is made, are within their ranges
+-- the statement's text, its parameters and its rows are within their ranges
+abbrev pub said_within : Said → Bool
+said_within x = text_within x.text && list_all within x.params && list_all within x.answer.rows
+
+-- so is the name of a table or of a field
+abbrev pub change_within : Schema → Bool
+change_within (Create name id) = text_within name
+change_within (Index field id) = text_within field
+change_within (Drop name id) = text_within name
+
+abbrev pub content_within : Content → Bool
+content_within Deleted = true
+content_within (Kept v) = within v
+
+abbrev pub draft_within : Draft → Bool
+draft_within d = content_within d.content
+
+-- each text, value and name of what the transaction did is within its range
+pub record IsWithinAll (p : Progress) : Type 0 where
+  pub said : IsTrue (list_all said_within p.said)
+  pub schema : IsTrue (list_all change_within p.schema)
+  pub log : IsTrue (list_all draft_within p.log)
+
+-- ---- where and when it becomes a block
+
+-- the mask of the ids, the time and the job's place are within their ranges
 pub record CanMake (mask : ℕ) (time : TimeParts) (p : Placed) : Type 0 where
   pub mask_fits : mask < 2 ^ 128
   pub timed : IsTrue (is_time time)
   pub placed : IsTrue (place_fits p.place)
-  pub requests : AllByRecursion IsWithin p.job.statements

@@ -1,11 +1,9 @@
 -- What is so where a command ends, by its exit status.
-use Rattle.std.proofs.Common.{◌≡◌, ℕ, ◌<◌, ◌==◌, List, [], ◌∷◌, ◌∙◌, ap, sym, refl, subst, inl, inr, ◌⊎◌, if◌then◌else◌, lit<, String, Option, Result, Ok, Err, Bool}
+use Rattle.std.proofs.Common.{◌≡◌, ℕ, ◌==◌, List, [], ◌∷◌, ◌∙◌, ap, sym, refl, subst, inl, inr, ◌⊎◌, if◌then◌else◌, lit<, String, Option, Result, Ok, Err, Bool}
 use Rattle.std.specs.Prelude.{Contains, OnErr, IfErr, IfOk}
-use Rattle.std.specs.Io.KnownBytes.{Appends}
 use Rattle.std.specs.declared.alloc.Global.{Global}
 use Rattle.ledger_model.specs.declared.script.Job.{Job}
 use Rattle.ion_values.specs.declared.time.TimeParts.{TimeParts}
-use Rattle.ledger_claims.specs.Streams.{AppendsPart}
 use Rattle.ledger_claims.specs.Top.{Stored, HasReport, HasScript, IsReportOf, HoldsRun, Leaves}
 use Rattle.ledger_claims.specs.Words.{IsRun}
 use Rattle.ledger_claims.proofs.Left.{all-HoldingWithRest}

@@ -1,11 +1,11 @@
 -- The run on a journal that was loaded, from its report to what is told of the whole.
-use Rattle.std.proofs.Common.{◌≡◌, ℕ, ◌<◌, ◌≤◌, Bool, List, [], refl, sym, subst, arith, Option, Result, Ok, Err, ◌⊎◌, inl, inr}
+use Rattle.std.proofs.Common.{◌≡◌, ℕ, ◌≤◌, Bool, List, [], refl, sym, subst, arith, Option, Result, Ok, Err, ◌⊎◌, inr}
 use Rattle.std.specs.Prelude.{IfOk, IfErr, OnOk, OnErr}
 use Rattle.ion_values.specs.declared.time.TimeParts.{TimeParts}
 use Rattle.ledger_model.specs.declared.script.Job.{Job}
 use Rattle.ledger_model.specs.Script.{all_placed}
 use Rattle.ledger_claims.specs.Fits.{RunRecord, greatest}
-use Rattle.ledger_claims.specs.Attempts.{Standing, IsStanding, mask_of}
+use Rattle.ledger_claims.specs.Attempts.{IsStanding, mask_of}
 use Rattle.ledger_claims.specs.SoFar.{LeavesRun}
 use Rattle.ledger_claims.specs.Stores.{IsSynced}
 use Rattle.ledger_claims.specs.Top.{Stored, IsReportOf, HoldsRun}

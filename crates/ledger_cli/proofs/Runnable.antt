@@ -1,23 +1,18 @@
--- A script that is served can be run: its statements are within their ranges, and its jobs can be counted in 32 bits.
-use Rattle.std.proofs.Common.{◌≡◌, ◌∙◌, ◌+◌, ◌<◌, ◌≤◌, ◌^◌, ◌&&◌, ℕ, zero, suc, Bool, true, false, nat_le, List, [], ◌∷◌, length, take, get_or, Option, Some, None, Result, Ok, Err, refl, sym, ap, subst, arith, lit<, if◌then◌else◌}
-use Rattle.std.specs.Prelude.{IfOk, IfSome}
-use Rattle.std.specs.List.{All, AllByRecursion, list_all}
+-- A script that is served can be run: its sessions and its jobs can be counted in 32 bits.
+use Rattle.std.proofs.Common.{◌≡◌, ◌+◌, ◌<◌, ◌≤◌, ◌^◌, ℕ, zero, suc, true, nat_le, List, [], ◌∷◌, length, take, Option, Some, None, Result, Ok, Err, refl, sym, ap, subst, arith, if◌then◌else◌}
+use Rattle.std.specs.Prelude.{IfOk}
+use Rattle.std.specs.List.{All, AllByRecursion}
 use Rattle.std.specs.Option.{ok_or, unwrap_or}
 use Rattle.std.proofs.lemmas.Bool.{cond_both}
 use Rattle.std.proofs.lemmas.Grind.{common_steps}
-use Rattle.ion_values.specs.Within.{within}
 use Rattle.ion_values.specs.declared.value.Value.{Value}
 use Rattle.ion_grammar.specs.Short.{all_short}
 use Rattle.ledger_model.specs.declared.script.Job.{Job}
 use Rattle.ledger_model.specs.declared.script.ScriptFault.{ScriptFault}
-use Rattle.ledger_model.specs.declared.script.ScriptKind.{ScriptKind}
 use Rattle.ledger_model.specs.declared.script.ScriptKind.TheVariants as kind
 use Rattle.ledger_model.specs.Values.{list_in}
 use Rattle.ledger_model.specs.ReadScript.{if_read, fault_at, placed_at, read_each, read_placed, read_session, read_script}
-use Rattle.ledger_model.specs.Unbuilt.{Judged, too_long, faulty, misspelt, unbuilt, served, is_served_script, judged_script}
-use Rattle.ledger_claims.specs.Makes.{IsWithin}
-use Rattle.ledger_claims.proofs.Tests.{both}
-use Rattle.ledger_claims.proofs.MadeScripts.{script_within}
+use Rattle.ledger_model.specs.Unbuilt.{Judged, unbuilt, served, is_served_script, judged_script}
 use Rattle.script_form.specs.Answers.{IsCountable}
 use Rattle.script_form.proofs.Countable.{countable}
 use Rattle.ledger_cli.specs.declared.served.Judgement.{Judgement}
@@ -25,10 +20,6 @@ use Rattle.ledger_cli.specs.declared.served.Judgement.TheVariants as judgement
 use Rattle.ledger_cli.specs.Judgements.{IsRunnable, AreRunnable, ServesRunnable, judged_of}
 
 -- ---- lists
-
-all_true_of : {A : Type 0} (p : A → Bool) (xs : List A) → list_all p xs ≡ true → AllByRecursion (λ x. p x ≡ true) xs
-all_true_of p [] h = tt
-all_true_of p (x ∷ xs) h = let parts = both (p x) (list_all p xs) h in (parts.0, all_true_of p xs parts.1)
 
 short_take : {A : Type 0} (n : ℕ) (xs : List A) → length (take n xs) ≤ n
 short_take n xs = grind (arith, common_steps)
@@ -51,19 +42,17 @@ as_many read [] number = refl
 as_many read (x ∷ xs) number = behind_one x xs (read number x) (read_each read (number + 1) xs) (as_many read xs (number + 1))
 
 -- a session's jobs can be counted where its members can
-abbrev AreFew : List Job → Type 0
-AreFew jobs = length jobs < 2 ^ 32
 
-few_as : (members : List Value) → length members < 2 ^ 32 → (r : Result (List Job) ScriptFault) → IfOk r (λ jobs. length jobs ≡ length members) → IfOk r AreFew
-few_as members few (Ok jobs) same = omega (arith, few, same)
+few_as : (members : List Value) → length members < 2 ^ 32 → (r : Result (List Job) ScriptFault) → IfOk r (λ jobs. length jobs ≡ length members) → IfOk r IsRunnable
+few_as members few (Ok jobs) same = record { few = omega (arith, few, same) }
 few_as members few (Err e) same = tt
 
 few_in : (session : ℕ) (members : Option (List Value)) → length (unwrap_or members []) < 2 ^ 32
-    → IfOk (if_read (placed_at session 0 (ok_or members kind.NotASession)) (λ vs. read_each (read_placed session) 1 vs)) AreFew
+    → IfOk (if_read (placed_at session 0 (ok_or members kind.NotASession)) (λ vs. read_each (read_placed session) 1 vs)) IsRunnable
 few_in session None few = tt
 few_in session (Some members) few = few_as members few (read_each (read_placed session) 1 members) (as_many (read_placed session) members 1)
 
-few_session : (session : ℕ) (v : Value) → IsCountable v → IfOk (read_session session v) AreFew
+few_session : (session : ℕ) (v : Value) → IsCountable v → IfOk (read_session session v) IsRunnable
 few_session session v few = few_in session (list_in v) few
 
 -- ---- so are they all
@@ -74,10 +63,10 @@ each_then Q (Ok y) (Ok ys) h k = (h, k)
 each_then Q (Ok y) (Err e) h k = tt
 each_then Q (Err e) s h k = tt
 
-few_each : (vs : List Value) (number : ℕ) → AllByRecursion IsCountable vs → IfOk (read_each read_session number vs) (AllByRecursion AreFew)
+few_each : (vs : List Value) (number : ℕ) → AllByRecursion IsCountable vs → IfOk (read_each read_session number vs) (AllByRecursion IsRunnable)
 few_each [] number h = tt
 few_each (v ∷ vs) number h =
-    each_then AreFew (read_session number v) (read_each read_session (number + 1) vs) (few_session number v h.0) (few_each vs (number + 1) h.1)
+    each_then IsRunnable (read_session number v) (read_each read_session (number + 1) vs) (few_session number v h.0) (few_each vs (number + 1) h.1)
 
 -- what is told of each place is so of each item
 each_of : {A : Type 0} (P : A → Type 0) (xs : List A) → All P xs → AllByRecursion P xs
@@ -91,38 +80,21 @@ first_ones P (suc n) (x ∷ xs) h = (h.0, first_ones P n xs h.1)
 
 -- ---- the script
 
-abbrev FewAll : List (List Job) → Type 0
-FewAll script = AllByRecursion AreFew script × (length script < 2 ^ 32)
-
-few_read : (values : List Value) (r : Result (List (List Job)) ScriptFault) → IfOk r (AllByRecursion AreFew) → IfOk r (λ script. length script ≡ length (take 1024 values))
-    → IfOk (if_read r (λ script. if nat_le (length values) 1024 then Ok script else Err (fault_at 1025 0 kind.TooManySessions))) FewAll
+few_read : (values : List Value) (r : Result (List (List Job)) ScriptFault) → IfOk r (AllByRecursion IsRunnable) → IfOk r (λ script. length script ≡ length (take 1024 values))
+    → IfOk (if_read r (λ script. if nat_le (length values) 1024 then Ok script else Err (fault_at 1025 0 kind.TooManySessions))) AreRunnable
 few_read values (Ok script) each same =
-    cond_both (nat_le (length values) 1024) (Ok script) (Err (fault_at 1025 0 kind.TooManySessions)) (λ (r : Result (List (List Job)) ScriptFault). IfOk r FewAll)
-    (λ _. (each, omega (arith, same, short_take 1024 values))) (λ _. tt)
+    cond_both (nat_le (length values) 1024) (Ok script) (Err (fault_at 1025 0 kind.TooManySessions)) (λ (r : Result (List (List Job)) ScriptFault). IfOk r AreRunnable)
+    (λ _. record { sessions = each; few = omega (arith, same, short_take 1024 values) }) (λ _. tt)
 few_read values (Err e) each same = tt
 
-few_script : (values : List Value) → All IsCountable values → IfOk (read_script values) FewAll
+few_script : (values : List Value) → All IsCountable values → IfOk (read_script values) AreRunnable
 few_script values all =
     few_read values (read_each read_session 1 (take 1024 values))
     (few_each (take 1024 values) 1 (first_ones IsCountable 1024 values (each_of IsCountable values all)))
     (as_many read_session (take 1024 values) 1)
 
--- ---- both
-
-abbrev JobsWithin : List Job → Type 0
-JobsWithin jobs = AllByRecursion (λ job. AllByRecursion IsWithin job.statements) jobs
-
-join : (script : List (List Job)) → AllByRecursion JobsWithin script → AllByRecursion AreFew script → AllByRecursion IsRunnable script
-join [] within few = tt
-join (jobs ∷ more) within few = (record { within = within.0; few = few.0 }, join more within.1 few.1)
-
-join_read : (r : Result (List (List Job)) ScriptFault) → IfOk r (AllByRecursion JobsWithin) → IfOk r FewAll → IfOk r AreRunnable
-join_read (Ok script) within few = record { sessions = join script within few.0; few = few.1 }
-join_read (Err e) within few = tt
-
-read_runnable : (n : ℕ) (values : List Value) → n < 2 ^ 32 → all_short n values ≡ true → list_all within values ≡ true → IfOk (read_script values) AreRunnable
-read_runnable n values fits short all =
-    join_read (read_script values) (script_within values (all_true_of within values all)) (few_script values (countable n values fits short))
+read_runnable : (n : ℕ) (values : List Value) → n < 2 ^ 32 → all_short n values ≡ true → IfOk (read_script values) AreRunnable
+read_runnable n values fits short = few_script values (countable n values fits short)
 
 -- ---- what is judged
 
@@ -140,7 +112,7 @@ serves (judgement.Served script) (Ok read) is runs =
     (λ _ e. subst (λ (x : List (List Job)). AreRunnable x) (sym (same_script script read e)) runs) (λ _ e. let bad : ⊥ = cc in absurd bad) is
 
 -- what the values of an input are judged, which are those of a text that isn't too long
-pub judged_runnable : {E : Type 0} (n : ℕ) (values : List Value) (r : Result Judgement E) → n ≤ 16777216 → all_short n values ≡ true → list_all within values ≡ true
+pub judged_runnable : {E : Type 0} (n : ℕ) (values : List Value) (r : Result Judgement E) → n ≤ 16777216 → all_short n values ≡ true
     → IfOk r (λ j. judged_of j ≡ judged_script (read_script values)) → IfOk r ServesRunnable
-judged_runnable n values (Ok j) fits short all is = serves j (read_script values) is (read_runnable n values (omega (arith, fits)) short all)
-judged_runnable n values (Err e) fits short all is = tt
+judged_runnable n values (Ok j) fits short is = serves j (read_script values) is (read_runnable n values (omega (arith, fits)) short)
+judged_runnable n values (Err e) fits short is = tt

@@ -1,5 +1,5 @@
 -- The run of a script from one transaction to the next, from its begin to its end.
-use Rattle.std.proofs.Common.{◌≡◌, ℕ, ◌+◌, ◌<◌, ◌≤◌, Bool, true, false, List, [], ◌∷◌, ◌++◌, length, take, drop, drop-cons, get_or, refl, sym, ap, ap₂, subst, ◌∙◌, arith, append_assoc, append-nil, Option, Some, None, ◌⊎◌, inl, inr, zero, suc}
+use Rattle.std.proofs.Common.{◌≡◌, ℕ, ◌+◌, ◌<◌, ◌≤◌, Bool, true, false, List, [], ◌∷◌, ◌++◌, length, take, drop, drop-cons, get_or, refl, sym, ap, ap₂, subst, ◌∙◌, arith, append-nil, Option, Some, None, ◌⊎◌, inl, inr, zero, suc}
 use Rattle.std.specs.Prelude.{IfSome, IsSome, OnErr, option_map, Result, Ok, Err}
 use Rattle.std.specs.List.{AllByRecursion}
 use Rattle.std.proofs.Math.Seq.{take-append_seam}
@@ -7,7 +7,6 @@ use Rattle.std.proofs.lemmas.List.{drop_all}
 use Rattle.ion_values.specs.declared.time.TimeParts.{TimeParts}
 use Rattle.ion_values.specs.declared.value.Value.{Value}
 use Rattle.ion_forms.specs.Write.{value_text}
-use Rattle.ql_types.specs.declared.TxId.{TxId}
 use Rattle.ledger_model.specs.declared.block.Block.{Block}
 use Rattle.ledger_model.specs.declared.outcome.Outcome.{Outcome}
 use Rattle.ledger_model.specs.declared.outcome.Outcome.TheVariants.{Committed, Conflict, Refused, DigestDiffers, StoreFault, JournalFull, IdsSpent, Aborted, OutOfMemory}
@@ -15,9 +14,8 @@ use Rattle.ledger_model.specs.declared.outcome.PlacedOutcome.{PlacedOutcome}
 use Rattle.ledger_model.specs.declared.script.Job.{Job}
 use Rattle.ledger_model.specs.Journal.{line, journal_bytes}
 use Rattle.ledger_model.specs.Recovered.{has_no_line_feed}
-use Rattle.ledger_model.specs.Report.{report}
 use Rattle.ledger_model.specs.Script.{Placed, placed_from, all_placed, all_placed_from}
-use Rattle.ledger_claims.specs.Fits.{RunRecord, Fits, FitsBlocks, EachHolds, greatest}
+use Rattle.ledger_claims.specs.Fits.{RunRecord, Fits, greatest}
 use Rattle.ledger_claims.specs.Attempts.{Standing, IsStanding, Attempted, HoldsBehind, LeavesPart, LeavesStore, mask_of}
 use Rattle.ledger_claims.specs.SoFar.{InOrder, SoFar, LeavesRun, standing, extended}
 use Rattle.ledger_claims.specs.Stores.{HasJournal, Holding, HoldingWithRest, IsSynced}

@@ -1,11 +1,10 @@
 -- What a judgement of the input in memory stands for, and what is so of a script that is run.
-use Rattle.std.specs.Prelude.{ℕ, ◌<◌, ◌^◌, List, length}
+use Rattle.std.specs.Prelude.{◌<◌, ◌^◌, List, length}
 use Rattle.std.specs.List.{AllByRecursion}
 use Rattle.ledger_model.specs.declared.script.Job.{Job}
 use Rattle.ledger_model.specs.Unbuilt.{Judged, too_long, faulty, misspelt, unbuilt, served}
 use Rattle.ledger_claims.specs.Lines.{BadInput}
 use Rattle.ledger_claims.specs.Lines as bad
-use Rattle.ledger_claims.specs.Makes.{IsWithin}
 use Rattle.ledger_cli.specs.declared.lines.BadInput as held
 use Rattle.ledger_cli.specs.declared.lines.BadInput.TheVariants as cause
 use Rattle.ledger_cli.specs.declared.served.Judgement.{Judgement}
@@ -24,12 +23,11 @@ cause_of (cause.Faulty fault) = bad.faulty fault
 cause_of (cause.Misspelt fault) = bad.misspelt fault
 cause_of cause.Unbuilt = bad.unbuilt
 
--- each statement of these transactions is within its ranges, and they can be counted in 32 bits
+-- these transactions can be counted in 32 bits
 pub record IsRunnable (jobs : List Job) : Type 0 where
-  pub within : AllByRecursion (λ job. AllByRecursion IsWithin job.statements) jobs
   pub few : length jobs < 2 ^ 32
 
--- the same of each session of a script, and the sessions can be counted too
+-- so can those of each session of a script, and its sessions
 pub record AreRunnable (script : List (List Job)) : Type 0 where
   pub sessions : AllByRecursion IsRunnable script
   pub few : length script < 2 ^ 32

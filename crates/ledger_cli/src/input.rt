@@ -1,5 +1,5 @@
 //! Reading the input to its end.
-ghost use Rattle.std.specs.Prelude.{◌≡◌, ◌<◌, ◌≤◌, ℕ, List, length, IfOk, IsErrOf};
+ghost use Rattle.std.specs.Prelude.{◌<◌, ◌≤◌, ℕ, List, length, IfOk, IsErrOf};
 ghost use Rattle.ledger_claims.specs.Streams.{Taken, TakesFew, WasRead};
 
 use outside::{OutFault, Source};

@@ -1,5 +1,5 @@
 //! Writing a whole text.
-ghost use Rattle.std.specs.Prelude.{◌≡◌, ◌<◌, IsErrOf, OnOk};
+ghost use Rattle.std.specs.Prelude.{◌<◌, IsErrOf, OnOk};
 ghost use Rattle.std.specs.Io.KnownBytes.{Appends};
 ghost use Rattle.ledger_claims.specs.Streams.{AppendsPart};
 

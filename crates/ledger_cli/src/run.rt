@@ -1,9 +1,7 @@
 //! The run of a script on the journal that a store keeps.
 ghost use Rattle.std.specs.Prelude.{◌≡◌, ◌<◌, ◌≤◌, ◌⊎◌, [], ◌∷◌, ◌++◌, List, Err, IfOk, IfErr, OnOk, OnErr, vec_capacity, vec_len};
-ghost use Rattle.std.specs.List.{AllByRecursion};
 ghost use Rattle.ledger_model.specs.Script.{Placed, placed_from, all_placed};
 ghost use Rattle.ledger_claims.specs.Fits.{RunRecord};
-ghost use Rattle.ledger_claims.specs.Makes.{IsWithin};
 ghost use Rattle.ledger_claims.specs.SoFar.{LeavesRun};
 ghost use Rattle.ledger_claims.specs.Stores.{IsSynced};
 ghost use Rattle.ledger_claims.specs.Top.{IsReportOf, HoldsRun, stored};
@@ -48,7 +46,6 @@ fn run_job<S: JournalStore, C>(
     tail: &mut Tail<S, C>,
     outcomes: &mut Vec<PlacedOutcome>,
 ) -> Result<(), OutOfMemory>
-    requires { AllByRecursion IsWithin job.now.statements }
     ensures runs { OnOk result ((t : RunRecord) (rest : List Placed) → IsRunning t time (record { place = place; job = job.now } ∷ rest) (come tail.old.standing tail.old.marked (S.bytes tail.old.store) (S.synced tail.old.store) (S.fault_count tail.old.store) outcomes.old.items) → IsRunning t time rest (come tail.new.standing tail.new.marked (S.bytes tail.new.store) (S.synced tail.new.store) (S.fault_count tail.new.store) outcomes.new.items)) }
     ensures kept { OnOk result (IsKept (come tail.old.standing tail.old.marked (S.bytes tail.old.store) (S.synced tail.old.store) (S.fault_count tail.old.store) outcomes.old.items) → IsKept (come tail.new.standing tail.new.marked (S.bytes tail.new.store) (S.synced tail.new.store) (S.fault_count tail.new.store) outcomes.new.items)) }
     ensures same { OnErr result ((tail.new ≡ tail.old) × (outcomes.new.items ≡ outcomes.old.items)) }

@@ -133,20 +133,27 @@ fn scripts(rt: HostRuntime) -> Result<(), Fail> {
         "{session:1,transaction:1,outcome:committed,tx:\"0000000000000000018OWG\",block:0,answers:[[{tableId:\"0000000000000000018OWH\"}],[{documentId:\"0000000000000000018OWI\"}],[{b:\"x\",b:-7}],[{b:\"x\",b:-7}]]}\n";
     let no_table =
         "{session:1,transaction:1,outcome:refused,tx:\"0000000000000000018OWG\",since:0,statement:1,cause:{code:2,name:\"t\"}}\n";
-    let null_struct =
-        "[{statements:[\"CREATE TABLE t\",{text:\"INSERT INTO t ?\",params:[null.struct]}]}]";
+    let documents =
+        "[{statements:[\"create table Accounts\",{text:\"INSERT INTO Accounts VALUE [{'a': 1 + 2}, ?];\",params:[x::{b:y}]},\"SELECT * FROM Accounts AS a\"]}]";
+    let both =
+        "{session:1,transaction:1,outcome:committed,tx:\"0000000000000000018OWG\",block:0,answers:[[{tableId:\"0000000000000000018OWH\"}],[{documentId:\"0000000000000000018OWI\"},{documentId:\"0000000000000000018OWJ\"}],[{a:3},{b:y}]]}\n";
+    let operators =
+        "[{statements:[\"CREATE TABLE t\",\"INSERT INTO t {'a': 7 / 2, 'b': -7 % 2, 'c': 7 + 0.5, 'd': 1 / 0, 'e': 2 IN [1, NULL, 2], 'f': 3 IN [1, NULL], 'g': NULL = 1, 'h': 1 = 'a'}\",\"SELECT * FROM t\"]}]";
+    let results =
+        "{session:1,transaction:1,outcome:committed,tx:\"0000000000000000018OWG\",block:0,answers:[[{tableId:\"0000000000000000018OWH\"}],[{documentId:\"0000000000000000018OWI\"}],[{a:3,b:-1,c:75d-1,e:true,f:null,g:null,h:false}]]}\n";
     let no_session = "{status:2,fault:{session:1,transaction:0,kind:NotASession}}\n";
     let bad_retries = "{status:2,fault:{session:1,transaction:1,kind:BadRetries}}\n";
     // the input, the status, the output, and whether a block is made
     for (input, status, output, made) in [
         (FIRST, 0, COMMITTED, true),
         (swapped, 0, twice, true),
+        (documents, 0, both, true),
+        (operators, 0, results, true),
         (SESSIONS, 0, FOUR_OUTCOMES, true),
         ("", 0, "", false),
         ("[{statements:[\"SELECT * FROM t\"]}]", 0, no_table, false),
         ("5", 2, no_session, false),
         ("[{statements:[],retries:101}]", 2, bad_retries, false),
-        (null_struct, 2, UNBUILT, false),
     ] {
         let got = run_command(&rt, alloc, to_run(alloc, RUN, input)?)?;
         assert_eq!(rt; got.status, status);
@@ -155,6 +162,87 @@ fn scripts(rt: HostRuntime) -> Result<(), Fail> {
         if input == FIRST {
             assert_eq!(rt; got.held.as_slice(), LINE.as_bytes());
         }
+    }
+    Ok(())
+}
+
+/// The script of one transaction of these statements.
+fn script_of(alloc: Global, statements: &str) -> Result<String, Fail> {
+    Ok(format!(in alloc; "[{{statements:[{statements}]}}]")?)
+}
+
+/// Statements of a transaction, the number of the one that is refused, and why.
+const REFUSED: &str = "\"SELECT * FORM t\" = 1 = code:1,at:9,kind:Unexpected\n\
+    \"\" = 1 = code:1,at:0,kind:TextEnds\n\
+    \"SELECT a FROM t, u\" = 1 = code:1,at:7,kind:UnknownName\n\
+    \"SELECT 1e3 FROM t\" = 1 = code:1,at:7,kind:FloatRefused\n\
+    \"SELECT * FROM t ORDER BY a\" = 1 = code:1,at:16,kind:Unexpected\n\
+    \"CREATE TABLE _ql_x\" = 1 = code:4,name:\"_ql_x\"\n\
+    \"CREATE TABLE t\",\"INSERT INTO t 5\" = 2 = code:10,kind:Int\n\
+    \"CREATE TABLE t\",{text:\"INSERT INTO t ?\",params:[[{},null.struct]]} = 2 = code:10,kind:Null\n\
+    \"CREATE TABLE t\",\"INSERT INTO t ?\" = 2 = code:11,wanted:1,given:0\n\
+    {text:\"DROP TABLE t\",params:[1]} = 1 = code:11,wanted:0,given:1";
+
+#[test]
+fn refused_statements(rt: HostRuntime) -> Result<(), Fail> {
+    let alloc = rt.alloc();
+    for row in REFUSED.lines() {
+        let (statements, told) = row.split_once(" = ").unwrap_or((row, ""));
+        let (number, cause) = told.split_once(" = ").unwrap_or((told, ""));
+        let script = script_of(alloc, statements)?;
+        let got = run_command(&rt, alloc, to_run(alloc, RUN, script.as_str())?)?;
+        let line = refused(alloc, number, cause)?;
+        assert_eq!(rt; got.status, 0);
+        assert_eq!(rt; got.output.as_str(), line.as_str());
+        assert!(rt; got.held.is_empty());
+    }
+    Ok(())
+}
+
+/// The report of the first transaction, whose statement of this number was refused.
+fn refused(alloc: Global, number: &str, cause: &str) -> Result<String, Fail> {
+    Ok(format!(in alloc;
+        "{{session:1,transaction:1,outcome:refused,tx:\"0000000000000000018OWG\",since:0,statement:{number},cause:{{{cause}}}}}\n"
+    )?)
+}
+
+#[test]
+fn a_table_too_many(rt: HostRuntime) -> Result<(), Fail> {
+    let alloc = rt.alloc();
+    let mut statements = String::from_str(alloc, "\"CREATE TABLE t\"")?;
+    for number in 0..20 {
+        let more = format!(in alloc; ",\"CREATE TABLE t{number}\"")?;
+        statements.push_str(more.as_str())?;
+    }
+    let script = script_of(alloc, statements.as_str())?;
+    let got = run_command(&rt, alloc, to_run(alloc, RUN, script.as_str())?)?;
+    let line = refused(alloc, "21", "code:6,count:20")?;
+    assert_eq!(rt; got.output.as_str(), line.as_str());
+    Ok(())
+}
+
+#[test]
+fn statements_that_are_not_served(rt: HostRuntime) -> Result<(), Fail> {
+    let alloc = rt.alloc();
+    for statement in [
+        "DROP TABLE t",
+        "CREATE INDEX ON t (a)",
+        "DELETE FROM t",
+        "UPDATE t SET t.a = 1",
+        "SELECT a FROM t",
+        "SELECT VALUE t FROM t",
+        "SELECT * FROM _ql_committed_t",
+        "SELECT * FROM t WHERE a = 1",
+        "SELECT * FROM t BY id",
+        "SELECT * FROM history(t)",
+        "SELECT * FROM t, t.a",
+    ] {
+        let both = format!(in alloc; "\"CREATE TABLE t\",\"{statement}\"")?;
+        let script = script_of(alloc, both.as_str())?;
+        let got = run_command(&rt, alloc, to_run(alloc, RUN, script.as_str())?)?;
+        assert_eq!(rt; got.status, 2);
+        assert_eq!(rt; got.output.as_str(), UNBUILT);
+        assert!(rt; got.held.is_empty());
     }
     Ok(())
 }

@@ -1,7 +1,6 @@
 -- The outcomes of one transaction, case by case: what is drawn, run and committed is what an attempt is to do.
 use Rattle.std.proofs.Common.{◌≡◌, ℕ, ◌+◌, ◌-◌, ◌^◌, ◌<◌, ◌≤◌, ◌⊎◌, ◌&&◌, inl, inr, false, List, [], ◌∷◌, ◌++◌, length, Option, Some, None, refl, sym, ap, subst, ◌∙◌, arith, append-nil, length-append, leb-true}
 use Rattle.std.specs.Prelude.{nat_le, nat_lt, ◌==◌, IsTrue, true}
-use Rattle.std.specs.List.{AllByRecursion}
 use Rattle.std.proofs.lemmas.Bool.{and_from, and_parts, lt-ltb}
 use Rattle.ion_values.specs.declared.time.TimeParts.{TimeParts}
 use Rattle.ion_values.specs.Time.{is_time}
@@ -19,7 +18,7 @@ use Rattle.ledger_model.specs.Journal.{journal_bytes}
 use Rattle.ledger_model.specs.Script.{Placed}
 use Rattle.ledger_model.specs.Whole.{place_fits}
 use Rattle.ledger_claims.specs.Attempts.{Standing, IsStanding, IsNext, IsNextBlock, Seals, Draws, MayDraw, Attempted, LeavesStore, HoldsBehind, LeavesPart, next, ran_next}
-use Rattle.ledger_claims.specs.Makes.{CanMake, IsWithin}
+use Rattle.ledger_claims.specs.Makes.{CanMake, IsWithinAll}
 use Rattle.ledger_claims.specs.Stores.{Holding}
 use Rattle.ledger_claims.proofs.MadeJournals.{passes_all}
 use Rattle.ledger_claims.proofs.MadeUndamaged.{next_is_undamaged}
@@ -62,11 +61,11 @@ holds_alone blocks None h = tt
 holds_alone blocks (Some bytes) h = h ∙ sym (append-nil (journal_bytes blocks))
 
 module _ (s : Standing) (time : TimeParts) (p : Placed) (progress : Progress) (is : IsStanding s) (can : CanMake s.mask time p) (counted : s.last + 1 < 2 ^ 64)
-    (runs : ran_next s p ≡ ran progress) (commits : p.job.abort ≡ false) (b : Block) (b_is : b ≡ block_of (next s) s.blocks p.place time progress) where
+    (ranges : IsWithinAll progress) (runs : ran_next s p ≡ ran progress) (commits : p.job.abort ≡ false) (b : Block) (b_is : b ≡ block_of (next s) s.blocks p.place time progress) where
   next_made : HasRoom s → IsNextBlock s time p b
   next_made room = record {
     made = record { progress = progress; runs = runs; block_is = b_is };
-    undamaged = subst (λ (x : Block). Undamaged (s.blocks ++ x ∷ [])) (sym b_is) (next_is_undamaged s time p progress is can counted room runs);
+    undamaged = subst (λ (x : Block). Undamaged (s.blocks ++ x ∷ [])) (sym b_is) (next_is_undamaged s time p progress is can ranges counted room runs);
     commits = commits;
     room = room;
     counted = counted;
@@ -136,28 +135,28 @@ place_within p session transaction =
     and_from (nat_lt p.session (2 ^ 32)) (nat_lt p.transaction (2 ^ 32)) (lt-ltb p.session (2 ^ 32) session) (lt-ltb p.transaction (2 ^ 32) transaction)
 
 pub can_make : (s : Standing) (time : TimeParts) (p : Placed) → s.mask < 2 ^ 128 → IsTrue (is_time time) → IsTrue (place_fits p.place)
-    → AllByRecursion IsWithin p.job.statements → CanMake s.mask time p
-can_make s time p mask timed placed asked = record { mask_fits = mask; timed = timed; placed = placed; requests = asked }
+    → CanMake s.mask time p
+can_make s time p mask timed placed = record { mask_fits = mask; timed = timed; placed = placed }
 
 module _ (s : Standing) (time : TimeParts) (p : Placed) (t : Transaction) (tx : TxId) (is : IsStanding s) (can : CanMake s.mask time p) (n : IsNext s tx)
-    (runs : ran (progress_of t) ≡ ran_next s p) (begun : begun_of t ≡ next s) (commits : p.job.abort ≡ false) where
+    (ranges : IsWithinAll (progress_of t)) (runs : ran (progress_of t) ≡ ran_next s p) (begun : begun_of t ≡ next s) (commits : p.job.abort ≡ false) where
   block_is : next_block t s.blocks p.place time ≡ block_of (next s) s.blocks p.place time (progress_of t)
   block_is = ap (λ (b : Begun). block_of b s.blocks p.place time (progress_of t)) begun
 
   pub done_stands : HasRoom s → IsStanding (joined (drawn s) (next_block t s.blocks p.place time))
   done_stands room =
-      next_stands s time p (progress_of t) is can n.counted (sym runs) commits (next_block t s.blocks p.place time) block_is tx n room
+      next_stands s time p (progress_of t) is can n.counted ranges (sym runs) commits (next_block t s.blocks p.place time) block_is tx n room
 
   pub done_attempted : (before : ℕ) (o : Outcome) (now : Standing) (after : ℕ)
       → Commits tx (drawn s) (next_block t s.blocks p.place time) before o now after → Attempted s time p before o now after
   done_attempted before o now after c =
-      commit_is s time p (progress_of t) is can n.counted (sym runs) commits (next_block t s.blocks p.place time) block_is tx before o now after n c
+      commit_is s time p (progress_of t) is can n.counted ranges (sym runs) commits (next_block t s.blocks p.place time) block_is tx before o now after n c
 
   pub done_leaves : (before : ℕ) (o : Outcome) (now : Standing) (after : ℕ) (held held_after : Option (List ℕ))
       → Commits tx (drawn s) (next_block t s.blocks p.place time) before o now after
       → CommitLeaves s.blocks (next_block t s.blocks p.place time) o held held_after → LeavesStore s time p o now held held_after
   done_leaves before o now after held held_after c l =
-      commit_leaves s time p (progress_of t) is can n.counted (sym runs) commits (next_block t s.blocks p.place time) block_is tx before o now after held held_after c l
+      commit_leaves s time p (progress_of t) is can n.counted ranges (sym runs) commits (next_block t s.blocks p.place time) block_is tx before o now after held held_after c l
 
 -- ---- a transaction that isn't committed
 

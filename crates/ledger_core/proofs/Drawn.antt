@@ -1,5 +1,5 @@
 -- A tail whose next number was drawn, and what a commit then leaves of it and its store.
-use Rattle.std.proofs.Common.{◌≡◌, ℕ, ◌-◌, ◌^◌, ◌<◌, ◌≤◌, ◌⊎◌, inl, inr, true, false, List, length, Option, sym, ap, subst, ◌∙◌, true≢false}
+use Rattle.std.proofs.Common.{◌≡◌, ℕ, ◌-◌, ◌^◌, ◌<◌, ◌≤◌, ◌⊎◌, inl, inr, true, false, List, length, Option, sym, subst, ◌∙◌, true≢false}
 use Rattle.ion_values.specs.declared.time.TimeParts.{TimeParts}
 use Rattle.ql_types.specs.declared.TxId.{TxId}
 use Rattle.ledger_model.specs.declared.outcome.Outcome.{Outcome}
@@ -8,7 +8,7 @@ use Rattle.ledger_model.specs.Script.{Placed}
 use Rattle.ledger_model.specs.State.{state}
 use Rattle.ledger_model.specs.Run.{ran, run}
 use Rattle.ledger_claims.specs.Attempts.{Standing, IsStanding, IsNext, Attempted, LeavesStore, next, ran_next}
-use Rattle.ledger_claims.specs.Makes.{CanMake}
+use Rattle.ledger_claims.specs.Makes.{CanMake, IsWithinAll}
 use Rattle.ledger_claims.specs.Stores.{Holding, IsSynced}
 use Rattle.ledger_core.specs.declared.transaction.Ran as held
 use Rattle.ledger_core.specs.declared.transaction.Transaction.{Transaction}
@@ -86,6 +86,7 @@ pub record IsDone (s : Standing) (time : TimeParts) (p : Placed) (t : Transactio
   pub stands : IsStanding s
   pub can : CanMake s.mask time p
   pub drawn_id : IsNext s tx
+  pub ranges : IsWithinAll (progress_of t)
   pub runs : ran (progress_of t) ≡ ran_next s p
   pub begun : begun_of t ≡ next s
   pub commits : p.job.abort ≡ false
@@ -94,13 +95,13 @@ pub commit_stands : {S C : Type 0} (h m : TailHeld S C) (time : TimeParts) (p : 
     → IsDone h.standing time p t tx → length m.standing.blocks < 2 ^ 32 - 1 → IsStanding (joined m.standing (next_block t m.standing.blocks p.place time))
 commit_stands {S} {C} h m time p t tx e d =
     subst (λ (x : TailHeld S C). length x.standing.blocks < 2 ^ 32 - 1 → IsStanding (joined x.standing (next_block t x.standing.blocks p.place time))) (sym e)
-    (λ room. done_stands h.standing time p t tx d.stands d.can d.drawn_id d.runs d.begun d.commits room)
+    (λ room. done_stands h.standing time p t tx d.stands d.can d.drawn_id d.ranges d.runs d.begun d.commits room)
 
 pub commit_attempted : {S C : Type 0} (count : S → ℕ) (h m n : TailHeld S C) (time : TimeParts) (p : Placed) (t : Transaction) (tx : TxId) (o : Outcome) → m ≡ drawn_tail h
     → IsDone h.standing time p t tx → Commits tx m.standing (next_block t m.standing.blocks p.place time) (count m.store) o n.standing (count n.store)
     → Attempted h.standing time p (count h.store) o n.standing (count n.store)
 commit_attempted {S} {C} count h m n time p t tx o e d commits =
-    done_attempted h.standing time p t tx d.stands d.can d.drawn_id d.runs d.begun d.commits (count h.store) o n.standing (count n.store)
+    done_attempted h.standing time p t tx d.stands d.can d.drawn_id d.ranges d.runs d.begun d.commits (count h.store) o n.standing (count n.store)
     (subst (λ (x : TailHeld S C). Commits tx x.standing (next_block t x.standing.blocks p.place time) (count x.store) o n.standing (count n.store)) e commits)
 
 pub commit_leaves_store : {S C : Type 0} (bytes : S → Option (List ℕ)) (count : S → ℕ) (h m n : TailHeld S C) (time : TimeParts) (p : Placed) (t : Transaction) (tx : TxId) (o : Outcome)
@@ -109,6 +110,6 @@ pub commit_leaves_store : {S C : Type 0} (bytes : S → Option (List ℕ)) (coun
     → CommitLeaves m.standing.blocks (next_block t m.standing.blocks p.place time) o (bytes m.store) (bytes n.store)
     → LeavesStore h.standing time p o n.standing (bytes h.store) (bytes n.store)
 commit_leaves_store {S} {C} bytes count h m n time p t tx o e d commits leaves =
-    done_leaves h.standing time p t tx d.stands d.can d.drawn_id d.runs d.begun d.commits (count h.store) o n.standing (count n.store) (bytes h.store) (bytes n.store)
+    done_leaves h.standing time p t tx d.stands d.can d.drawn_id d.ranges d.runs d.begun d.commits (count h.store) o n.standing (count n.store) (bytes h.store) (bytes n.store)
     (subst (λ (x : TailHeld S C). Commits tx x.standing (next_block t x.standing.blocks p.place time) (count x.store) o n.standing (count n.store)) e commits)
     (subst (λ (x : TailHeld S C). CommitLeaves x.standing.blocks (next_block t x.standing.blocks p.place time) o (bytes x.store) (bytes n.store)) e leaves)

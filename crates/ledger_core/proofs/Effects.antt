@@ -1,62 +1,93 @@
 -- What a statement adds to its transaction.
-use Rattle.std.proofs.Common.{◌≡◌, ℕ, ◌+◌, List, [], ◌∷◌, ◌++◌, map, Option, Some, None, Result, Ok, sym, ◌∙◌, ap, subst, arith}
+use Rattle.std.proofs.Common.{◌≡◌, ℕ, ◌+◌, List, [], ◌∷◌, ◌++◌, map, Option, Some, None, Result, Ok, Err, refl, sym, ◌∙◌, ap, arith}
 use Rattle.std.proofs.lemmas.List.{append-nil}
 use Rattle.std.specs.Prelude.{codes}
 use Rattle.std.specs.List.{filter_map}
 use Rattle.ion_values.specs.declared.value.Value.{Value}
 use Rattle.ql_types.specs.declared.TableId.{TableId}
 use Rattle.ledger_model.specs.declared.block.Said.{Said}
-use Rattle.ledger_model.specs.declared.block.Schema.{Schema}
+use Rattle.ledger_model.specs.declared.block.Schema.TheVariants.{Create}
 use Rattle.ledger_model.specs.declared.block.Draft.{Draft}
-use Rattle.ledger_model.specs.declared.block.Content.TheVariants.{Kept}
 use Rattle.ledger_model.specs.declared.outcome.Refusal.{Refusal}
 use Rattle.ledger_model.specs.declared.script.Request.{Request}
-use Rattle.ledger_model.specs.Statements.{the_table}
+use Rattle.ledger_model.specs.State.{draft_of}
+use Rattle.ledger_model.specs.State as state
 use Rattle.ledger_model.specs.Views.{latest, latest_from, row_of, user_view}
 use Rattle.ledger_model.specs.Values.{named_id}
-use Rattle.ledger_model.specs.Run.{Progress, all_of, recorded, selected, stored}
+use Rattle.ledger_model.specs.Run.{Begun, Progress, Effect, all_of, changed_by, created, existing, new_table, next_id, no_table_more, on_table, recorded, reserved, selected, unless}
+use Rattle.ledger_model.specs.Script.{or_else}
+use Rattle.ledger_core.specs.declared.catalog.Catalog.{Catalog}
+use Rattle.ledger_core.specs.Catalogs.{Lists}
+use Rattle.ledger_core.specs.Transactions.{found, not_created, table_in, tables_in}
 use Rattle.ledger_core.proofs.Lists.{latest-more}
 
-abbrev done_with : List Said → List Schema → List Draft → ℕ → Result Progress Refusal
-done_with said schema log made = Ok (record { said = said; schema = schema; log = log; made = made })
+-- ---- what is said and added
 
-abbrev said_more : List Said → Request → List Value → List Said
+abbrev pub said_more : List Said → Request → List Value → List Said
 said_more said r rows = said ++ record { text = r.text; params = r.params; answer = record { rows = rows } } ∷ []
 
+same-progress : (p q : Progress) → p.said ≡ q.said → p.schema ≡ q.schema → p.log ≡ q.log → p.made ≡ q.made → p ≡ q
+same-progress p q said schema log made = λ i. record { said = said i; schema = schema i; log = log i; made = made i }
+
+-- an effect that is said
+pub recorded-is : (p q : Progress) (r : Request) (e : Effect) → q.said ≡ said_more p.said r e.rows → q.schema ≡ p.schema ++ e.schema → q.log ≡ p.log ++ e.log
+    → q.made ≡ p.made + e.made → recorded p r (Ok e) ≡ Ok q
+recorded-is p q r e said schema log made =
+    ap Ok (same-progress (record (changed_by p e) { said = said_more p.said r e.rows }) q (sym said) (sym schema) (sym log) (sym made))
+
+-- ---- CREATE TABLE
+
+by-cause : (a b c : Option Refusal) (e : Result Effect Refusal) → unless a (unless b (unless c e)) ≡ unless (or_else a (or_else b c)) e
+by-cause (Some cause) b c e = refl
+by-cause None (Some cause) c e = refl
+by-cause None None c e = refl
+
+pub created-by : (b : Begun) (s : state.State) (c : Catalog) (p : Progress) (name : List ℕ) → Lists s c
+    → created b s p name ≡ unless (not_created (tables_in c p) p.schema name) (Ok (new_table (next_id b p) name))
+created-by b s c p name lists =
+    ap (λ (ts : List state.Table). created b (record s { tables = ts }) p name) (sym lists.tables)
+    ∙ by-cause (reserved name) (existing name (table_in c p name)) (no_table_more (tables_in c p) p.schema) (Ok (new_table (next_id b p) name))
+
+pub created-done : (p q : Progress) (r : Request) (raw : ℕ) (name kept : List ℕ) (row : Value) (rows none : List Value) → kept ≡ name → row ≡ named_id (codes "tableId") raw
+    → none ≡ [] → rows ≡ none ++ row ∷ [] → q.said ≡ said_more p.said r rows → q.schema ≡ p.schema ++ Create kept (record { raw = raw }) ∷ [] → q.log ≡ p.log → q.made ≡ p.made + 1
+    → recorded p r (Ok (new_table raw name)) ≡ Ok q
+created-done p q r raw name kept row rows none kept_is row_is none_is rows_are said schema log made =
+    recorded-is p q r (new_table raw name)
+    (said ∙ ap (said_more p.said r) (rows_are ∙ ap (λ (vs : List Value). vs ++ row ∷ []) none_is ∙ ap (λ (v : Value). v ∷ []) row_is))
+    (schema ∙ ap (λ (n : List ℕ). p.schema ++ Create n (record { raw = raw }) ∷ []) kept_is)
+    (log ∙ sym (append-nil p.log)) made
+
+-- ---- the table that a statement names
+
+pub on-found : (name : List ℕ) (t : Option TableId) (table : TableId) (f : TableId → Result Effect Refusal) → found name t ≡ Ok table → on_table name t f ≡ f table
+on-found name (Some there) table f is = let e : there ≡ table = cc in ap f e
+on-found name None table f is = let bad : ⊥ = cc in absurd bad
+
+pub on-none : (name : List ℕ) (t : Option TableId) (cause : Refusal) (f : TableId → Result Effect Refusal) → found name t ≡ Err cause → on_table name t f ≡ Err cause
+on-none name (Some there) cause f is = let bad : ⊥ = cc in absurd bad
+on-none name None cause f is = let e : Err cause ≡ found name None = sym is in cc
+
+-- ---- SELECT
+
 -- the rows of a table's view, over the committed documents
-view-rows : (table : TableId) (documents committed pending : List Draft) → documents ≡ latest committed
-    → map (all_of the_table) (filter_map (row_of table) (latest_from documents pending)) ≡ map (all_of the_table) (user_view table committed pending)
-view-rows table documents committed pending are =
-    ap (λ ds. map (all_of the_table) (filter_map (row_of table) ds)) (ap (λ ds. latest_from ds pending) are ∙ sym (latest-more [] committed pending))
+view-rows : (source : List ℕ) (table : TableId) (documents committed pending : List Draft) → documents ≡ latest committed
+    → map (all_of source) (filter_map (row_of table) (latest_from documents pending)) ≡ map (all_of source) (user_view table committed pending)
+view-rows source table documents committed pending are =
+    ap (λ ds. map (all_of source) (filter_map (row_of table) ds)) (ap (λ ds. latest_from ds pending) are ∙ sym (latest-more [] committed pending))
 
 -- a select adds nothing but what was said
-pub selected-done : (committed documents pending lent : List Draft) (table : TableId) (rows : List Value) (found : Option TableId) (p q : Progress) (r : Request)
-    → documents ≡ latest committed → lent ≡ pending → rows ≡ map (all_of the_table) (filter_map (row_of table) (latest_from documents lent)) → found ≡ Some table
-    → q.said ≡ said_more p.said r rows → q.schema ≡ p.schema → q.log ≡ p.log → q.made ≡ p.made
-    → recorded p r (selected the_table committed pending found) ≡ Ok q
-selected-done committed documents pending lent table rows found p q r are lent_is rows_are found_is said schema log made =
-    let view : rows ≡ map (all_of the_table) (user_view table committed pending) =
-    rows_are ∙ ap (λ ds. map (all_of the_table) (filter_map (row_of table) (latest_from documents ds))) lent_is ∙ view-rows table documents committed pending are in
-    let same : p.made + 0 ≡ q.made = omega arith in
-    let done : recorded p r (selected the_table committed pending (Some table)) ≡ Ok q =
-    ap (λ said. done_with said (p.schema ++ []) (p.log ++ []) (p.made + 0)) (ap (said_more p.said r) (sym view) ∙ sym said)
-    ∙ ap (λ schema. done_with q.said schema (p.log ++ []) (p.made + 0)) (append-nil p.schema ∙ sym schema)
-    ∙ ap (λ log. done_with q.said q.schema log (p.made + 0)) (append-nil p.log ∙ sym log)
-    ∙ ap (done_with q.said q.schema q.log) same in
-    subst (λ (t : Option TableId). recorded p r (selected the_table committed pending t) ≡ Ok q) (sym found_is) done
-
-abbrev first_of_document : TableId → ℕ → Value → Draft
-first_of_document table raw v = record { table = table; id = record { raw = raw }; version = 0; content = Kept v }
-
--- an insert adds the first revision of a document
-pub stored-done : (table : TableId) (raw : ℕ) (v kept : Value) (rows : List Value) (p q : Progress) (r : Request)
-    → kept ≡ v → rows ≡ named_id (codes "documentId") raw ∷ [] → q.said ≡ said_more p.said r rows → q.schema ≡ p.schema
-    → q.log ≡ p.log ++ first_of_document table raw kept ∷ [] → q.made ≡ p.made + 1
-    → recorded p r (stored raw table v None) ≡ Ok q
-stored-done table raw v kept rows p q r kept_is rows_are said schema log made =
-    let log_now : List Draft = p.log ++ first_of_document table raw v ∷ [] in
-    let log_is : q.log ≡ log_now = log ∙ ap (λ x. p.log ++ first_of_document table raw x ∷ []) kept_is in
-    ap (λ said. done_with said (p.schema ++ []) log_now (p.made + 1)) (ap (said_more p.said r) (sym rows_are) ∙ sym said)
-    ∙ ap (λ schema. done_with q.said schema log_now (p.made + 1)) (append-nil p.schema ∙ sym schema)
-    ∙ ap (λ log. done_with q.said q.schema log (p.made + 1)) (sym log_is)
-    ∙ ap (done_with q.said q.schema q.log) (sym made)
+pub selected-done : (s : state.State) (c : Catalog) (source name variable : List ℕ) (lent : List Draft) (table : TableId) (rows : List Value) (p q : Progress) (r : Request) → Lists s c
+    → source ≡ variable → lent ≡ p.log → rows ≡ map (all_of source) (filter_map (row_of table) (latest_from c.documents lent)) → found name (table_in c p name) ≡ Ok table
+    → q.said ≡ said_more p.said r rows → q.schema ≡ p.schema → q.log ≡ p.log → q.made ≡ p.made → recorded p r (selected s p name variable) ≡ Ok q
+selected-done s c source name variable lent table rows p q r lists source_is lent_is rows_are found_is said schema log made =
+    let committed : List Draft = map draft_of s.revisions in
+    let view : rows ≡ map (all_of variable) (user_view table committed p.log) =
+    rows_are ∙ ap (λ (x : List ℕ). map (all_of x) (filter_map (row_of table) (latest_from c.documents lent))) source_is
+    ∙ ap (λ (ds : List Draft). map (all_of variable) (filter_map (row_of table) (latest_from c.documents ds))) lent_is
+    ∙ view-rows variable table c.documents committed p.log lists.documents in
+    let there = on-found name (table_in c p name) table (λ t. Ok (record { rows = map (all_of variable) (user_view t committed p.log); schema = []; log = []; made = 0 })) found_is in
+    let same : q.made ≡ p.made + 0 = omega arith in
+    ap (λ (ts : List state.Table). recorded p r (selected (record s { tables = ts }) p name variable)) (sym lists.tables)
+    ∙ ap (recorded p r) there
+    ∙ recorded-is p q r (record { rows = map (all_of variable) (user_view table committed p.log); schema = []; log = []; made = 0 })
+    (said ∙ ap (said_more p.said r) view) (schema ∙ sym (append-nil p.schema)) (log ∙ sym (append-nil p.log)) same

@@ -1,12 +1,13 @@
 mod Attempts
 mod Drawn
+pub mod InRange
 mod Joined
 mod Kept
 mod Read
-mod Requests
 mod Standings
 mod Syncs
 pub mod Effects
+pub mod Inserted
 pub mod Runs
 pub mod LastBlock
 pub mod Lists

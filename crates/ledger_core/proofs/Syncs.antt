@@ -1,6 +1,6 @@
 -- What the calls of a store keep of its synced length, where the store tells it with its bytes.
-use Rattle.std.proofs.Common.{◌≡◌, ℕ, min, inl, inr, List, ◌++◌, length, take, refl, sym, subst, Option, Some, None, Result, Ok, Err}
-use Rattle.std.specs.Prelude.{option_map, IfSome, IsSome}
+use Rattle.std.proofs.Common.{◌≡◌, ℕ, min, inl, inr, List, ◌++◌, take, refl, sym, subst, Option, Some, None, Result, Ok, Err}
+use Rattle.std.specs.Prelude.{option_map, IsSome}
 use Rattle.outside.specs.declared.traits.OutFault.{OutFault}
 use Rattle.outside.specs.declared.traits.OutFault.TheVariants.{Failed, OutOfMemory}
 use Rattle.outside.specs.Store.{AppendLeaves, CutLeaves, CutSynced, SyncSynced}

@@ -1,9 +1,12 @@
 pub mod Attempting
 pub mod Catalogs
 pub mod Faults
+pub mod Inserts
 pub mod Known
 pub mod Loads
 pub mod Places
+pub mod Ranges
 pub mod Statements
+pub mod Stops
 pub mod Tails
 pub mod Transactions

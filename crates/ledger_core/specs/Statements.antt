@@ -1,17 +1,32 @@
--- What a statement in memory stands for, and why a value isn't stored behind a transaction's revisions so far.
-use Rattle.std.specs.Prelude.{List, [], Option}
+-- What a statement in memory stands for, which changes create a table, and why a value isn't stored behind a transaction's
+-- revisions so far.
+use Rattle.std.specs.Prelude.{Bool, true, false, List, [], Option, Result, Ok, Err}
 use Rattle.ion_values.specs.declared.value.Value.{Value}
+use Rattle.pql_model.specs.declared.statement.Statement.{Statement}
+use Rattle.pql_model.specs.Productions.{Fault}
 use Rattle.ledger_model.specs.declared.block.Draft.{Draft}
+use Rattle.ledger_model.specs.declared.block.Schema.{Schema}
+use Rattle.ledger_model.specs.declared.block.Schema.TheVariants.{Create}
 use Rattle.ledger_model.specs.declared.outcome.Refusal.{Refusal}
-use Rattle.ledger_model.specs.Statements.{Statement, create_table, insert_into, select_all, the_table}
+use Rattle.ledger_model.specs.declared.outcome.Refusal.TheVariants.{ParseFault}
+use Rattle.ledger_model.specs.Statements.{Served, create_table, insert_into, select_all}
 use Rattle.ledger_model.specs.Run.{not_stored}
-use Rattle.ledger_core.specs.declared.statements.Statement as held
-use Rattle.ledger_core.specs.declared.statements.Statement.TheVariants.{CreateTable, InsertInto, SelectAll}
+use Rattle.ledger_core.specs.declared.statements.Served as held
+use Rattle.ledger_core.specs.declared.statements.Served.TheVariants.{CreateTable, InsertInto, SelectAll}
 
-abbrev pub asked_by : held.Statement → Statement
-asked_by CreateTable = create_table the_table
-asked_by (InsertInto v) = insert_into the_table v.now
-asked_by SelectAll = select_all the_table
+abbrev pub asked_by : held.Served → Served
+asked_by (CreateTable name) = create_table name.now
+asked_by (InsertInto table value) = insert_into table.now value.now
+asked_by (SelectAll table variable) = select_all table.now variable.now
+
+-- a fault of a text, as why the statement is refused
+abbrev pub read_of : Result Statement Fault → Result Statement Refusal
+read_of (Ok s) = Ok s
+read_of (Err fault) = Err (ParseFault fault.at fault.kind)
+
+abbrev pub creates : Schema → Bool
+creates (Create name id) = true
+creates _ = false
 
 abbrev pub cause_for : List Draft → Value → Option Refusal
 cause_for log v = not_stored (record { said = []; schema = []; log = log; made = 0 }) v

@@ -1,15 +1,20 @@
 -- What a transaction in memory stands for, and how its statements end.
-use Rattle.std.specs.Prelude.{◌≡◌, ℕ, List, Option, Result, Ok, Err}
+use Rattle.std.specs.Prelude.{◌≡◌, ℕ, List, Option, Some, None, Result, Ok, Err}
 use Rattle.ql_types.specs.declared.TableId.{TableId}
+use Rattle.pql_model.specs.declared.statement.Statement.{Statement}
+use Rattle.ledger_model.specs.declared.block.Schema.{Schema}
 use Rattle.ledger_model.specs.declared.outcome.Refusal.{Refusal}
-use Rattle.ledger_model.specs.State.{all_changed, active_table}
+use Rattle.ledger_model.specs.declared.outcome.Refusal.TheVariants.{NoSuchTable}
+use Rattle.ledger_model.specs.declared.script.Request.{Request}
+use Rattle.ledger_model.specs.Script.{or_else}
+use Rattle.ledger_model.specs.State as state
+use Rattle.ledger_model.specs.State.{State, all_changed, active_table}
 use Rattle.ledger_model.specs.Run as run
-use Rattle.ledger_model.specs.Run.{Begun, Progress, ran, refused}
+use Rattle.ledger_model.specs.Statements.{counted, if_wanted}
+use Rattle.ledger_model.specs.Run.{Begun, Progress, effect_of, existing, first_deep, if_read, if_shallow, no_table_more, ran, recorded, refused, reserved}
 use Rattle.ledger_core.specs.declared.catalog.Catalog.{Catalog}
 use Rattle.ledger_core.specs.Catalogs.{tables_of}
 use Rattle.ledger_core.specs.declared.transaction.Transaction.{Transaction}
-use Rattle.ledger_core.specs.declared.transaction.Stopped.{Stopped}
-use Rattle.ledger_core.specs.declared.transaction.Stopped.TheVariants.{Refused, OutOfMemory}
 use Rattle.ledger_core.specs.declared.transaction.Ran as held
 use Rattle.ledger_core.specs.declared.transaction.Ran.TheVariants as end
 
@@ -19,19 +24,27 @@ begun_of t = record { mask = t.mask.bits; number = t.number }
 abbrev pub progress_of : Transaction → Progress
 progress_of t = record { said = t.said; schema = t.schema; log = t.log; made = t.made }
 
--- the active table of a name among the catalog's, the transaction's changes counted
+-- the tables of the catalog, the transaction's changes counted
+abbrev pub tables_in : Catalog → Progress → List state.Table
+tables_in c p = all_changed (tables_of c) p.schema
+
+-- the active one of a name
 abbrev pub table_in : Catalog → Progress → List ℕ → Option TableId
-table_in c p name = active_table (all_changed (tables_of c) p.schema) name
+table_in c p name = active_table (tables_in c p) name
 
--- where a statement stopped for a cause, it is this one; nothing is said of want of memory
-abbrev pub StopsFor : Stopped → (Refusal → Type 0) → Type 0
-StopsFor (Refused cause) P = P cause
-StopsFor OutOfMemory P = Unit {0}
+-- the table that a statement names, if there is one
+abbrev pub found : List ℕ → Option TableId → Result TableId Refusal
+found name (Some table) = Ok table
+found name None = Err (NoSuchTable name)
 
--- what was to come of a statement did: what follows it, or the cause why it was refused
-abbrev pub Ends : {A : Type 0} → Result A Stopped → Progress → Result Progress Refusal → Type 0
-Ends (Ok done) after wanted = wanted ≡ Ok after
-Ends (Err stopped) after wanted = StopsFor stopped (λ cause. wanted ≡ Err cause)
+-- why no table of this name is created
+abbrev pub not_created : List state.Table → List Schema → List ℕ → Option Refusal
+not_created tables changes name = or_else (reserved name) (or_else (existing name (active_table tables name)) (no_table_more tables changes))
+
+-- what a statement does, with the request's parameters
+abbrev pub performed : Begun → State → Progress → Request → Statement → Result Progress Refusal
+performed b s p r statement =
+    recorded p r (if_read (λ asked. if_shallow (first_deep r.params) (effect_of b s p r.params asked)) (if_wanted (counted statement r.params)))
 
 -- how a transaction's statements ended
 abbrev pub ran_of : held.Ran → run.Ran

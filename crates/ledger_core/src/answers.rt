@@ -1,10 +1,10 @@
 //! The values that statements answer.
-ghost use Rattle.std.specs.Prelude.{◌≡◌, [], ◌∷◌, IfOk};
+ghost use Rattle.std.specs.Prelude.{◌≡◌, IfOk};
 ghost use Rattle.ql_types.specs.Ids.{id_text};
 ghost use Rattle.ledger_model.specs.Values.{named_id};
 
 use crate::values::plain;
-use ion_values::{Body, Field, OutOfMemory, Text, Values};
+use ion_values::{Body, Field, OutOfMemory, Text, Value};
 use lists::Sequence;
 use ql_types::id_digits;
 use std::alloc::Global;
@@ -21,16 +21,14 @@ pub(crate) fn id_text(alloc: Global, raw: u128) -> Result<Text, OutOfMemory>
     Ok(text)
 }
 
-/// One struct whose one field has an id as its value.
-pub(crate) fn named_id(alloc: Global, name: &str, raw: u128) -> Result<Values, OutOfMemory>
-    ensures { IfOk result (λ rows. rows ≡ named_id name.now raw ∷ []) }
+/// A struct whose one field has an id as its value.
+pub(crate) fn named_id(alloc: Global, name: &str, raw: u128) -> Result<Value, OutOfMemory>
+    ensures { IfOk result (λ row. row ≡ named_id name.now raw) }
 {
     let mut fields = Sequence::new(alloc);
     fields.push(Field {
         name: Text::from_text(alloc, name)?,
         value: plain(alloc, Body::String(id_text(alloc, raw)?)),
     })?;
-    let mut rows = Sequence::new(alloc);
-    rows.push(plain(alloc, Body::Struct(fields)))?;
-    Ok(rows)
+    Ok(plain(alloc, Body::Struct(fields)))
 }

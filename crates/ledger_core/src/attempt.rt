@@ -1,12 +1,10 @@
 //! One transaction from its begin to its end.
 ghost use Rattle.std.specs.Prelude.{◌≡◌, ◌≤◌, ◌<◌, ◌-◌, ◌^◌, ◌⊎◌, true, false, length, IfOk, OnOk, OnErr, IfErr, IfSome, IsTrue, MatchOption};
-ghost use Rattle.std.specs.List.{AllByRecursion};
 ghost use Rattle.ion_values.specs.Time.{is_time};
 ghost use Rattle.ledger_model.specs.State.{state};
 ghost use Rattle.ledger_model.specs.Run.{run};
 ghost use Rattle.ledger_model.specs.Whole.{place_fits};
 ghost use Rattle.ledger_claims.specs.Attempts.{Attempted, LeavesStore, IsStanding, IsNext};
-ghost use Rattle.ledger_claims.specs.Makes.{IsWithin};
 ghost use Rattle.ledger_claims.specs.Stores.{Holding, IsSynced};
 ghost use Rattle.ledger_core.specs.Faults.{IsSettleFault};
 ghost use Rattle.ledger_core.specs.Tails.{MayHoldPart, SyncsAll, TellsSynced, joined};
@@ -14,6 +12,7 @@ ghost use Rattle.ledger_core.specs.Transactions.{IsBegun, ran_of};
 ghost use Rattle.ledger_core.specs.Attempting.{Commits, CommitLeaves, IsKept, begun_last, drawn, next_block};
 
 use crate::keeping::SettleFault;
+use crate::ranges::transaction_is_within;
 use crate::tail::Tail;
 use crate::transaction::{Ran, Transaction, run_statements};
 use ion_values::{IonTime, OutOfMemory};
@@ -29,7 +28,6 @@ impl<S: JournalStore, C> Tail<S, C> {
     /// Runs the job's statements as the next transaction, on the blocks so far, and commits it, or gives it up where the job
     /// says so. Its block's time is this one, or the last block's where that is later.
     pub fn attempt(&mut self, alloc: Global, job: &Job, place: Place, time: IonTime) -> Outcome
-        requires { AllByRecursion IsWithin job.now.statements }
         ensures attempted { Attempted self.old.standing time (record { place = place; job = job.now }) (S.fault_count self.old.store) result self.new.standing (S.fault_count self.new.store) }
         ensures store { LeavesStore self.old.standing time (record { place = place; job = job.now }) result self.new.standing (S.bytes self.old.store) (S.bytes self.new.store) }
         ensures stands { IsStanding self.new.standing }
@@ -49,6 +47,7 @@ impl<S: JournalStore, C> Tail<S, C> {
                     Outcome::Aborted { tx, since }
                 } else {
                     are_within(place, time);
+                    transaction_is_within(&transaction);
                     self.commit(alloc, tx, transaction, place, time)
                 }
             }

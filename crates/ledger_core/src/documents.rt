@@ -1,7 +1,5 @@
 //! The documents of a journal, each with its latest revision.
-ghost use Rattle.std.specs.Prelude.{◌≡◌, ℕ, ◌<◌, [], ◌∷◌, ◌++◌, length, slice_set, Some, None, OnOk};
-ghost use Rattle.std.specs.Ordering.{nat_cmp};
-ghost use Rattle.std.specs.BTreeMap as tree;
+ghost use Rattle.std.specs.Prelude.{◌≡◌, [], ◌∷◌, ◌++◌, slice_set, Some, None, OnOk};
 ghost use Rattle.ledger_model.specs.Views.{put};
 ghost use Rattle.ledger_core.specs.Places.{place_in, ArePlaces};
 

@@ -5,12 +5,18 @@
 mod answers;
 mod attempt;
 mod catalog;
+mod creating;
 mod documents;
+mod inserting;
 mod keeping;
+mod limits;
+mod ranges;
 mod reload;
 mod sealing;
+mod selecting;
 mod settle;
 mod statements;
+mod stopped;
 mod tables;
 mod tail;
 mod transaction;
@@ -19,6 +25,7 @@ mod views;
 
 pub use keeping::SettleFault;
 pub use reload::{LoadCause, LoadFault};
+pub use statements::is_served;
 pub use tail::Tail;
 
 #[cfg(test)]

@@ -1,126 +1,164 @@
-//! What a request's text and parameters ask for, and the limits of what they may bring.
-ghost use Rattle.std.specs.Prelude.{◌≡◌, IfOk, MatchResult};
-ghost use Rattle.ledger_model.specs.Statements.{statement_of, the_table, with_none, with_one};
-ghost use Rattle.ledger_model.specs.Run.{first_deep};
-ghost use Rattle.ledger_core.specs.Statements.{asked_by, cause_for};
+//! What a request asks for: its text by the grammar, with as many parameters as it has question marks.
+ghost use Rattle.std.specs.Prelude.{◌≡◌, Ok, Err, Some, None, IfOk, MatchOption, MatchResult};
+ghost use Rattle.ledger_model.specs.Statements as spec;
+ghost use Rattle.ledger_model.specs.Statements.{counted, if_wanted};
+ghost use Rattle.ledger_model.specs.Unbuilt.{is_known, is_served};
+ghost use Rattle.pql_model.specs.Parse.{parsed};
+ghost use Rattle.ledger_core.specs.Statements.{asked_by, read_of};
+ghost use Rattle.ledger_core.specs.Stops.{Comes};
 
-use crate::values::{is_struct, kind_of};
-use crate::views::count_touched;
-use ion_text::write;
-use ion_values::{OutOfMemory, Value, depth};
-use ledger_model::{Draft, ParseKind, Refusal, Request};
+use crate::stopped::Stopped;
+use ion_values::{OutOfMemory, Text, Value};
+use ledger_model::{ParseKind, Refusal, Request};
+use pql_model::{Expr, FromClause, Select, Source, SourceKind, Statement, parameters};
+use pql_parse::{ParseAnswer, parse};
 use std::alloc::Global;
 
-/// The name of the table that statements are on so far.
-pub(crate) const TABLE: &str = "t";
-
-/// The deepest nesting of a value.
-const DEEPEST: u32 = 64;
-
-/// The longest text of a document, in bytes.
-const LONGEST: usize = 131_072;
-
-/// The most documents that a transaction touches.
-const MOST_TOUCHED: usize = 40;
-
-/// What a request asks for.
+/// What a statement asks for, of those that are served.
 #[derive(Clone, Copy)]
-pub(crate) enum Statement<'a> {
-    CreateTable,
-    InsertInto(&'a Value),
-    SelectAll,
+pub(crate) enum Served<'a> {
+    CreateTable { name: &'a Text },
+    InsertInto { table: &'a Text, value: &'a Expr },
+    SelectAll { table: &'a Text, variable: &'a Text },
 }
 
-/// The statement that a request asks for. `ParseFault` comes where its text is none of the statements, and
-/// `ParameterCount` where it has other than one parameter for each question mark.
-pub(crate) fn read_statement<'a>(request: &'a Request) -> Result<Statement<'a>, Refusal>
-    ensures { MatchResult result (λ s. statement_of request.now ≡ Ok (asked_by s)) (λ cause. statement_of request.now ≡ Err cause) }
+/// The statement that a text is. It stops with `ParseFault` where it is none.
+pub(crate) fn read_statement(alloc: Global, text: &str) -> Result<Statement, Stopped>
+    ensures { Comes result (read_of (parsed text.now)) }
 {
-    let text = request.text.as_str();
-    let params = request.params.as_slice();
-    if text == "CREATE TABLE t" {
-        without_parameters(Statement::CreateTable, params)
-    } else if text == "INSERT INTO t ?" {
-        insert_of(params)
-    } else if text == "SELECT * FROM t" {
-        without_parameters(Statement::SelectAll, params)
-    } else {
-        Err(Refusal::ParseFault {
+    match parse(alloc, text) {
+        Ok(statement) => Ok(statement),
+        Err(ParseAnswer::Fault { at, kind }) => {
+            Err(Stopped::Refused(Refusal::ParseFault { at, kind }))
+        }
+        Err(ParseAnswer::OutOfMemory) => Err(Stopped::OutOfMemory),
+    }
+}
+
+/// What the statement asks for with these parameters. `ParameterCount` comes where it has other than one parameter for each
+/// question mark. No script with a statement that isn't served is run; such a one is refused at its first token.
+pub(crate) fn served_of<'a>(
+    statement: &'a Statement,
+    params: &[Value],
+) -> Result<Served<'a>, Refusal>
+    ensures { MatchResult result (λ s. if_wanted (counted statement.now params.now) ≡ Ok (asked_by s)) (λ cause. if_wanted (counted statement.now params.now) ≡ Err cause) }
+{
+    let wanted = parameters(statement);
+    if wanted as usize != params.len() {
+        return Err(Refusal::ParameterCount {
+            wanted: u64::from(wanted),
+            given: params.len() as u64,
+        });
+    }
+    match served_as(statement) {
+        Some(served) => Ok(served),
+        None => Err(Refusal::ParseFault {
             at: 0,
             kind: ParseKind::Unexpected,
-        })
-    }
-}
-
-/// A statement without question marks.
-fn without_parameters<'a>(
-    statement: Statement<'a>,
-    params: &[Value],
-) -> Result<Statement<'a>, Refusal>
-    ensures { MatchResult result (λ s. with_none (asked_by statement.entry) params.now ≡ Ok (asked_by s)) (λ cause. with_none (asked_by statement.entry) params.now ≡ Err cause) }
-{
-    if params.is_empty() {
-        Ok(statement)
-    } else {
-        Err(Refusal::ParameterCount {
-            wanted: 0,
-            given: params.len() as u64,
-        })
-    }
-}
-
-/// The insert of the one parameter.
-fn insert_of<'a>(params: &'a [Value]) -> Result<Statement<'a>, Refusal>
-    ensures { MatchResult result (λ s. with_one the_table params.now ≡ Ok (asked_by s)) (λ cause. with_one the_table params.now ≡ Err cause) }
-{
-    match params {
-        [value] => Ok(Statement::InsertInto(value)),
-        _ => Err(Refusal::ParameterCount {
-            wanted: 1,
-            given: params.len() as u64,
         }),
     }
 }
 
-/// The depth of the first value that nests deeper than values may, 2^32 - 1 where it is more.
-pub(crate) fn first_deep(values: &[Value]) -> Option<u32>
-    ensures { result ≡ first_deep values.now }
+/// What the statement asks for, or None where it isn't served.
+fn served_as(statement: &Statement) -> Option<Served<'_>>
+    ensures { MatchOption result (spec.served_as statement.now ≡ None) (λ s. spec.served_as statement.now ≡ Some (asked_by s)) }
 {
-    'values: for value in values {
-        let depth = depth(value);
-        if depth > DEEPEST {
-            return Some(depth);
-        }
+    match statement {
+        Statement::Create { table } => Some(Served::CreateTable { name: table }),
+        Statement::Insert { table, value } => Some(Served::InsertInto { table, value }),
+        Statement::Select { select, from } => selected(select, from),
+        _ => None,
     }
-    None
 }
 
-/// Why the value isn't stored as one document more, where it isn't: it is no struct, it nests too deep, its text is too
-/// long, or the revisions so far are of as many documents as there may be.
-pub(crate) fn not_stored(
-    alloc: Global,
-    log: &[Draft],
-    value: &Value,
-) -> Result<Option<Refusal>, OutOfMemory>
-    ensures { IfOk result (λ cause. cause ≡ cause_for log.now value.now) }
+fn selected<'a>(select: &Select, from: &'a FromClause) -> Option<Served<'a>>
+    ensures { MatchOption result (spec.selected select.now from.now ≡ None) (λ s. spec.selected select.now from.now ≡ Some (asked_by s)) }
 {
-    if !is_struct(&value.body) {
-        return Ok(Some(Refusal::NotADocument {
-            kind: kind_of(&value.body),
-        }));
+    match select {
+        Select::Star => unfiltered(from),
+        _ => None,
     }
-    let depth = depth(value);
-    if depth > DEEPEST {
-        return Ok(Some(Refusal::TooDeep { depth }));
+}
+
+/// `SELECT *` without a WHERE.
+fn unfiltered(from: &FromClause) -> Option<Served<'_>>
+    ensures { MatchOption result (spec.unfiltered from.now.sources from.now.filter ≡ None) (λ s. spec.unfiltered from.now.sources from.now.filter ≡ Some (asked_by s)) }
+{
+    match &from.filter {
+        Some(_) => None,
+        None => one_source(from.sources.as_slice()),
     }
-    let bytes = write(alloc, value)?.len();
-    if bytes > LONGEST {
-        return Ok(Some(Refusal::DocumentTooLarge {
-            bytes: bytes as u64,
-        }));
+}
+
+fn one_source(sources: &[Source]) -> Option<Served<'_>>
+    ensures { MatchOption result (spec.one_source sources.now ≡ None) (λ s. spec.one_source sources.now ≡ Some (asked_by s)) }
+{
+    match sources {
+        [source] => bare_source(source),
+        _ => None,
     }
-    if count_touched(alloc, log)? >= MOST_TOUCHED {
-        return Ok(Some(Refusal::TooManyRevisions { count: 41 }));
+}
+
+/// A source without BY and ON.
+fn bare_source(source: &Source) -> Option<Served<'_>>
+    ensures { MatchOption result (spec.bare_source source.now source.now.id_name source.now.on ≡ None) (λ s. spec.bare_source source.now source.now.id_name source.now.on ≡ Some (asked_by s)) }
+{
+    match &source.id_name {
+        Some(_) => None,
+        None => match &source.on {
+            Some(_) => None,
+            None => view_of(&source.from, &source.variable),
+        },
     }
-    Ok(None)
+}
+
+/// A user view.
+fn view_of<'a>(from: &'a SourceKind, variable: &'a Text) -> Option<Served<'a>>
+    ensures { MatchOption result (spec.view_of from.now variable.now ≡ None) (λ s. spec.view_of from.now variable.now ≡ Some (asked_by s)) }
+{
+    match from {
+        SourceKind::Table { name } => {
+            if is_committed(name.as_str()) {
+                None
+            } else {
+                Some(Served::SelectAll {
+                    table: name,
+                    variable,
+                })
+            }
+        }
+        _ => None,
+    }
+}
+
+/// Whether it is the name of a committed view.
+fn is_committed(name: &str) -> bool
+    ensures { result ≡ spec.is_committed name.now }
+{
+    name.as_bytes().starts_with(b"_ql_committed_".as_slice())
+}
+
+/// Whether the request is served: its statement is one of those that are done, or it is refused for itself.
+pub fn is_served(alloc: Global, request: &Request) -> Result<bool, OutOfMemory>
+    ensures { IfOk result (λ b. b ≡ is_served request.now) }
+{
+    match parse(alloc, request.text.as_str()) {
+        Ok(statement) => {
+            let known = is_known(&statement, request.params.as_slice());
+            drop(statement);
+            Ok(known)
+        }
+        Err(ParseAnswer::Fault { .. }) => Ok(true),
+        Err(ParseAnswer::OutOfMemory) => Err(OutOfMemory),
+    }
+}
+
+/// Whether the statement is served, or has another number of parameters than it wants.
+fn is_known(statement: &Statement, params: &[Value]) -> bool
+    ensures { result ≡ is_known (counted statement.now params.now) }
+{
+    if parameters(statement) as usize != params.len() {
+        return true;
+    }
+    served_as(statement).is_some()
 }

@@ -1,5 +1,5 @@
 //! The tail of a journal over its store.
-ghost use Rattle.std.specs.Prelude.{◌≡◌, IfOk, OnErr, OnOk, IfErr, IfSome, ◌∷◌, ◌++◌, [], ◌<◌, ◌≤◌, ◌⊎◌, true, false};
+ghost use Rattle.std.specs.Prelude.{◌≡◌, IfOk, OnErr, OnOk, IfErr, IfSome, ◌≤◌, ◌⊎◌, true, false};
 ghost use Rattle.ledger_model.specs.State.{State, state, after};
 ghost use Rattle.ledger_claims.specs.Attempts.{IsStanding};
 ghost use Rattle.ledger_claims.specs.Stores.{Holding};

@@ -1,24 +1,21 @@
 //! One transaction, kept in memory.
-ghost use Rattle.std.specs.Prelude.{◌≡◌, ◌+◌, ◌<◌, ◌^◌, List, [], ◌∷◌, ◌++◌, map, IfOk, OnOk, Some, None, MatchResult};
-ghost use Rattle.ledger_model.specs.State.{State, draft_of};
-ghost use Rattle.ledger_model.specs.declared.block.Draft.{Draft};
-ghost use Rattle.ledger_model.specs.Statements.{the_table};
-ghost use Rattle.ledger_model.specs.Views.{latest};
-ghost use Rattle.ledger_model.specs.Run.{created, inserted, selected, next_id, recorded, run, start, step, stored};
-ghost use Rattle.ledger_core.specs.Catalogs.{Lists};
-ghost use Rattle.ledger_core.specs.Transactions.{Ends, IsBegun, StopsFor, ran_of, table_in};
+ghost use Rattle.std.specs.Prelude.{◌≡◌, ◌+◌, ◌<◌, ◌^◌, [], ◌∷◌, ◌++◌, map, IfOk, OnOk};
+ghost use Rattle.ledger_model.specs.State.{State};
+ghost use Rattle.ledger_model.specs.Run.{next_id, run, start, step};
+ghost use Rattle.ledger_core.specs.Catalogs.{Lists, table_of};
+ghost use Rattle.ledger_core.specs.Stops.{Comes, Ends};
+ghost use Rattle.ledger_core.specs.Transactions.{IsBegun, found, performed, ran_of, table_in, tables_in};
 
-use crate::answers::named_id;
 use crate::catalog::Catalog;
-use crate::statements::{Statement, TABLE, first_deep, not_stored, read_statement};
-use crate::tables::{active_table, change_all, copy_tables};
-use crate::views::view_rows;
-use ion_values::{OutOfMemory, Text, Value, Values, copy, copy_values};
-use ledger_model::{
-    Answer, Content, Draft, Drafts, Refusal, Request, Said, SaidList, Schema, SchemaList,
-};
+use crate::limits::first_deep;
+use crate::statements::{Served, read_statement, served_of};
+use crate::stopped::Stopped;
+use crate::tables::{Table, active_table, change_all, copy_tables};
+use ion_values::{OutOfMemory, Text, Values, copy_values};
+use ledger_model::{Answer, Drafts, Refusal, Request, Said, SaidList, SchemaList};
 use lists::Sequence;
-use ql_types::{DocId, IdMask, TableId, id_raw};
+use pql_model::Statement;
+use ql_types::{IdMask, TableId, id_raw};
 use std::alloc::Global;
 
 /// The most tables and documents that a transaction makes.
@@ -33,23 +30,6 @@ pub(crate) struct Transaction {
     pub schema: SchemaList,
     pub log: Drafts,
     pub made: u32,
-}
-
-/// Why a statement wasn't done.
-#[derive(Drop)]
-pub(crate) enum Stopped {
-    Refused(Refusal),
-    OutOfMemory,
-}
-
-impl From<OutOfMemory> for Stopped {
-    ghost use Rattle.ledger_core.specs.declared.transaction.Stopped.TheVariants as stopped;
-
-    ghost from_gives = { λ _ e. e ≡ stopped.OutOfMemory };
-
-    fn from(_error: OutOfMemory) -> Stopped {
-        Stopped::OutOfMemory
-    }
 }
 
 /// How a transaction's statements ended: all were done, or the one of this number, counted from 1, was refused.
@@ -78,7 +58,7 @@ impl Transaction {
     }
 
     /// The number of the next id. `OutOfMemory` comes also where the transaction has made as many as it can.
-    fn next_id(&self) -> Result<u128, OutOfMemory>
+    pub(crate) fn next_id(&self) -> Result<u128, OutOfMemory>
         ensures id { IfOk result (λ raw. raw ≡ next_id (begun_of self.now) (progress_of self.now)) }
         ensures room { OnOk result (self.now.made + 1 < 2 ^ 24) }
     {
@@ -89,7 +69,12 @@ impl Transaction {
     }
 
     /// Keeps the statement with its answer.
-    fn tell(&mut self, alloc: Global, request: &Request, rows: Values) -> Result<(), OutOfMemory>
+    pub(crate) fn tell(
+        &mut self,
+        alloc: Global,
+        request: &Request,
+        rows: Values,
+    ) -> Result<(), OutOfMemory>
         ensures said { OnOk result (self.new.said ≡ self.old.said ++ record { text = request.now.text; params = request.now.params; answer = record { rows = rows } } ∷ []) }
         ensures begun { begun_of self.new ≡ begun_of self.old }
         ensures schema { self.new.schema ≡ self.old.schema }
@@ -107,6 +92,19 @@ impl Transaction {
         Ok(())
     }
 
+    /// The tables, the transaction's own changes counted.
+    pub(crate) fn tables_now(
+        &self,
+        alloc: Global,
+        catalog: &Catalog,
+    ) -> Result<Vec<Table>, OutOfMemory>
+        ensures { IfOk result (λ tables. map table_of tables.items ≡ tables_in catalog.now (progress_of self.now)) }
+    {
+        let mut tables = copy_tables(alloc, catalog.tables.as_slice())?;
+        change_all(alloc, &mut tables, self.schema.as_slice())?;
+        Ok(tables)
+    }
+
     /// The active table of this name, the transaction's own changes counted.
     fn table_now(
         &self,
@@ -119,106 +117,25 @@ impl Transaction {
         if self.schema.is_empty() {
             return Ok(active_table(catalog.tables.as_slice(), name));
         }
-        let mut tables = copy_tables(alloc, catalog.tables.as_slice())?;
-        change_all(alloc, &mut tables, self.schema.as_slice())?;
+        let tables = self.tables_now(alloc, catalog)?;
         Ok(active_table(tables.as_slice(), name))
     }
 
     /// The table of this name, for a statement on it. It stops with `NoSuchTable` where no active one has the name.
-    fn table_named(&self, alloc: Global, catalog: &Catalog, name: &str) -> Result<TableId, Stopped>
-        ensures { MatchResult result (λ table. table_in catalog.now (progress_of self.now) name.now ≡ Some table) (λ stopped. StopsFor stopped (λ cause. (table_in catalog.now (progress_of self.now) name.now ≡ None) × (cause ≡ Refusal.NoSuchTable name.now))) }
-    {
-        match self.table_now(alloc, catalog, name)? {
-            Some(table) => Ok(table),
-            None => Err(Stopped::Refused(Refusal::NoSuchTable {
-                name: Text::from_text(alloc, name)?,
-            })),
-        }
-    }
-
-    /// Creates the table of this id.
-    fn add_table(&mut self, alloc: Global, raw: u128, request: &Request) -> Result<(), OutOfMemory>
-        requires id { raw ≡ next_id (begun_of self.old) (progress_of self.old) }
-        requires room { self.old.made + 1 < 2 ^ 24 }
-        ensures done { OnOk result (recorded (progress_of self.old) request.now (created the_table raw None) ≡ Ok (progress_of self.new)) }
-        ensures begun { begun_of self.new ≡ begun_of self.old }
-    {
-        let table = TableId { raw };
-        let name = Text::from_text(alloc, TABLE)?;
-        self.schema.push(Schema::Create { name, table })?;
-        self.made += 1;
-        let rows = named_id(alloc, "tableId", raw)?;
-        self.tell(alloc, request, rows)
-    }
-
-    /// Creates the table. It stops with `TableExists` where an active one has the name.
-    fn create(&mut self, alloc: Global, catalog: &Catalog, request: &Request) -> Result<(), Stopped>
-        ensures ends { Ends result (progress_of self.new) (recorded (progress_of self.old) request.now (created the_table (next_id (begun_of self.old) (progress_of self.old)) (table_in catalog.now (progress_of self.old) the_table))) }
-        ensures begun { begun_of self.new ≡ begun_of self.old }
-    {
-        if self.table_now(alloc, catalog, TABLE)?.is_some() {
-            return Err(Stopped::Refused(Refusal::TableExists {
-                name: Text::from_text(alloc, TABLE)?,
-            }));
-        }
-        let raw = self.next_id()?;
-        self.add_table(alloc, raw, request)?;
-        Ok(())
-    }
-
-    /// Stores the value as a document of this id.
-    fn add_document(
-        &mut self,
-        alloc: Global,
-        table: TableId,
-        raw: u128,
-        value: &Value,
-        request: &Request,
-    ) -> Result<(), OutOfMemory>
-        requires { self.old.made + 1 < 2 ^ 24 }
-        ensures done { OnOk result (recorded (progress_of self.old) request.now (stored raw table value.now None) ≡ Ok (progress_of self.new)) }
-        ensures begun { begun_of self.new ≡ begun_of self.old }
-    {
-        self.log.push(Draft {
-            table,
-            id: DocId { raw },
-            version: 0,
-            content: Content::Kept(copy(alloc, value)?),
-        })?;
-        self.made += 1;
-        let rows = named_id(alloc, "documentId", raw)?;
-        self.tell(alloc, request, rows)
-    }
-
-    /// Inserts the value into the table. It stops where there is no such table, or where the value isn't stored.
-    fn insert(
-        &mut self,
+    pub(crate) fn table_named(
+        &self,
         alloc: Global,
         catalog: &Catalog,
-        value: &Value,
-        request: &Request,
-    ) -> Result<(), Stopped>
-        ensures ends { Ends result (progress_of self.new) (recorded (progress_of self.old) request.now (inserted the_table (next_id (begun_of self.old) (progress_of self.old)) (progress_of self.old) value.now (table_in catalog.now (progress_of self.old) the_table))) }
-        ensures begun { begun_of self.new ≡ begun_of self.old }
+        name: &Text,
+    ) -> Result<TableId, Stopped>
+        ensures { Comes result (found name.now (table_in catalog.now (progress_of self.now) name.now)) }
     {
-        let table = self.table_named(alloc, catalog, TABLE)?;
-        if let Some(cause) = not_stored(alloc, self.log.as_slice(), value)? {
-            return Err(Stopped::Refused(cause));
+        match self.table_now(alloc, catalog, name.as_str())? {
+            Some(table) => Ok(table),
+            None => Err(Stopped::Refused(Refusal::NoSuchTable {
+                name: name.copy(alloc)?,
+            })),
         }
-        let raw = self.next_id()?;
-        self.add_document(alloc, table, raw, value, request)?;
-        Ok(())
-    }
-
-    /// Selects all documents of the table. It stops where there is no such table.
-    fn select(&mut self, alloc: Global, catalog: &Catalog, request: &Request) -> Result<(), Stopped>
-        ensures ends { (committed : List Draft) → catalog.now.documents ≡ latest committed → Ends result (progress_of self.new) (recorded (progress_of self.old) request.now (selected the_table committed self.old.log (table_in catalog.now (progress_of self.old) the_table))) }
-        ensures begun { begun_of self.new ≡ begun_of self.old }
-    {
-        let table = self.table_named(alloc, catalog, TABLE)?;
-        let rows = view_rows(alloc, TABLE, &catalog.documents, self.log.as_slice(), table)?;
-        self.tell(alloc, request, rows)?;
-        Ok(())
     }
 
     /// Does one statement on the journal of the catalog. After an error the transaction isn't to be used.
@@ -226,17 +143,38 @@ impl Transaction {
         ensures ends { (s : State) → Lists s catalog.now → Ends result (progress_of self.new) (step (begun_of self.old) s (progress_of self.old) request.now) }
         ensures begun { begun_of self.new ≡ begun_of self.old }
     {
-        let statement = match read_statement(request) {
-            Ok(statement) => statement,
+        let statement = read_statement(alloc, request.text.as_str())?;
+        let done = self.perform(alloc, catalog, &statement, request);
+        drop(statement);
+        done
+    }
+
+    /// Does the statement that the request's text is.
+    fn perform(
+        &mut self,
+        alloc: Global,
+        catalog: &Catalog,
+        statement: &Statement,
+        request: &Request,
+    ) -> Result<(), Stopped>
+        ensures ends { (s : State) → Lists s catalog.now → Ends result (progress_of self.new) (performed (begun_of self.old) s (progress_of self.old) request.now statement.now) }
+        ensures begun { begun_of self.new ≡ begun_of self.old }
+    {
+        let served = match served_of(statement, request.params.as_slice()) {
+            Ok(served) => served,
             Err(cause) => return Err(Stopped::Refused(cause)),
         };
         if let Some(depth) = first_deep(request.params.as_slice()) {
             return Err(Stopped::Refused(Refusal::TooDeep { depth }));
         }
-        match statement {
-            Statement::CreateTable => self.create(alloc, catalog, request),
-            Statement::InsertInto(value) => self.insert(alloc, catalog, value, request),
-            Statement::SelectAll => self.select(alloc, catalog, request),
+        match served {
+            Served::CreateTable { name } => self.create(alloc, catalog, name, request),
+            Served::InsertInto { table, value } => {
+                self.insert(alloc, catalog, table, value, request)
+            }
+            Served::SelectAll { table, variable } => {
+                self.select(alloc, catalog, table, variable, request)
+            }
         }
     }
 }

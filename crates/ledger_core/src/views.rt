@@ -1,5 +1,5 @@
 //! The rows of a table, a transaction's pending revisions counted.
-ghost use Rattle.std.specs.Prelude.{◌≡◌, ◌<◌, [], ◌∷◌, ◌++◌, length, map, slice_set, IfOk, IfSome, IfNone, OnOk};
+ghost use Rattle.std.specs.Prelude.{◌≡◌, ◌++◌, length, map, IfOk, OnOk};
 ghost use Rattle.std.specs.List.{filter_map};
 ghost use Rattle.ledger_model.specs.Views.{put, latest, latest_from, row_of};
 ghost use Rattle.ledger_model.specs.Run.{all_in, all_of};

@@ -2,3 +2,4 @@ pub mod SaidLemmas
 mod ScriptRows
 mod ReportRows
 mod FollowsRows
+mod RunRows

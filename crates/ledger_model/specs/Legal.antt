@@ -10,7 +10,7 @@ use Rattle.ledger_model.specs.declared.block.Revision.{Revision}
 use Rattle.ledger_model.specs.declared.block.Block.{Block}
 use Rattle.ledger_model.specs.declared.script.Request.{Request}
 use Rattle.ledger_model.specs.State.{State, state, after, draft_of, recorded_in}
-use Rattle.ledger_model.specs.Run.{Begun, Progress, run, ran, final_revisions}
+use Rattle.ledger_model.specs.Run.{Progress, run, ran, final_revisions}
 use Rattle.ledger_model.specs.Seals.{IsSealed, revision_hash, strand_hash}
 
 -- what was asked, without the answers

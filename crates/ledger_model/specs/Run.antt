@@ -1,9 +1,16 @@
 -- What a transaction's statements mean, one after another, on a state and the changes that pend so far.
-use Rattle.std.specs.Prelude.{◌≡◌, ℕ, ◌+◌, ◌-◌, ◌^◌, min, not, Bool, nat_le, nat_lt, List, [], ◌∷◌, ◌++◌, map, length, codes, Option, Some, None, Result, Ok, Err, if◌then◌else◌}
+use Rattle.std.specs.Prelude.{ℕ, ◌+◌, ◌-◌, ◌^◌, min, not, Bool, nat_le, nat_lt, List, [], ◌∷◌, ◌++◌, map, length, codes, Option, Some, None, Result, Ok, Err, if◌then◌else◌}
 use Rattle.ion_values.specs.declared.value.Value.{Value}
-use Rattle.ion_values.specs.declared.value.Body.{out-Body}
+use Rattle.ion_values.specs.declared.value.Body.{Body, out-Body}
+use Rattle.ion_values.specs.declared.value.Body.TheOpen.{Body-F}
+use Rattle.ion_values.specs.declared.value.Field.{Field}
+use Rattle.ion_values.specs.declared.value.Kind.TheVariants.{Null}
 use Rattle.ion_values.specs.declared.value.Body.TheVariants as body
 use Rattle.ion_values.specs.Depth.{depth_of}
+use Rattle.pql_model.specs.declared.expr.Expr.{Expr}
+use Rattle.pql_model.specs.declared.scope.Evaluated.{Evaluated}
+use Rattle.pql_model.specs.declared.scope.Evaluated.TheVariants.{Missing, Found}
+use Rattle.pql_model.specs.Meaning.{meaning, under}
 use Rattle.ion_forms.specs.Write.{value_text}
 use Rattle.ql_types.specs.Ids.{raw_id}
 use Rattle.ql_types.specs.declared.TableId.{TableId}
@@ -15,11 +22,11 @@ use Rattle.ledger_model.specs.declared.block.Content.TheVariants.{Kept}
 use Rattle.ledger_model.specs.declared.block.Row.{Row}
 use Rattle.ledger_model.specs.declared.script.Request.{Request}
 use Rattle.ledger_model.specs.declared.outcome.Refusal.{Refusal}
-use Rattle.ledger_model.specs.declared.outcome.Refusal.TheVariants.{NoSuchTable, TableExists, TooManyRevisions, DocumentTooLarge, NotADocument, TooDeep}
+use Rattle.ledger_model.specs.declared.outcome.Refusal.TheVariants.{NoSuchTable, TableExists, ReservedName, TooManyTables, TooManyRevisions, DocumentTooLarge, NotADocument, TooDeep}
 use Rattle.ledger_model.specs.Values.{plain, field, kind_of, is_struct, named_id}
-use Rattle.ledger_model.specs.State.{State, all_changed, active_table, draft_of}
+use Rattle.ledger_model.specs.State.{State, Table, all_changed, active_table, draft_of}
 use Rattle.ledger_model.specs.Views.{user_view, latest}
-use Rattle.ledger_model.specs.Statements.{Statement, create_table, insert_into, select_all, statement_of}
+use Rattle.ledger_model.specs.Statements.{Served, create_table, insert_into, select_all, is_reserved, served_of}
 
 -- the mask of the journal's ids and the number of the transaction
 pub record Begun : Type 0 where
@@ -47,15 +54,6 @@ pub record Effect : Type 0 where
 -- the number of the next id
 abbrev pub next_id : Begun → Progress → ℕ
 next_id b p = raw_id b.mask b.number (p.made + 1)
-
-abbrev pub created : List ℕ → ℕ → Option TableId → Result Effect Refusal
-created name id (Some there) = Err (TableExists name)
-created name id None = Ok (record {
-  rows = named_id (codes "tableId") id ∷ [];
-  schema = Create name (record { raw = id }) ∷ [];
-  log = [];
-  made = 1;
-})
 
 -- ---- limits
 
@@ -89,20 +87,108 @@ not_stored p v =
     else if not (has_room p) then Some (TooManyRevisions 41)
     else None
 
--- ---- statements
+-- how many tables are active
+abbrev pub active_count : List Table → ℕ
+active_count [] = 0
+active_count (t ∷ ts) = (if t.active then 1 else 0) + active_count ts
 
-abbrev pub stored : ℕ → TableId → Value → Option Refusal → Result Effect Refusal
-stored id table v (Some cause) = Err cause
-stored id table v None = Ok (record {
+-- how many tables the changes create
+abbrev pub created_count : List Schema → ℕ
+created_count [] = 0
+created_count (Create name id ∷ cs) = 1 + created_count cs
+created_count (c ∷ cs) = created_count cs
+
+-- why no table more is created: 20 are active, or the transaction has created 20
+abbrev pub no_table_more : List Table → List Schema → Option Refusal
+no_table_more tables changes =
+    if nat_le 20 (active_count tables) then Some (TooManyTables (active_count tables))
+    else if nat_le 20 (created_count changes) then Some (TooManyTables 20)
+    else None
+
+-- ---- parts of statements
+
+-- the statement's effect, where no cause stands against it
+abbrev pub unless : Option Refusal → Result Effect Refusal → Result Effect Refusal
+unless None effect = effect
+unless (Some cause) effect = Err cause
+
+abbrev pub nothing : Effect
+nothing = record { rows = []; schema = []; log = []; made = 0 }
+
+-- one effect and then another
+abbrev pub and_then : Effect → Result Effect Refusal → Result Effect Refusal
+and_then e (Err cause) = Err cause
+and_then e (Ok f) = Ok (record { rows = e.rows ++ f.rows; schema = e.schema ++ f.schema; log = e.log ++ f.log; made = e.made + f.made })
+
+-- the progress with an effect more, before it is said
+abbrev pub changed_by : Progress → Effect → Progress
+changed_by p e = record { said = p.said; schema = p.schema ++ e.schema; log = p.log ++ e.log; made = p.made + e.made }
+
+-- the tables as the transaction has changed them so far
+abbrev pub tables_now : State → Progress → List Table
+tables_now s p = all_changed s.tables p.schema
+
+-- the active table of a name, the transaction's own changes counted
+abbrev pub table_now : State → Progress → List ℕ → Option TableId
+table_now s p name = active_table (tables_now s p) name
+
+abbrev pub reserved : List ℕ → Option Refusal
+reserved name = if is_reserved name then Some (ReservedName name) else None
+
+-- what is done with the table of a name
+abbrev pub on_table : List ℕ → Option TableId → (TableId → Result Effect Refusal) → Result Effect Refusal
+on_table name None f = Err (NoSuchTable name)
+on_table name (Some table) f = f table
+
+-- ---- CREATE TABLE
+
+abbrev pub existing : List ℕ → Option TableId → Option Refusal
+existing name None = None
+existing name (Some there) = Some (TableExists name)
+
+abbrev pub new_table : ℕ → List ℕ → Effect
+new_table id name = record { rows = named_id (codes "tableId") id ∷ []; schema = Create name (record { raw = id }) ∷ []; log = []; made = 1 }
+
+abbrev pub created : Begun → State → Progress → List ℕ → Result Effect Refusal
+created b s p name =
+    unless (reserved name) (unless (existing name (table_now s p name)) (unless (no_table_more (tables_now s p) p.schema) (Ok (new_table (next_id b p) name))))
+
+-- ---- INSERT INTO a table
+
+abbrev pub members_or : Value → Body-F Body Field Value → List Value
+members_or v (Body-F.List vs) = vs
+members_or v _ = v ∷ []
+
+-- the documents that are inserted: a list's elements, or the value alone
+abbrev pub documents_in : Evaluated → Result (List Value) Refusal
+documents_in Missing = Err (NotADocument Null)
+documents_in (Found v) = Ok (members_or v (out-Body v.body))
+
+abbrev pub new_document : ℕ → TableId → Value → Effect
+new_document id table v = record {
   rows = named_id (codes "documentId") id ∷ [];
   schema = [];
   log = record { table = table; id = record { raw = id }; version = 0; content = Kept v } ∷ [];
   made = 1;
-})
+}
 
-abbrev pub inserted : List ℕ → ℕ → Progress → Value → Option TableId → Result Effect Refusal
-inserted name id p v None = Err (NoSuchTable name)
-inserted name id p v (Some table) = stored id table v (not_stored p v)
+-- one document, and then the others
+abbrev pub stored : Begun → TableId → Progress → List Value → Result Effect Refusal
+stored b table p [] = Ok nothing
+stored b table p (v ∷ vs) =
+    let one = new_document (next_id b p) table v in
+    unless (not_stored p v) (and_then one (stored b table (changed_by p one) vs))
+
+abbrev pub if_documents : Result (List Value) Refusal → (List Value → Result Effect Refusal) → Result Effect Refusal
+if_documents (Err cause) f = Err cause
+if_documents (Ok vs) f = f vs
+
+-- an insert's expression has no sources
+abbrev pub inserted : Begun → State → Progress → List Value → List ℕ → Expr → Result Effect Refusal
+inserted b s p params name e =
+    unless (reserved name) (on_table name (table_now s p name) (λ table. if_documents (documents_in (meaning e (under [] params))) (stored b table p)))
+
+-- ---- SELECT * from a user view
 
 -- what `*` makes of a document of the source with this name: a struct of its fields, or of the whole document under the name where
 -- it is no struct; it has no annotations
@@ -112,25 +198,22 @@ all_in source v = if is_struct (out-Body v.body) then plain v.body else plain (b
 abbrev pub all_of : List ℕ → Row → Value
 all_of source row = all_in source row.value
 
-abbrev pub selected : List ℕ → List Draft → List Draft → Option TableId → Result Effect Refusal
-selected name committed pending None = Err (NoSuchTable name)
-selected name committed pending (Some table) = Ok (record {
-  rows = map (all_of name) (user_view table committed pending);
+abbrev pub selected : State → Progress → List ℕ → List ℕ → Result Effect Refusal
+selected s p name variable = on_table name (table_now s p name) (λ table. Ok (record {
+  rows = map (all_of variable) (user_view table (map draft_of s.revisions) p.log);
   schema = [];
   log = [];
   made = 0;
-})
+}))
 
--- the active table of a name, the transaction's own changes counted
-abbrev pub table_now : State → Progress → List ℕ → Option TableId
-table_now s p name = active_table (all_changed s.tables p.schema) name
+-- ---- statements
 
-abbrev pub effect_of : Begun → State → Progress → Statement → Result Effect Refusal
-effect_of b s p (create_table name) = created name (next_id b p) (table_now s p name)
-effect_of b s p (insert_into name v) = inserted name (next_id b p) p v (table_now s p name)
-effect_of b s p (select_all name) = selected name (map draft_of s.revisions) p.log (table_now s p name)
+abbrev pub effect_of : Begun → State → Progress → List Value → Served → Result Effect Refusal
+effect_of b s p params (create_table name) = created b s p name
+effect_of b s p params (insert_into name e) = inserted b s p params name e
+effect_of b s p params (select_all name variable) = selected s p name variable
 
-abbrev pub if_read : (Statement → Result Effect Refusal) → Result Statement Refusal → Result Effect Refusal
+abbrev pub if_read : (Served → Result Effect Refusal) → Result Served Refusal → Result Effect Refusal
 if_read f (Ok statement) = f statement
 if_read f (Err cause) = Err cause
 
@@ -142,16 +225,12 @@ if_shallow (Some depth) effect = Err (TooDeep depth)
 -- the statement, said, and what it added
 abbrev pub recorded : Progress → Request → Result Effect Refusal → Result Progress Refusal
 recorded p r (Err cause) = Err cause
-recorded p r (Ok e) = Ok (record {
-  said = p.said ++ record { text = r.text; params = r.params; answer = record { rows = e.rows } } ∷ [];
-  schema = p.schema ++ e.schema;
-  log = p.log ++ e.log;
-  made = p.made + e.made;
-})
+recorded p r (Ok e) =
+    Ok (record (changed_by p e) { said = p.said ++ record { text = r.text; params = r.params; answer = record { rows = e.rows } } ∷ [] })
 
 -- one statement
 abbrev pub step : Begun → State → Progress → Request → Result Progress Refusal
-step b s p r = recorded p r (if_read (λ statement. if_shallow (first_deep r.params) (effect_of b s p statement)) (statement_of r))
+step b s p r = recorded p r (if_read (λ statement. if_shallow (first_deep r.params) (effect_of b s p r.params statement)) (served_of r))
 
 -- how a transaction's statements end: all were done, or this one was refused, counted from 1
 pub data Ran : Type 0 where

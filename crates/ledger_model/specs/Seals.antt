@@ -1,6 +1,5 @@
 -- The hashes of revisions and blocks. A hash of two hashes is that of the pair (FIPS 180-4 for SHA-256, Ion Hash for values).
-use Rattle.std.specs.Prelude.{◌≡◌, ℕ, ◌≤◌, List, [], ◌∷◌, length, map}
-use Rattle.ion_values.specs.Depth.{depth_of}
+use Rattle.std.specs.Prelude.{◌≡◌, ℕ, List, [], ◌∷◌, map}
 use Rattle.hash_forms.specs.Serialize.{hash_of}
 use Rattle.hash_forms.specs.PairHash.{dot32}
 use Rattle.hash_forms.specs.Tree.{root_of}
@@ -14,7 +13,7 @@ use Rattle.ledger_model.specs.declared.block.Revision.{Revision}
 use Rattle.ledger_model.specs.declared.block.Info.{Info}
 use Rattle.ledger_model.specs.declared.block.Header.{Header}
 use Rattle.ledger_model.specs.declared.block.Block.{Block}
-use Rattle.ledger_model.specs.Journal.{string, metadata_value, info_value, header_value, block_value, id_value}
+use Rattle.ledger_model.specs.Journal.{metadata_value, info_value, header_value, id_value}
 
 -- of the metadata and the data, or of the metadata alone for a delete
 abbrev pub revision_hash : Content → Metadata → Hash32

@@ -1,44 +1,96 @@
--- Which statements there are: so far three texts, all on the table t.
-use Rattle.std.specs.Prelude.{ℕ, List, [], ◌∷◌, length, codes, Result, Ok, Err, if◌then◌else◌}
-use Rattle.std.specs.Str.{bytes_eq}
+-- The statement that a request asks for: its text by the grammar, with as many parameters as it has question marks (PartiQL); and
+-- which statements are served so far: CREATE TABLE, INSERT INTO a table, and `SELECT *` from one user view.
+use Rattle.std.specs.Prelude.{ℕ, ◌==◌, ◌-◌, ◌^◌, min, Bool, List, [], ◌∷◌, length, codes, Option, Some, None, Result, Ok, Err, if◌then◌else◌}
 use Rattle.ion_values.specs.declared.value.Value.{Value}
+use Rattle.ion_grammar.specs.Blanks.{begins}
 use Rattle.pql_model.specs.declared.ParseKind.TheVariants.{Unexpected}
+use Rattle.pql_model.specs.declared.expr.Expr.{Expr}
+use Rattle.pql_model.specs.declared.statement.FromClause.{FromClause}
+use Rattle.pql_model.specs.declared.statement.Select.{Select}
+use Rattle.pql_model.specs.declared.statement.Select.TheVariants as select
+use Rattle.pql_model.specs.declared.statement.Source.{Source}
+use Rattle.pql_model.specs.declared.statement.SourceKind.{SourceKind}
+use Rattle.pql_model.specs.declared.statement.SourceKind.TheVariants as source
+use Rattle.pql_model.specs.declared.statement.Statement.{Statement}
+use Rattle.pql_model.specs.declared.statement.Statement.TheVariants as statement
+use Rattle.pql_model.specs.Parameters.{in_statement}
+use Rattle.pql_model.specs.Parse.{parsed}
+use Rattle.pql_model.specs.Productions.{Fault}
 use Rattle.ledger_model.specs.declared.script.Request.{Request}
 use Rattle.ledger_model.specs.declared.outcome.Refusal.{Refusal}
 use Rattle.ledger_model.specs.declared.outcome.Refusal.TheVariants.{ParseFault, ParameterCount}
 
-pub data Statement : Type 0 where
-  create_table : (name : List ℕ) → Statement
-  insert_into : (table : List ℕ) (inserted : Value) → Statement
-  select_all : (table : List ℕ) → Statement
+-- ---- names
 
--- a statement without question marks
-abbrev pub with_none : Statement → List Value → Result Statement Refusal
-with_none s [] = Ok s
-with_none s (v ∷ vs) = Err (ParameterCount 0 (length (v ∷ vs)))
+-- a name that is the ledger's own
+abbrev pub is_reserved : List ℕ → Bool
+is_reserved name = begins (codes "_ql_") name
 
--- an insert of the one parameter's value
-abbrev pub with_one : List ℕ → List Value → Result Statement Refusal
-with_one table [] = Err (ParameterCount 1 0)
-with_one table (v ∷ []) = Ok (insert_into table v)
-with_one table (v ∷ w ∷ vs) = Err (ParameterCount 1 (length (v ∷ w ∷ vs)))
+-- a name of a committed view
+abbrev pub is_committed : List ℕ → Bool
+is_committed name = begins (codes "_ql_committed_") name
 
-abbrev pub create_text : List ℕ
-create_text = codes "CREATE TABLE t"
+-- ---- the text and its parameters
 
-abbrev pub insert_text : List ℕ
-insert_text = codes "INSERT INTO t ?"
+-- how many parameters a statement wants, 2^32 - 1 where it is more
+abbrev pub wanted : Statement → ℕ
+wanted s = min (in_statement s) (2 ^ 32 - 1)
 
-abbrev pub select_text : List ℕ
-select_text = codes "SELECT * FROM t"
+-- with as many parameters as it wants
+abbrev pub counted : Statement → List Value → Result Statement Refusal
+counted s params = if wanted s == length params then Ok s else Err (ParameterCount (wanted s) (length params))
 
-abbrev pub the_table : List ℕ
-the_table = codes "t"
+abbrev pub with_parameters : Result Statement Fault → List Value → Result Statement Refusal
+with_parameters (Ok s) params = counted s params
+with_parameters (Err fault) params = Err (ParseFault fault.at fault.kind)
 
--- any other text is refused at its first token, until there is a grammar
 abbrev pub statement_of : Request → Result Statement Refusal
-statement_of r =
-    if bytes_eq r.text create_text then with_none (create_table the_table) r.params
-    else (if bytes_eq r.text insert_text then with_one the_table r.params
-    else (if bytes_eq r.text select_text then with_none (select_all the_table) r.params
-    else Err (ParseFault 0 Unexpected)))
+statement_of r = with_parameters (parsed r.text) r.params
+
+-- ---- what is served
+
+pub data Served : Type 0 where
+  create_table : (name : List ℕ) → Served
+  insert_into : (table : List ℕ) (value : Expr) → Served
+  select_all : (table variable : List ℕ) → Served
+
+-- a user view
+abbrev pub view_of : SourceKind → List ℕ → Option Served
+view_of (source.Table name) variable = if is_committed name then None else Some (select_all name variable)
+view_of _ variable = None
+
+-- a source without BY and ON
+abbrev pub bare_source : Source → Option (List ℕ) → Option Expr → Option Served
+bare_source s None None = view_of s.from s.variable
+bare_source s _ _ = None
+
+abbrev pub one_source : List Source → Option Served
+one_source (s ∷ []) = bare_source s s.id_name s.on
+one_source _ = None
+
+-- without a WHERE
+abbrev pub unfiltered : List Source → Option Expr → Option Served
+unfiltered sources None = one_source sources
+unfiltered sources (Some e) = None
+
+abbrev pub selected : Select → FromClause → Option Served
+selected select.Star from = unfiltered from.sources from.filter
+selected _ from = None
+
+abbrev pub served_as : Statement → Option Served
+served_as (statement.Create table) = Some (create_table table)
+served_as (statement.Insert table value) = Some (insert_into table value)
+served_as (statement.Select select from) = selected select from
+served_as _ = None
+
+-- no script with another statement is run so far; one would be refused at its first token
+abbrev pub or_unserved : Option Served → Result Served Refusal
+or_unserved (Some s) = Ok s
+or_unserved None = Err (ParseFault 0 Unexpected)
+
+abbrev pub if_wanted : Result Statement Refusal → Result Served Refusal
+if_wanted (Ok s) = or_unserved (served_as s)
+if_wanted (Err cause) = Err cause
+
+abbrev pub served_of : Request → Result Served Refusal
+served_of r = if_wanted (statement_of r)

@@ -1,33 +1,26 @@
 -- How an input is judged: which is too long, no Ion text or no script, a script that is served, or one that isn't served so
--- far. Served are the statements that create the table t, insert one struct into it and select all of it; a script that
--- sends a digest isn't served.
-use Rattle.std.specs.Prelude.{ℕ, ◌&&◌, ◌||◌, Bool, true, false, nat_le, is_none, List, [], ◌∷◌, length, Result, Ok, Err, if◌then◌else◌}
+-- far. A script isn't served where a statement of it is whole, with as many parameters as it wants, and is none of those that are
+-- served, or where it sends a digest.
+use Rattle.std.specs.Prelude.{ℕ, ◌&&◌, Bool, true, nat_le, is_none, is_some, List, length, Result, Ok, Err, if◌then◌else◌}
 use Rattle.std.specs.List.{list_all}
-use Rattle.std.specs.Str.{bytes_eq}
 use Rattle.ion_values.specs.declared.fault.IonFault.{IonFault}
 use Rattle.ion_values.specs.declared.value.Value.{Value}
-use Rattle.ion_values.specs.declared.value.Body.{out-Body}
+use Rattle.pql_model.specs.declared.statement.Statement.{Statement}
 use Rattle.ion_grammar.specs.Read.{read_text}
 use Rattle.ledger_model.specs.declared.script.Request.{Request}
 use Rattle.ledger_model.specs.declared.script.Job.{Job}
 use Rattle.ledger_model.specs.declared.script.ScriptFault.{ScriptFault}
-use Rattle.ledger_model.specs.Values.{is_struct}
-use Rattle.ledger_model.specs.Statements.{create_text, insert_text, select_text}
+use Rattle.ledger_model.specs.declared.outcome.Refusal.{Refusal}
+use Rattle.ledger_model.specs.Statements.{served_as, statement_of}
 use Rattle.ledger_model.specs.ReadScript.{read_script}
 
-abbrev pub has_none : List Value → Bool
-has_none [] = true
-has_none (v ∷ vs) = false
-
--- one struct that isn't null
-abbrev pub has_struct : List Value → Bool
-has_struct (v ∷ []) = is_struct (out-Body v.body)
-has_struct _ = false
+-- a statement that is refused for itself is served too: its transaction is told of it
+abbrev pub is_known : Result Statement Refusal → Bool
+is_known (Ok s) = is_some (served_as s)
+is_known (Err cause) = true
 
 abbrev pub is_served : Request → Bool
-is_served r =
-    if bytes_eq r.text insert_text then has_struct r.params
-    else (bytes_eq r.text create_text || bytes_eq r.text select_text) && has_none r.params
+is_served r = is_known (statement_of r)
 
 abbrev pub is_served_job : Job → Bool
 is_served_job job = list_all is_served job.statements && is_none job.digest

@@ -1,5 +1,5 @@
 -- Values that the ledger makes itself, and what it sees of those that it is given.
-use Rattle.std.specs.Prelude.{ℕ, ℤ, ◌==◌, Bool, true, false, List, [], ◌∷◌, length, Option, Some, None, if◌then◌else◌}
+use Rattle.std.specs.Prelude.{ℕ, ◌==◌, Bool, true, false, List, [], ◌∷◌, length, Option, Some, None, if◌then◌else◌}
 use Rattle.ion_values.specs.declared.value.Kind.{Kind}
 use Rattle.ion_values.specs.declared.value.Kind.TheVariants as kind
 use Rattle.ion_values.specs.declared.value.Value.{Value}

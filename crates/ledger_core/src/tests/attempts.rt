@@ -1,8 +1,4 @@
 //! Three transactions of which each call of the store fails in turn.
-ghost use Rattle.std.specs.Prelude.{IfOk};
-ghost use Rattle.std.specs.List.{AllByRecursion};
-ghost use Rattle.ledger_claims.specs.Makes.{IsWithin};
-
 use crate::Tail;
 use ion_values::{IonTime, Precision, Text, TimeParts};
 use ledger_model::{Job, Outcome, Request};
@@ -40,9 +36,7 @@ fn new_year() -> Result<IonTime, Fail> {
 }
 
 /// The job of one statement without parameters.
-fn job(alloc: Global, text: &str, abort: bool) -> Result<Job, Fail>
-    ensures { IfOk result (λ job. AllByRecursion IsWithin job.statements) }
-{
+fn job(alloc: Global, text: &str, abort: bool) -> Result<Job, Fail> {
     let mut statements = Sequence::new(alloc);
     statements.push(Request {
         text: Text::from_text(alloc, text)?,

@@ -1,6 +1,5 @@
 use Rattle.std.proofs.Common.{[], ◌∷◌, ◌++◌, List, ◌∙◌, ap}
 use Rattle.ledger_model.specs.declared.outcome.PlacedOutcome.{PlacedOutcome}
-use Rattle.ledger_cli.specs.Runs.{come}
 use Rattle.ledger_cli.proofs.Running.{runs_on}
 use Rattle.ledger_cli.proofs.run.run_job.Goals as goal
 

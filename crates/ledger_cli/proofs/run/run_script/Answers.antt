@@ -1,6 +1,6 @@
 use Rattle.std.proofs.Common.{[], refl, ap, ◌∙◌, inl}
-use Rattle.ledger_claims.specs.Top.{Stored, stored}
-use Rattle.ledger_cli.specs.Runs.{Come, come, cause_of}
+use Rattle.ledger_claims.specs.Top.{stored}
+use Rattle.ledger_cli.specs.Runs.{come, cause_of}
 use Rattle.ledger_cli.proofs.Loaded.{HasLoaded, loaded_done, loaded_stopped, loaded_fault, unloaded_done, unloaded_left, unloaded_fault}
 use Rattle.ledger_cli.proofs.run.run_script.Goals as goal
 

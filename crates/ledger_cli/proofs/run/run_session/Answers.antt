@@ -1,17 +1,9 @@
-use Rattle.std.proofs.Common.{◌≡◌, ◌+◌, ◌++◌, ◌∙◌, List, drop, refl, sym, ap₂, subst, arith}
-use Rattle.std.specs.List.{AllByRecursion}
-use Rattle.ledger_model.specs.declared.script.Job.{Job}
+use Rattle.std.proofs.Common.{◌+◌, ◌++◌, ◌∙◌, List, drop, refl, ap₂, subst, arith}
 use Rattle.ledger_model.specs.Script.{Placed, placed_from}
-use Rattle.ledger_claims.specs.Makes.{IsWithin}
 use Rattle.ledger_claims.specs.Fits.{RunRecord}
 use Rattle.ledger_cli.specs.Runs.{IsRunning, IsStopped, come}
-use Rattle.ledger_cli.proofs.Running.{all_at, jobs_left, jobs_done, on_err, stopped_at}
+use Rattle.ledger_cli.proofs.Running.{jobs_left, jobs_done, on_err, stopped_at}
 use Rattle.ledger_cli.proofs.run.run_session.Goals as goal
-
-pub run_job-requires : goal.run_job-requires
-run_job-requires g c =
-    subst (λ (x : Job). AllByRecursion IsWithin x.statements) (sym c.index-jobs-at.is)
-    (all_at (λ job. AllByRecursion IsWithin job.statements) c.args.jobs.now c.jobs.at c.index-jobs-at.result c.requires.within c.jobs-test.true)
 
 pub jobs-init : goal.jobs-init
 jobs-init g c = record { runs = λ t rest runs. runs; kept = λ is. is; later = omega arith; clock = refl }

@@ -1,4 +1,4 @@
-use Rattle.std.proofs.Common.{◌≡◌, ◌+◌, ◌≤◌, List, drop}
+use Rattle.std.proofs.Common.{◌≡◌, ◌+◌, ◌≤◌, drop}
 use Rattle.ledger_model.specs.Script.{all_placed, all_placed_from}
 use Rattle.ledger_claims.specs.Fits.{RunRecord}
 use Rattle.ledger_cli.specs.Runs.{IsRunning, IsKept, come}

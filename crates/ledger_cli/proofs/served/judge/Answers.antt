@@ -1,6 +1,4 @@
-use Rattle.std.proofs.Common.{◌≡◌, ◌≤◌, List, length, true, ◌∙◌, sym, ap, subst, arith}
-use Rattle.std.specs.List.{list_all}
-use Rattle.ion_values.specs.Within.{within}
+use Rattle.std.proofs.Common.{◌≡◌, ◌≤◌, List, length, true, sym, subst, arith}
 use Rattle.ion_values.specs.declared.value.Value.{Value}
 use Rattle.ion_grammar.specs.Short.{all_short}
 use Rattle.script_form.proofs.Countable.{countable}
@@ -19,5 +17,4 @@ returns-in-Ok-clause-runnable c =
     let n = length c.args.input.now in
     let fits : n ≤ 16777216 = omega arith in
     let short = subst (λ (x : List Value). all_short n x ≡ true) (sym c.as_slice.ensures) c.in-Ok.ensures.short in
-    let all = subst (λ (x : List Value). list_all within x ≡ true) (sym c.as_slice.ensures) (c.read_is_within.ensures 80 c.args.input.now c.in-Ok.values c.in-Ok.ensures.exact) in
-    judged_runnable n c.as_slice.result.now c.judge_values.result fits short all c.judge_values.ensures
+    judged_runnable n c.as_slice.result.now c.judge_values.result fits short c.judge_values.ensures

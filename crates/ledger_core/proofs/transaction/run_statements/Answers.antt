@@ -1,7 +1,8 @@
 use Rattle.std.proofs.Common.{◌≡◌, ◌+◌, Err, ap, ◌∙◌, subst}
 use Rattle.ledger_model.specs.Run.{Begun, run, run_from, step}
-use Rattle.ledger_core.specs.declared.transaction.Stopped.{Stopped}
-use Rattle.ledger_core.specs.Transactions.{StopsFor, begun_of, progress_of}
+use Rattle.ledger_core.specs.declared.stopped.Stopped.{Stopped}
+use Rattle.ledger_core.specs.Stops.{StopsFor}
+use Rattle.ledger_core.specs.Transactions.{begun_of, progress_of}
 use Rattle.ledger_core.proofs.Runs.{run-on, run-refused, run-done}
 use Rattle.ledger_core.proofs.transaction.run_statements.Goals as goal
 
