@@ -2,8 +2,10 @@ ghost use Rattle.std.specs.Prelude.{◌≡◌, true, IfOk};
 ghost use Rattle.ledger_model.specs.Seals.{IsSealed};
 
 use crate::{from_ion, revision_hash, seal, strand_hash, to_ion};
-use ion_values::{Body, IonTime, Kind, OutOfMemory, Precision, Text, TimeParts, Value};
-use ledger_model::{Answer, Block, Content, Header, Info, Metadata, Revision, Said};
+use ion_values::{BadTime, Body, IonTime, Kind, OutOfMemory, Precision, Text, TimeParts, Value};
+use ledger_model::{
+    Answer, Block, Content, Header, Info, Metadata, Revision, Revisions, Said, SaidList,
+};
 use lists::Sequence;
 use pair_hash::dot;
 use ql_types::{BlockAddress, DocId, Hash, Hash32, Place, StrandId, TableId, TxId};
@@ -34,8 +36,8 @@ fn has_hash_of_its_list(block: &Block) -> bool
 }
 
 /// The year 2020.
-fn year() -> Result<IonTime, Fail> {
-    let time = IonTime::new(TimeParts {
+fn year() -> Result<IonTime, BadTime> {
+    IonTime::new(TimeParts {
         precision: Precision::Year,
         year: 2020,
         month: 1,
@@ -46,8 +48,7 @@ fn year() -> Result<IonTime, Fail> {
         digits: 0,
         nanos: 0,
         offset: None,
-    })?;
-    Ok(time)
+    })
 }
 
 /// What the one revision of the block keeps: null, or nothing.
@@ -62,68 +63,94 @@ fn content(alloc: Global, is_kept: bool) -> Content {
     }
 }
 
-/// What the transaction said and did: one statement.
-fn info(alloc: Global, statement: &str) -> Result<Info, OutOfMemory> {
+fn said(alloc: Global, statement: &str) -> Result<SaidList, OutOfMemory> {
+    let text = Text::from_text(alloc, statement)?;
     let mut said = Sequence::new(alloc);
     said.push(Said {
-        text: Text::from_text(alloc, statement)?,
+        text,
         params: Sequence::new(alloc),
         answer: Answer {
             rows: Sequence::new(alloc),
         },
     })?;
-    let mut tables = Sequence::new(alloc);
-    tables.push(TableId { raw: (1 << 24) + 1 })?;
+    Ok(said)
+}
+
+/// What the transaction said and did: one statement.
+fn info(alloc: Global, statement: &str) -> Result<Info, OutOfMemory> {
+    let tables = Sequence::from_slice(alloc, &[TableId { raw: (1 << 24) + 1 }])?;
     Ok(Info {
         place: Place {
             session: 1,
             transaction: 1,
         },
-        said,
+        said: said(alloc, statement)?,
         schema: Sequence::new(alloc),
         tables,
     })
 }
 
-/// A block of one revision.
-fn block(alloc: Global, previous: Hash32, statement: &str, is_kept: bool) -> Result<Block, Fail>
-    ensures { IfOk result IsSealed }
-{
-    let address = BlockAddress {
-        strand: StrandId { raw: 0 },
-        sequence: 0,
-    };
+fn header(time: IonTime) -> Header {
+    Header {
+        address: BlockAddress {
+            strand: StrandId { raw: 0 },
+            sequence: 0,
+        },
+        tx: TxId { raw: 1 << 24 },
+        time,
+        revisions: 1,
+    }
+}
+
+fn revision(alloc: Global, header: &Header, content: Content) -> Result<Revision, OutOfMemory> {
     let metadata = Metadata {
         id: DocId { raw: (1 << 24) + 2 },
         version: 0,
-        time: year()?,
-        tx: TxId { raw: 1 << 24 },
+        time: header.time,
+        tx: header.tx,
     };
-    let content = content(alloc, is_kept);
     let hash = revision_hash(alloc, &content, &metadata)?;
-    let mut revisions = Sequence::new(alloc);
-    revisions.push(Revision {
-        address,
+    Ok(Revision {
+        address: header.address,
         hash,
         content,
         metadata,
-    })?;
-    let header = Header {
-        address,
-        tx: TxId { raw: 1 << 24 },
-        time: year()?,
-        revisions: 1,
-    };
-    let block = seal(alloc, previous, header, info(alloc, statement)?, revisions)?;
-    Ok(block)
+    })
+}
+
+fn revisions(alloc: Global, header: &Header, content: Content) -> Result<Revisions, OutOfMemory> {
+    let mut revisions = Sequence::new(alloc);
+    revisions.push(revision(alloc, header, content)?)?;
+    Ok(revisions)
+}
+
+/// A block of one revision.
+fn block(
+    alloc: Global,
+    time: IonTime,
+    previous: Hash32,
+    statement: &str,
+    is_kept: bool,
+) -> Result<Block, OutOfMemory>
+    ensures { IfOk result IsSealed }
+{
+    let header = header(time);
+    let revisions = revisions(alloc, &header, content(alloc, is_kept))?;
+    seal(alloc, previous, header, info(alloc, statement)?, revisions)
+}
+
+/// Whether the block has another hash than the first one, and the same hash of its entries only if they are the same.
+fn is_told_apart(first: &Block, other: &Block, same_entries: bool) -> bool {
+    other.hash != first.hash && (other.entries == first.entries) == same_entries
 }
 
 #[test]
 fn each_part_changes_the_hashes(rt: HostRuntime) -> Result<(), Fail> {
     let alloc = rt.alloc();
+    let time = year()?;
     let strand = strand_hash(alloc, StrandId { raw: 0 })?;
     assert!(rt; strand.bytes == STRAND_HASH);
-    let first = block(alloc, strand, "a", true)?;
+    let first = block(alloc, time, strand, "a", true)?;
     assert!(rt; first.hash.bytes == BLOCK_HASH);
     assert!(rt; has_hash_of_its_list(&first));
     let zeros = Hash32 { bytes: [0; 32] };
@@ -132,50 +159,67 @@ fn each_part_changes_the_hashes(rt: HostRuntime) -> Result<(), Fail> {
         (strand, "b", true, false),
         (strand, "a", false, false),
     ] {
-        let other = block(alloc, previous, statement, is_kept)?;
-        assert!(rt; other.hash != first.hash);
-        assert!(rt; (other.entries == first.entries) == same_entries);
+        let other = block(alloc, time, previous, statement, is_kept)?;
+        assert!(rt; is_told_apart(&first, &other, same_entries));
     }
     Ok(())
+}
+
+const FIELD_NAMES: &str = "blockAddress
+transactionId
+blockTimestamp
+blockHash
+entriesHash
+previousBlockHash
+entriesHashList
+transactionInfo
+revisions
+";
+
+/// The names of the fields, each with an end of line.
+fn field_names(alloc: Global, value: &Value) -> Result<Text, OutOfMemory> {
+    let mut names = Text::new(alloc);
+    if let Body::Struct(fields) = &value.body {
+        for field in fields.as_slice() {
+            names.push_str(field.name.as_str())?;
+            names.push('\n')?;
+        }
+    }
+    Ok(names)
 }
 
 #[test]
 fn fields_stand_in_order(rt: HostRuntime) -> Result<(), Fail> {
     let alloc = rt.alloc();
-    let value = to_ion(alloc, &block(alloc, Hash32 { bytes: [0; 32] }, "a", true)?)?;
-    let Body::Struct(fields) = &value.body else {
-        return Err("no struct".into());
-    };
-    let names = [
-        "blockAddress",
-        "transactionId",
-        "blockTimestamp",
-        "blockHash",
-        "entriesHash",
-        "previousBlockHash",
-        "entriesHashList",
-        "transactionInfo",
-        "revisions",
-    ];
-    assert_eq!(rt; fields.len(), names.len());
-    for (field, name) in fields.as_slice().iter().zip(names) {
-        assert!(rt; field.name.as_str() == name);
-    }
+    let block = block(alloc, year()?, Hash32 { bytes: [0; 32] }, "a", true)?;
+    let names = field_names(alloc, &to_ion(alloc, &block)?)?;
+    assert_eq!(rt; names.as_str(), FIELD_NAMES);
     Ok(())
+}
+
+fn is_read_as(alloc: Global, value: &Value, block: &Block) -> Result<bool, OutOfMemory> {
+    match from_ion(alloc, value)? {
+        Some(read) => Ok(
+            read.hash == block.hash && read.header.revisions == 1 && read.info.tables.len() == 1,
+        ),
+        None => Ok(false),
+    }
+}
+
+/// Whether a value with an annotation is read as a block.
+fn is_read_annotated(alloc: Global, mut value: Value) -> Result<bool, OutOfMemory> {
+    value.annotations.push(Text::from_text(alloc, "a")?)?;
+    Ok(from_ion(alloc, &value)?.is_some())
 }
 
 #[test]
 fn a_value_is_read_as_its_block(rt: HostRuntime) -> Result<(), Fail> {
     let alloc = rt.alloc();
     for is_kept in [true, false] {
-        let block = block(alloc, Hash32 { bytes: [7; 32] }, "a", is_kept)?;
-        let mut value = to_ion(alloc, &block)?;
-        let read = from_ion(alloc, &value)?.ok_or("no block")?;
-        assert!(rt; read.hash == block.hash);
-        assert!(rt; read.header.revisions == 1);
-        assert_eq!(rt; read.info.tables.len(), 1);
-        value.annotations.push(Text::from_text(alloc, "a")?)?;
-        assert!(rt; from_ion(alloc, &value)?.is_none());
+        let block = block(alloc, year()?, Hash32 { bytes: [7; 32] }, "a", is_kept)?;
+        let value = to_ion(alloc, &block)?;
+        assert!(rt; is_read_as(alloc, &value, &block)?);
+        assert!(rt; !is_read_annotated(alloc, value)?);
     }
     Ok(())
 }

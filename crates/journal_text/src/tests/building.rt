@@ -1,12 +1,21 @@
 //! Journals of three lines. The first transaction creates the tables `t` and `w` and inserts two documents into `t`. The
 //! second one makes an index on the field `a` of `t`, drops `w`, changes the first document, deletes the second one, and
-//! inserts a third one. What the last one does is the test's.
+//! inserts a third one. What the last one does is the test's. Each is told in steps, with `, ` between them:
+//!
+//! - `create NAME TABLE`, `index FIELD TABLE` and `drop NAME TABLE` change the schema,
+//! - `put CONTENT TABLE DOCUMENT VERSION` adds a revision of the address, the time and the transaction so far, and a
+//!   content of `-` is a deletion's,
+//! - `strand`, `sequence`, `tx`, `second` and `microsecond` set a part of the header: the last two set the second of the
+//!   year 2020 in UTC, with three and with six digits behind it,
+//! - `table TABLE` adds a table of no revision, `forget table` takes the last table away, and `forget hash` makes the last
+//!   revision's hash zeros.
+//!
+//! An id is the number of its transaction, and a digit, the number of the thing in it.
 use crate::line;
 use block_form::{revision_hash, seal, strand_hash};
-use ion_values::{Body, Field, IonTime, Precision, TimeParts, Value};
-use ledger_model::{
-    Block, Content, Header, Info, Metadata, Revision, Revisions, Schema, SchemaList, TableIds,
-};
+use ion_text::read_stream;
+use ion_values::{IonTime, Precision, TimeParts, Values};
+use ledger_model::{Block, Content, Header, Info, Metadata, Revision, Revisions, Schema};
 use lists::{Sequence, Text};
 use ql_types::{BlockAddress, DocId, Hash32, Place, StrandId, TableId, TxId};
 use std::alloc::Global;
@@ -14,38 +23,36 @@ use std::test::Fail;
 
 pub const STRAND: StrandId = StrandId { raw: 0 };
 
-/// Thing number `thing` of transaction number `number`.
-pub fn id(number: u64, thing: u32) -> u128 {
-    (u128::from(number) << 24) | u128::from(thing)
-}
+pub const ZEROS: Hash32 = Hash32 { bytes: [0; 32] };
 
-pub fn table(number: u64, thing: u32) -> TableId {
-    TableId {
-        raw: id(number, thing),
-    }
-}
+/// The steps of the first transaction: where it stands, whose it is and when it was made, and what it did.
+const FIRST: [&str; 2] = [
+    "tx 10, sequence 0, second 10",
+    "create t 11, create w 12, put {a:1} 11 13 0, put {a:2} 11 14 0",
+];
 
-pub fn document(number: u64, thing: u32) -> DocId {
-    DocId {
-        raw: id(number, thing),
-    }
-}
+const SECOND: [&str; 2] = [
+    "tx 20, sequence 1, second 20",
+    "index a 11, drop w 12, put {a:3} 11 13 1, put - 11 14 1, put {a:4} 11 21 0",
+];
 
-pub fn transaction(number: u64) -> TxId {
-    TxId { raw: id(number, 0) }
-}
+/// The first steps of the last transaction.
+pub const THIRD: &str = "tx 30, sequence 2, second 30";
 
-pub fn text(alloc: Global, name: &str) -> Result<Text, Fail> {
-    Ok(Text::from_text(alloc, name)?)
-}
+/// Further steps of the last transaction, with nothing wrong: it creates the table `w` again and inserts into it, changes
+/// the first document and deletes the third one.
+pub const RIGHT: &str =
+    "create w 31, index b 11, put {a:5} 31 32 0, put {a:6} 11 13 2, put - 11 21 1";
 
-/// A second of the first minute of 2020 in UTC, with three digits behind it.
-pub fn second(at: u8) -> Result<IonTime, Fail> {
-    second_with(at, 3)
+fn id(text: &str) -> Result<u128, Fail> {
+    let number = text.parse::<u128>()?;
+    let begin = (number / 10).checked_mul(1 << 24).ok_or("a great id")?;
+    Ok(begin | (number % 10))
 }
 
 /// A second of the first minute of 2020 in UTC, with so many digits behind it.
-pub fn second_with(second: u8, digits: u8) -> Result<IonTime, Fail> {
+fn time(second: &str, digits: u8) -> Result<IonTime, Fail> {
+    let second = second.parse::<u8>()?;
     let time = IonTime::new(TimeParts {
         precision: Precision::Second,
         year: 2020,
@@ -61,111 +68,146 @@ pub fn second_with(second: u8, digits: u8) -> Result<IonTime, Fail> {
     Ok(time)
 }
 
-/// The struct `{a:n}`.
-pub fn kept(alloc: Global, n: i128) -> Result<Content, Fail> {
-    let mut fields = Sequence::new(alloc);
-    fields.push(Field {
-        name: text(alloc, "a")?,
-        value: Value {
-            annotations: Sequence::new(alloc),
-            body: Body::Int(n),
-        },
-    })?;
-    Ok(Content::Kept(Value {
-        annotations: Sequence::new(alloc),
-        body: Body::Struct(fields),
-    }))
+/// The values of an Ion text.
+pub fn values(alloc: Global, text: &str) -> Result<Values, Fail> {
+    match read_stream(alloc, text.as_bytes(), 80) {
+        Ok(values) => Ok(values),
+        Err(_) => Err("no Ion".into()),
+    }
+}
+
+fn content(alloc: Global, text: &str) -> Result<Content, Fail> {
+    if text == "-" {
+        return Ok(Content::Deleted);
+    }
+    let value = values(alloc, text)?.pop().ok_or("no value")?;
+    Ok(Content::Kept(value))
 }
 
 /// What a block is made of but for its hashes.
 #[derive(Drop)]
 pub struct Parts {
     pub header: Header,
-    pub schema: SchemaList,
-    pub tables: TableIds,
+    pub info: Info,
     pub revisions: Revisions,
 }
 
 impl Parts {
-    /// The block of transaction number `number` at this place, made so many seconds after the year's begin.
-    pub fn new(alloc: Global, number: u64, sequence: u64, at: u8) -> Result<Parts, Fail> {
+    /// The first parts of the strand, of nothing and of no transaction.
+    fn new(alloc: Global) -> Result<Parts, Fail> {
+        let time = time("0", 3)?;
         Ok(Parts {
             header: Header {
                 address: BlockAddress {
                     strand: STRAND,
-                    sequence,
+                    sequence: 0,
                 },
-                tx: transaction(number),
-                time: second(at)?,
+                tx: TxId { raw: 0 },
+                time,
                 revisions: 0,
             },
-            schema: Sequence::new(alloc),
-            tables: Sequence::new(alloc),
+            info: Info {
+                place: Place {
+                    session: 1,
+                    transaction: 1,
+                },
+                said: Sequence::new(alloc),
+                schema: Sequence::new(alloc),
+                tables: Sequence::new(alloc),
+            },
             revisions: Sequence::new(alloc),
         })
     }
 
-    pub fn create(&mut self, alloc: Global, name: &str, table: TableId) -> Result<(), Fail> {
-        let name = text(alloc, name)?;
-        self.schema.push(Schema::Create { name, table })?;
+    /// The parts that steps make, the ones that begin and the others.
+    pub fn of(alloc: Global, begin: &str, steps: &str) -> Result<Parts, Fail> {
+        let mut parts = Parts::new(alloc)?;
+        parts.take_all(alloc, begin)?;
+        parts.take_all(alloc, steps)?;
+        Ok(parts)
+    }
+
+    fn take_all(&mut self, alloc: Global, steps: &str) -> Result<(), Fail> {
+        for step in steps.split(", ") {
+            self.take(alloc, step)?;
+        }
         Ok(())
     }
 
-    pub fn index(&mut self, alloc: Global, field: &str, table: TableId) -> Result<(), Fail> {
-        let field = text(alloc, field)?;
-        self.schema.push(Schema::Index { field, table })?;
+    fn take(&mut self, alloc: Global, step: &str) -> Result<(), Fail> {
+        let (verb, rest) = step.split_once(' ').ok_or("no step")?;
+        match rest.split_once(' ') {
+            None => self.set(verb, rest),
+            Some((content, ids)) if verb == "put" => self.put(alloc, content, ids),
+            Some((name, table)) => self.change(alloc, verb, name, table),
+        }
+    }
+
+    fn set(&mut self, verb: &str, to: &str) -> Result<(), Fail> {
+        match verb {
+            "strand" => self.header.address.strand.raw = to.parse::<u128>()?,
+            "sequence" => self.header.address.sequence = to.parse::<u64>()?,
+            "tx" => self.header.tx.raw = id(to)?,
+            "second" => self.header.time = time(to, 3)?,
+            "microsecond" => self.header.time = time(to, 6)?,
+            "table" => self.info.tables.push(TableId { raw: id(to)? })?,
+            "forget" => self.forget(to)?,
+            _ => return Err("no step".into()),
+        }
         Ok(())
     }
 
-    pub fn drop(&mut self, alloc: Global, name: &str, table: TableId) -> Result<(), Fail> {
-        let name = text(alloc, name)?;
-        self.schema.push(Schema::Drop { name, table })?;
+    fn forget(&mut self, what: &str) -> Result<(), Fail> {
+        if what == "table" {
+            self.info.tables.pop();
+            return Ok(());
+        }
+        let mut revision = self.revisions.pop().ok_or("no revision")?;
+        revision.hash = ZEROS;
+        self.revisions.push(revision)?;
         Ok(())
     }
 
-    /// A revision with the block's address, time and transaction.
-    pub fn revise(
-        &mut self,
-        alloc: Global,
-        table: TableId,
-        id: DocId,
-        version: u64,
-        content: Content,
-    ) -> Result<(), Fail> {
-        let metadata = Metadata {
-            id,
-            version,
+    fn change(&mut self, alloc: Global, verb: &str, name: &str, table: &str) -> Result<(), Fail> {
+        let table = TableId { raw: id(table)? };
+        let name = Text::from_text(alloc, name)?;
+        self.info.schema.push(match verb {
+            "create" => Schema::Create { name, table },
+            "index" => Schema::Index { field: name, table },
+            "drop" => Schema::Drop { name, table },
+            _ => return Err("no step".into()),
+        })?;
+        Ok(())
+    }
+
+    fn metadata(&self, ids: &str) -> Result<Metadata, Fail> {
+        let (document, version) = ids.split_once(' ').ok_or("no version")?;
+        Ok(Metadata {
+            id: DocId { raw: id(document)? },
+            version: version.parse::<u64>()?,
             time: self.header.time,
             tx: self.header.tx,
-        };
-        self.put(alloc, table, self.header.address, metadata, content)
+        })
     }
 
-    /// A revision with its hash.
-    pub fn put(
-        &mut self,
-        alloc: Global,
-        table: TableId,
-        address: BlockAddress,
-        metadata: Metadata,
-        content: Content,
-    ) -> Result<(), Fail> {
+    fn revision(&self, alloc: Global, text: &str, metadata: Metadata) -> Result<Revision, Fail> {
+        let content = content(alloc, text)?;
         let hash = revision_hash(alloc, &content, &metadata)?;
-        self.put_hashed(
-            table,
-            Revision {
-                address,
-                hash,
-                content,
-                metadata,
-            },
-        )
+        Ok(Revision {
+            address: self.header.address,
+            hash,
+            content,
+            metadata,
+        })
     }
 
-    /// A revision as it is.
-    pub fn put_hashed(&mut self, table: TableId, revision: Revision) -> Result<(), Fail> {
-        self.tables.push(table)?;
+    fn put(&mut self, alloc: Global, text: &str, ids: &str) -> Result<(), Fail> {
+        let (table, ids) = ids.split_once(' ').ok_or("no document")?;
+        let table = TableId { raw: id(table)? };
+        let metadata = self.metadata(ids)?;
+        let revision = self.revision(alloc, text, metadata)?;
         self.revisions.push(revision)?;
+        self.info.tables.push(table)?;
         Ok(())
     }
 
@@ -173,73 +215,58 @@ impl Parts {
     pub fn sealed(self, alloc: Global, previous: Hash32) -> Result<Block, Fail> {
         let Parts {
             mut header,
-            schema,
-            tables,
+            info,
             revisions,
         } = self;
-        header.revisions = u32::try_from(revisions.len()).map_err(|_| "too many revisions")?;
-        let info = Info {
-            place: Place {
-                session: 1,
-                transaction: 1,
-            },
-            said: Sequence::new(alloc),
-            schema,
-            tables,
-        };
+        header.revisions = u32::try_from(revisions.len())?;
         Ok(seal(alloc, previous, header, info, revisions)?)
     }
 }
 
-pub fn first(alloc: Global) -> Result<Block, Fail> {
-    let mut parts = Parts::new(alloc, 1, 0, 10)?;
-    parts.create(alloc, "t", table(1, 1))?;
-    parts.create(alloc, "w", table(1, 2))?;
-    parts.revise(alloc, table(1, 1), document(1, 3), 0, kept(alloc, 1)?)?;
-    parts.revise(alloc, table(1, 1), document(1, 4), 0, kept(alloc, 2)?)?;
-    parts.sealed(alloc, strand_hash(alloc, STRAND)?)
+/// The block of these steps behind the block of this hash.
+pub fn block(alloc: Global, previous: Hash32, steps: [&str; 2]) -> Result<Block, Fail> {
+    let [begin, steps] = steps;
+    Parts::of(alloc, begin, steps)?.sealed(alloc, previous)
 }
 
-pub fn second_block(alloc: Global, previous: Hash32) -> Result<Block, Fail> {
-    let mut parts = Parts::new(alloc, 2, 1, 20)?;
-    parts.index(alloc, "a", table(1, 1))?;
-    parts.drop(alloc, "w", table(1, 2))?;
-    parts.revise(alloc, table(1, 1), document(1, 3), 1, kept(alloc, 3)?)?;
-    parts.revise(alloc, table(1, 1), document(1, 4), 1, Content::Deleted)?;
-    parts.revise(alloc, table(1, 1), document(2, 1), 0, kept(alloc, 4)?)?;
-    parts.sealed(alloc, previous)
+/// Puts the line of this block behind the lines, and tells the block's hash.
+fn put_line(
+    alloc: Global,
+    lines: &mut Text,
+    previous: Hash32,
+    steps: [&str; 2],
+) -> Result<Hash32, Fail> {
+    let block = block(alloc, previous, steps)?;
+    let text = line(alloc, &block)?;
+    lines.push_str(text.as_str())?;
+    Ok(block.hash)
 }
 
-/// The last block's parts without what its transaction did.
-pub fn third(alloc: Global) -> Result<Parts, Fail> {
-    Parts::new(alloc, 3, 2, 30)
-}
-
-/// The last block where nothing is wrong: it creates the table `w` again and inserts into it, changes the first document
-/// and deletes the third one.
-pub fn right(alloc: Global) -> Result<Parts, Fail> {
-    let mut parts = third(alloc)?;
-    parts.create(alloc, "w", table(3, 1))?;
-    parts.index(alloc, "b", table(1, 1))?;
-    parts.revise(alloc, table(3, 1), document(3, 2), 0, kept(alloc, 5)?)?;
-    parts.revise(alloc, table(1, 1), document(1, 3), 2, kept(alloc, 6)?)?;
-    parts.revise(alloc, table(1, 1), document(2, 1), 1, Content::Deleted)?;
-    Ok(parts)
+/// The first line, and its block's hash.
+pub fn first(alloc: Global) -> Result<(Text, Hash32), Fail> {
+    let previous = strand_hash(alloc, STRAND)?;
+    let mut lines = Text::new(alloc);
+    let hash = put_line(alloc, &mut lines, previous, FIRST)?;
+    Ok((lines, hash))
 }
 
 /// The first two lines, and the second block's hash.
 pub fn beginning(alloc: Global) -> Result<(Text, Hash32), Fail> {
-    let first = first(alloc)?;
-    let next = second_block(alloc, first.hash)?;
-    let mut lines = line(alloc, &first)?;
-    lines.push_str(line(alloc, &next)?.as_str())?;
-    Ok((lines, next.hash))
+    let (mut lines, hash) = first(alloc)?;
+    let hash = put_line(alloc, &mut lines, hash, SECOND)?;
+    Ok((lines, hash))
 }
 
-/// The journal whose last line is that of these parts.
-pub fn journal(alloc: Global, parts: Parts) -> Result<Text, Fail> {
+/// The line of the last block behind the block of this hash.
+pub fn last_line(alloc: Global, previous: Hash32, steps: &str) -> Result<Text, Fail> {
+    let mut lines = Text::new(alloc);
+    put_line(alloc, &mut lines, previous, [THIRD, steps])?;
+    Ok(lines)
+}
+
+/// The journal whose last block is that of these steps.
+pub fn journal(alloc: Global, steps: &str) -> Result<Text, Fail> {
     let (mut lines, hash) = beginning(alloc)?;
-    let last = parts.sealed(alloc, hash)?;
-    lines.push_str(line(alloc, &last)?.as_str())?;
+    put_line(alloc, &mut lines, hash, [THIRD, steps])?;
     Ok(lines)
 }

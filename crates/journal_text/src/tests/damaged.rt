@@ -1,59 +1,112 @@
 //! Journals whose last line fails one of the checks on its form, its place, its transaction, its time and its hashes.
-use super::building::{Parts, beginning, document, first, journal, kept, right, table, third};
+use super::building::{RIGHT, THIRD, ZEROS, beginning, block, first, journal, last_line};
 use crate::{JournalFault, line, read_journal};
-use ledger_model::{Block, Damage, Metadata, Revision};
-use ql_types::{Hash, Hash32, StrandId, TxId};
+use ledger_model::{Block, Damage};
+use lists::Text;
+use ql_types::{Hash, Hash32};
 use std::alloc::Global;
 use std::test::Fail;
 
-const ZEROS: Hash32 = Hash32 { bytes: [0; 32] };
-
-/// The check that the last line fails, of a journal of which no other line is damaged.
-pub fn damage(alloc: Global, text: &str) -> Result<Damage, Fail> {
-    match read_journal(alloc, text.as_bytes()) {
-        Err(JournalFault::Damaged { sequence: 2, kind }) => Ok(kind),
-        _ => Err("the last line isn't damaged".into()),
+fn name(damage: Damage) -> &'static str {
+    match damage {
+        Damage::NotALine => "NotALine",
+        Damage::WrongAddress => "WrongAddress",
+        Damage::WrongId => "WrongId",
+        Damage::TimeFell => "TimeFell",
+        Damage::WrongPrevious => "WrongPrevious",
+        Damage::WrongHash => "WrongHash",
+        Damage::WrongState => "WrongState",
     }
 }
 
-/// The check that the line of these parts fails.
-pub fn damage_of(alloc: Global, parts: Parts) -> Result<Damage, Fail> {
-    let text = journal(alloc, parts)?;
-    damage(alloc, text.as_str())
+/// The check that the last line fails, of a journal of which no other line is damaged, or that the journal is read.
+fn told(alloc: Global, text: &str) -> &'static str {
+    match read_journal(alloc, text.as_bytes()) {
+        Ok(_) => "read",
+        Err(JournalFault::Damaged { sequence: 2, kind }) => name(kind),
+        Err(_) => "another fault",
+    }
 }
 
-/// Whether the journal with these parts as its last line is read.
-pub fn is_read(alloc: Global, parts: Parts) -> Result<bool, Fail> {
-    let text = journal(alloc, parts)?;
-    Ok(read_journal(alloc, text.as_str().as_bytes()).is_ok())
+/// Whether this is told of the journal with a text behind its first two lines.
+fn is_told(alloc: Global, last: &str, wanted: &str) -> Result<bool, Fail> {
+    let (mut lines, _) = beginning(alloc)?;
+    lines.push_str(last)?;
+    Ok(told(alloc, lines.as_str()) == wanted)
 }
 
-/// The journal with this block as its last.
-fn with_last(alloc: Global, last: &Block) -> Result<String, Fail> {
-    let (lines, _) = beginning(alloc)?;
-    let mut text = String::from_str(alloc, lines.as_str())?;
-    text.push_str(line(alloc, last)?.as_str())?;
-    Ok(text)
+/// Whether a row's steps have its end. A row that begins with `#` is a comment.
+pub fn row_is_told(alloc: Global, row: &str) -> Result<bool, Fail> {
+    if row.starts_with('#') {
+        return Ok(true);
+    }
+    let (steps, wanted) = row.split_once(" > ").ok_or("no row")?;
+    let text = journal(alloc, steps)?;
+    Ok(told(alloc, text.as_str()) == wanted)
 }
 
-/// The last block, with nothing wrong.
-fn last(alloc: Global) -> Result<Block, Fail> {
+/// What the last transaction does, and what is told of the journal.
+const ROWS: &str = "# documents fit the revisions
+create w 31, index b 11, put {a:5} 31 32 0, put {a:6} 11 13 2, put - 11 21 1, table 11 > read
+create w 31, index b 11, put {a:5} 31 32 0, put {a:6} 11 13 2, put - 11 21 1, forget table > NotALine
+# an address is the place in the strand
+sequence 0 > WrongAddress
+sequence 1 > WrongAddress
+sequence 3 > WrongAddress
+sequence 18446744073709551615 > WrongAddress
+strand 1 > WrongAddress
+# an id is a new transaction's
+# no transaction, a thing of one, a number that is too great, and the transactions of the blocks before
+tx 0 > WrongId
+tx 31 > WrongId
+tx 184467440737095516160 > WrongId
+tx 10 > WrongId
+tx 20 > WrongId
+tx 184467440737095516150 > read
+# time does not fall
+second 19 > TimeFell
+second 20 > read
+# a revision has its hash
+put {a:6} 11 13 2, forget hash > WrongHash
+# the first check that fails is told
+tx 20, sequence 1, second 19, drop x 11 > WrongAddress
+tx 20, second 19, drop x 11 > WrongId
+second 19, drop x 11 > TimeFell";
+
+#[test]
+fn each_check_is_made(rt: HostRuntime) -> Result<(), Fail> {
+    let alloc = rt.alloc();
+    for row in ROWS.lines() {
+        assert!(rt; row_is_told(alloc, row)?, "{row}");
+    }
+    Ok(())
+}
+
+/// The second block's hash.
+fn second_hash(alloc: Global) -> Result<Hash32, Fail> {
     let (_, hash) = beginning(alloc)?;
-    right(alloc)?.sealed(alloc, hash)
+    Ok(hash)
 }
 
-/// The journal in whose last line the first place of a text is changed to another one.
-fn changed(alloc: Global, old: &str, new: &str) -> Result<String, Fail> {
-    let (lines, _) = beginning(alloc)?;
-    let last = line(alloc, &last(alloc)?)?;
-    let Some((front, back)) = last.as_str().split_once(old) else {
-        return Err("no such text".into());
-    };
-    let mut text = String::from_str(alloc, lines.as_str())?;
-    text.push_str(front)?;
+/// The last line, with nothing wrong.
+fn right_line(alloc: Global) -> Result<Text, Fail> {
+    last_line(alloc, second_hash(alloc)?, RIGHT)
+}
+
+/// A line in which the first place of a text is changed to another one.
+fn changed(alloc: Global, line: &str, old: &str, new: &str) -> Result<Text, Fail> {
+    let (front, back) = line.split_once(old).ok_or("no such text")?;
+    let mut text = Text::from_text(alloc, front)?;
     text.push_str(new)?;
     text.push_str(back)?;
     Ok(text)
+}
+
+/// Whether the journal with the row's change of its last line has no block there.
+fn is_no_line(alloc: Global, line: &str, row: &str) -> Result<bool, Fail> {
+    let (old, new) = row.split_once('>').ok_or("no row")?;
+    let text = changed(alloc, line, old, new)?;
+    is_told(alloc, text.as_str(), "NotALine")
 }
 
 /// What stands in the last line, and what it is changed to.
@@ -87,10 +140,9 @@ data:{a:5}>data:[[[[[[[[[[[[[[[[[[[[[[[[[[[[[[[[[[[[[[[[[[[[[[[[[[[[[[[[[[[[[[[[
 #[test]
 fn another_form_is_no_line(rt: HostRuntime) -> Result<(), Fail> {
     let alloc = rt.alloc();
+    let line = right_line(alloc)?;
     for row in OTHER_FORMS.lines() {
-        let (old, new) = row.split_once('>').ok_or("no row")?;
-        let text = changed(alloc, old, new)?;
-        assert_eq!(rt; damage(alloc, text.as_str())?, Damage::NotALine, "{row}");
+        assert!(rt; is_no_line(alloc, line.as_str(), row)?, "{row}");
     }
     Ok(())
 }
@@ -98,173 +150,66 @@ fn another_form_is_no_line(rt: HostRuntime) -> Result<(), Fail> {
 #[test]
 fn other_lines_are_no_lines(rt: HostRuntime) -> Result<(), Fail> {
     let alloc = rt.alloc();
-    let (lines, _) = beginning(alloc)?;
     for other in ["\n", "5\n", "{}\n", "[\n", "\"\n"] {
-        let mut text = String::from_str(alloc, lines.as_str())?;
-        text.push_str(other)?;
-        assert_eq!(rt; damage(alloc, text.as_str())?, Damage::NotALine);
+        assert!(rt; is_told(alloc, other, "NotALine")?, "{other}");
     }
-    Ok(())
-}
-
-#[test]
-fn documents_fit_the_revisions(rt: HostRuntime) -> Result<(), Fail> {
-    let alloc = rt.alloc();
-    let mut parts = right(alloc)?;
-    parts.tables.push(table(1, 1))?;
-    assert!(rt; is_read(alloc, parts)?);
-    let mut parts = right(alloc)?;
-    parts.tables.pop();
-    assert_eq!(rt; damage_of(alloc, parts)?, Damage::NotALine);
-    Ok(())
-}
-
-#[test]
-fn an_address_is_the_place_in_the_strand(rt: HostRuntime) -> Result<(), Fail> {
-    let alloc = rt.alloc();
-    for sequence in [0, 1, 3, u64::MAX] {
-        let mut parts = third(alloc)?;
-        parts.header.address.sequence = sequence;
-        assert_eq!(rt; damage_of(alloc, parts)?, Damage::WrongAddress);
-    }
-    let mut parts = third(alloc)?;
-    parts.header.address.strand = StrandId { raw: 1 };
-    assert_eq!(rt; damage_of(alloc, parts)?, Damage::WrongAddress);
-    Ok(())
-}
-
-#[test]
-fn an_id_is_a_new_transaction_s(rt: HostRuntime) -> Result<(), Fail> {
-    let alloc = rt.alloc();
-    // no transaction, a thing of one, a number that is too great, and the transactions of the blocks before
-    for raw in [0, (3 << 24) + 1, 1 << 88, 1 << 24, 2 << 24] {
-        let mut parts = third(alloc)?;
-        parts.header.tx = TxId { raw };
-        assert_eq!(rt; damage_of(alloc, parts)?, Damage::WrongId);
-    }
-    let mut parts = third(alloc)?;
-    parts.header.tx = TxId {
-        raw: ((1 << 64) - 1) << 24,
-    };
-    assert!(rt; is_read(alloc, parts)?);
-    Ok(())
-}
-
-#[test]
-fn time_does_not_fall(rt: HostRuntime) -> Result<(), Fail> {
-    let alloc = rt.alloc();
-    assert_eq!(rt;
-        damage_of(alloc, Parts::new(alloc, 3, 2, 19)?)?,
-        Damage::TimeFell
-    );
-    assert!(rt; is_read(alloc, Parts::new(alloc, 3, 2, 20)?)?);
     Ok(())
 }
 
 #[test]
 fn the_previous_hash_is_the_last_block_s(rt: HostRuntime) -> Result<(), Fail> {
     let alloc = rt.alloc();
-    let other = right(alloc)?.sealed(alloc, first(alloc)?.hash)?;
-    let text = with_last(alloc, &other)?;
-    assert_eq!(rt; damage(alloc, text.as_str())?, Damage::WrongPrevious);
+    let (_, hash) = first(alloc)?;
+    let other = last_line(alloc, hash, RIGHT)?;
+    assert!(rt; is_told(alloc, other.as_str(), "WrongPrevious")?);
     Ok(())
+}
+
+/// Makes one of the block's hashes wrong.
+fn alter(block: &mut Block, what: &str) -> Result<(), Fail> {
+    match what {
+        "block" => block.hash = ZEROS,
+        "a digit" => block.hash.bytes[0] ^= 4,
+        "entries" => block.entries = ZEROS,
+        "info" => block.list[0] = Hash::Full(ZEROS),
+        "revisions" => block.list[1] = Hash::Full(ZEROS),
+        "no revisions" => block.list[1] = Hash::Empty,
+        "header" => block.list[2] = Hash::Full(ZEROS),
+        _ => return Err("no such hash".into()),
+    }
+    Ok(())
+}
+
+/// The last line where one of its hashes is wrong.
+fn altered(alloc: Global, what: &str) -> Result<Text, Fail> {
+    let hash = second_hash(alloc)?;
+    let mut block = block(alloc, hash, [THIRD, RIGHT])?;
+    alter(&mut block, what)?;
+    Ok(line(alloc, &block)?)
 }
 
 #[test]
 fn each_hash_is_the_computed_one(rt: HostRuntime) -> Result<(), Fail> {
     let alloc = rt.alloc();
-    let mut block = last(alloc)?;
-    block.hash = ZEROS;
-    assert_eq!(rt;
-        damage(alloc, with_last(alloc, &block)?.as_str())?,
-        Damage::WrongHash
-    );
-    let mut block = last(alloc)?;
-    block.entries = ZEROS;
-    assert_eq!(rt;
-        damage(alloc, with_last(alloc, &block)?.as_str())?,
-        Damage::WrongHash
-    );
-    for at in [0, 1, 2] {
-        let mut block = last(alloc)?;
-        block.list[at] = Hash::Full(ZEROS);
-        assert_eq!(rt;
-            damage(alloc, with_last(alloc, &block)?.as_str())?,
-            Damage::WrongHash
-        );
+    for what in "block/a digit/entries/info/revisions/no revisions/header".split('/') {
+        let text = altered(alloc, what)?;
+        assert!(rt; is_told(alloc, text.as_str(), "WrongHash")?, "{what}");
     }
-    let mut block = last(alloc)?;
-    block.list[1] = Hash::Empty;
-    assert_eq!(rt;
-        damage(alloc, with_last(alloc, &block)?.as_str())?,
-        Damage::WrongHash
-    );
-    Ok(())
-}
-
-#[test]
-fn a_revision_has_its_hash(rt: HostRuntime) -> Result<(), Fail> {
-    let alloc = rt.alloc();
-    let mut parts = third(alloc)?;
-    let Parts { header, .. } = &parts;
-    let revision = Revision {
-        address: header.address,
-        hash: ZEROS,
-        content: kept(alloc, 6)?,
-        metadata: Metadata {
-            id: document(1, 3),
-            version: 2,
-            time: header.time,
-            tx: header.tx,
-        },
-    };
-    parts.put_hashed(table(1, 1), revision)?;
-    assert_eq!(rt; damage_of(alloc, parts)?, Damage::WrongHash);
-    Ok(())
-}
-
-#[test]
-fn a_digit_of_the_block_s_hash_counts(rt: HostRuntime) -> Result<(), Fail> {
-    let alloc = rt.alloc();
-    let mut block = last(alloc)?;
-    block.hash.bytes[0] ^= 4;
-    assert_eq!(rt;
-        damage(alloc, with_last(alloc, &block)?.as_str())?,
-        Damage::WrongHash
-    );
-    Ok(())
-}
-
-#[test]
-fn the_first_check_that_fails_is_told(rt: HostRuntime) -> Result<(), Fail> {
-    let alloc = rt.alloc();
-    let mut parts = Parts::new(alloc, 2, 1, 19)?;
-    parts.drop(alloc, "x", table(1, 1))?;
-    assert_eq!(rt; damage_of(alloc, parts)?, Damage::WrongAddress);
-    let mut parts = Parts::new(alloc, 2, 2, 19)?;
-    parts.drop(alloc, "x", table(1, 1))?;
-    assert_eq!(rt; damage_of(alloc, parts)?, Damage::WrongId);
-    let mut parts = Parts::new(alloc, 3, 2, 19)?;
-    parts.drop(alloc, "x", table(1, 1))?;
-    assert_eq!(rt; damage_of(alloc, parts)?, Damage::TimeFell);
     Ok(())
 }
 
 #[test]
 fn an_earlier_line_is_told_first(rt: HostRuntime) -> Result<(), Fail> {
     let alloc = rt.alloc();
-    let text = journal(alloc, right(alloc)?)?;
-    let mut twice = String::from_str(alloc, text.as_str())?;
+    let text = journal(alloc, RIGHT)?;
+    let mut twice = Text::from_text(alloc, text.as_str())?;
     twice.push_str(text.as_str())?;
-    match read_journal(alloc, twice.as_bytes()) {
-        Err(fault) => assert!(rt;
-            fault
-                == JournalFault::Damaged {
-                    sequence: 3,
-                    kind: Damage::WrongAddress
-                }
-        ),
-        Ok(_) => return Err("a journal behind itself is read".into()),
-    }
+    let told = read_journal(alloc, twice.as_str().as_bytes()).err();
+    assert!(rt;
+        told == Some(JournalFault::Damaged {
+            sequence: 3,
+            kind: Damage::WrongAddress
+        })
+    );
     Ok(())
 }

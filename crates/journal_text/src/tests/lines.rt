@@ -1,19 +1,10 @@
+use super::building::{Parts, STRAND, values};
 use crate::line;
-use block_form::{revision_hash, seal, strand_hash};
-use ion_values::{Body, Field, IonTime, Precision, TimeParts, Value, Values};
-use ledger_model::{Answer, Block, Content, Header, Info, Metadata, Revision, Said, Schema};
-use lists::{Sequence, Text};
-use ql_types::{BlockAddress, DocId, Place, StrandId, TableId, TxId};
+use block_form::strand_hash;
+use ledger_model::{Answer, Said, SaidList};
+use lists::Text;
 use std::alloc::Global;
 use std::test::Fail;
-
-const STRAND: StrandId = StrandId { raw: 0 };
-
-const TX: TxId = TxId { raw: 1 << 24 };
-
-const TABLE: TableId = TableId { raw: (1 << 24) + 1 };
-
-const DOCUMENT: DocId = DocId { raw: (1 << 24) + 2 };
 
 /// The line of the block of one transaction, at the beginning of 2020 in UTC: it created the table `t`, inserted `{a:5}`
 /// and selected it. ../block_form/vectors/make.py prints it.
@@ -37,125 +28,49 @@ const LINE: &str = "{blockAddress:{strandId:\"0000000000000000000000\",sequenceN
     metadata:{id:\"0000000000000000018OWI\",version:0,txTime:2020-01-01T00:00:00.000Z,\
     txId:\"0000000000000000018OWG\"}}]}\n";
 
-/// A struct of one field.
-fn structure(alloc: Global, name: &str, body: Body) -> Result<Value, Fail> {
-    let mut fields = Sequence::new(alloc);
-    fields.push(Field {
-        name: Text::from_text(alloc, name)?,
-        value: Value {
-            annotations: Sequence::new(alloc),
-            body,
-        },
-    })?;
-    Ok(Value {
-        annotations: Sequence::new(alloc),
-        body: Body::Struct(fields),
-    })
-}
+/// What the transaction did.
+const STEPS: &str = "create t 11, put {a:5} 11 12 0";
 
-/// A list of one struct of one field.
-fn rows(alloc: Global, name: &str, body: Body) -> Result<Values, Fail> {
-    let mut rows = Sequence::new(alloc);
-    rows.push(structure(alloc, name, body)?)?;
-    Ok(rows)
-}
+/// What it said, between bars: a statement, its parameters and its answer.
+const SAID: &str = "CREATE TABLE t||{tableId:\"0000000000000000018OWH\"}
+INSERT INTO t ?|{a:5}|{documentId:\"0000000000000000018OWI\"}
+SELECT * FROM t||{a:5}";
 
-fn string(alloc: Global, text: &str) -> Result<Body, Fail> {
-    Ok(Body::String(Text::from_text(alloc, text)?))
-}
-
-fn said(alloc: Global, text: &str, params: Values, rows: Values) -> Result<Said, Fail> {
+fn said(alloc: Global, row: &str) -> Result<Said, Fail> {
+    let (text, row) = row.split_once('|').ok_or("no parameters")?;
+    let (params, rows) = row.split_once('|').ok_or("no answer")?;
+    let text = Text::from_text(alloc, text)?;
+    let params = values(alloc, params)?;
+    let rows = values(alloc, rows)?;
     Ok(Said {
-        text: Text::from_text(alloc, text)?,
+        text,
         params,
         answer: Answer { rows },
     })
 }
 
-fn info(alloc: Global) -> Result<Info, Fail> {
-    let none = Sequence::new(alloc);
-    let made = rows(alloc, "tableId", string(alloc, "0000000000000000018OWH")?)?;
-    let put = rows(
-        alloc,
-        "documentId",
-        string(alloc, "0000000000000000018OWI")?,
-    )?;
-    let five = rows(alloc, "a", Body::Int(5))?;
-    let found = rows(alloc, "a", Body::Int(5))?;
-    let mut all = Sequence::new(alloc);
-    all.push(said(alloc, "CREATE TABLE t", none, made)?)?;
-    all.push(said(alloc, "INSERT INTO t ?", five, put)?)?;
-    all.push(said(alloc, "SELECT * FROM t", Sequence::new(alloc), found)?)?;
-    let mut schema = Sequence::new(alloc);
-    schema.push(Schema::Create {
-        name: Text::from_text(alloc, "t")?,
-        table: TABLE,
-    })?;
-    let mut tables = Sequence::new(alloc);
-    tables.push(TABLE)?;
-    Ok(Info {
-        place: Place {
-            session: 1,
-            transaction: 1,
-        },
-        said: all,
-        schema,
-        tables,
-    })
+fn say(alloc: Global, all: &mut SaidList) -> Result<(), Fail> {
+    for row in SAID.lines() {
+        all.push(said(alloc, row)?)?;
+    }
+    Ok(())
 }
 
-/// The beginning of 2020 in UTC, with three digits behind the second.
-fn new_year() -> Result<IonTime, Fail> {
-    let time = IonTime::new(TimeParts {
-        precision: Precision::Second,
-        year: 2020,
-        month: 1,
-        day: 1,
-        hour: 0,
-        minute: 0,
-        second: 0,
-        digits: 3,
-        nanos: 0,
-        offset: Some(0),
-    })?;
-    Ok(time)
+fn parts(alloc: Global) -> Result<Parts, Fail> {
+    let mut parts = Parts::of(alloc, "tx 10, sequence 0, second 0", STEPS)?;
+    say(alloc, &mut parts.info.said)?;
+    Ok(parts)
 }
 
-fn block(alloc: Global) -> Result<Block, Fail> {
-    let address = BlockAddress {
-        strand: STRAND,
-        sequence: 0,
-    };
-    let metadata = Metadata {
-        id: DOCUMENT,
-        version: 0,
-        time: new_year()?,
-        tx: TX,
-    };
-    let content = Content::Kept(structure(alloc, "a", Body::Int(5))?);
-    let hash = revision_hash(alloc, &content, &metadata)?;
-    let mut revisions = Sequence::new(alloc);
-    revisions.push(Revision {
-        address,
-        hash,
-        content,
-        metadata,
-    })?;
-    let header = Header {
-        address,
-        tx: TX,
-        time: new_year()?,
-        revisions: 1,
-    };
+fn sealed_line(alloc: Global) -> Result<Text, Fail> {
     let previous = strand_hash(alloc, STRAND)?;
-    let block = seal(alloc, previous, header, info(alloc)?, revisions)?;
-    Ok(block)
+    let block = parts(alloc)?.sealed(alloc, previous)?;
+    Ok(line(alloc, &block)?)
 }
 
 #[test]
 fn a_block_has_its_line(rt: HostRuntime) -> Result<(), Fail> {
-    let alloc = rt.alloc();
-    let text = line(alloc, &block(alloc)?)?;
+    let text = sealed_line(rt.alloc())?;
     assert_eq!(rt; text.as_str(), LINE);
     Ok(())
 }

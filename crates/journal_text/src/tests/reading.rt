@@ -1,7 +1,6 @@
 //! Journals that are read, whole and cut.
-use super::building::{beginning, journal, right};
-use crate::{JournalFault, read_journal};
-use ledger_model::Blocks;
+use super::building::{RIGHT, beginning, journal};
+use crate::read_journal;
 use std::alloc::Global;
 use std::test::Fail;
 
@@ -22,19 +21,24 @@ fn an_empty_journal_has_no_blocks(rt: HostRuntime) -> Result<(), Fail> {
 #[test]
 fn three_lines_are_three_blocks(rt: HostRuntime) -> Result<(), Fail> {
     let alloc = rt.alloc();
-    let text = journal(alloc, right(alloc)?)?;
+    let text = journal(alloc, RIGHT)?;
     let bytes = text.as_str().as_bytes();
     assert_eq!(rt; read(alloc, bytes)?, (3, bytes.len() as u64));
     Ok(())
 }
 
+/// How many bytes the first two lines have.
+fn whole(alloc: Global) -> Result<usize, Fail> {
+    let (two, _) = beginning(alloc)?;
+    Ok(two.len())
+}
+
 #[test]
 fn a_line_without_its_end_is_a_rest(rt: HostRuntime) -> Result<(), Fail> {
     let alloc = rt.alloc();
-    let (two, _) = beginning(alloc)?;
-    let text = journal(alloc, right(alloc)?)?;
+    let whole = whole(alloc)?;
+    let text = journal(alloc, RIGHT)?;
     let bytes = text.as_str().as_bytes();
-    let whole = two.len();
     let last = bytes.len().saturating_sub(1);
     for cut in [
         whole,

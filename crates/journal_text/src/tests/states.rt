@@ -1,243 +1,72 @@
-//! Journals whose last block can't follow the blocks before it: one row for each condition.
-use super::building::{STRAND, document, kept, second, second_with, table, third, transaction};
-use super::damaged::{damage_of, is_read};
-use ion_values::IonTime;
-use ledger_model::{Content, Damage, Metadata};
-use ql_types::{BlockAddress, StrandId, TxId};
-use std::alloc::Global;
+//! Journals whose last block can't follow the blocks before it: rows for each condition.
+use super::damaged::row_is_told;
 use std::test::Fail;
 
-#[test]
-fn a_new_table_has_a_new_name(rt: HostRuntime) -> Result<(), Fail> {
-    let alloc = rt.alloc();
-    let mut parts = third(alloc)?;
-    parts.create(alloc, "t", table(3, 1))?;
-    assert_eq!(rt; damage_of(alloc, parts)?, Damage::WrongState);
-    let mut parts = third(alloc)?;
-    parts.create(alloc, "u", table(3, 1))?;
-    parts.create(alloc, "u", table(3, 2))?;
-    assert_eq!(rt; damage_of(alloc, parts)?, Damage::WrongState);
-    // a dropped table's name is free, also in the block that drops it
-    let mut parts = third(alloc)?;
-    parts.create(alloc, "w", table(3, 1))?;
-    parts.drop(alloc, "w", table(3, 1))?;
-    parts.create(alloc, "w", table(3, 2))?;
-    assert!(rt; is_read(alloc, parts)?);
-    Ok(())
-}
+/// What the last transaction does, and what is told of the journal.
+const ROWS: &str = "# a new table has a new name
+create t 31 > WrongState
+create u 31, create u 32 > WrongState
+# a dropped table's name is free, also in the block that drops it
+create w 31, drop w 31, create w 32 > read
+# a new table has an id of its transaction
+create u 25 > WrongState
+create u 41 > WrongState
+create u 30 > WrongState
+create u 11 > WrongState
+# a new document has an id of its transaction
+put {a:5} 11 25 0 > WrongState
+put {a:5} 11 41 0 > WrongState
+put {a:5} 11 30 0 > WrongState
+# new ids differ
+create u 31, create v 31 > WrongState
+create u 31, put {a:5} 11 31 0 > WrongState
+# an index is new on an active table
+index a 11 > WrongState
+index b 12 > WrongState
+index b 99 > WrongState
+index b 11, index b 11 > WrongState
+# a drop names an active table by name and id
+drop w 12 > WrongState
+drop t 12 > WrongState
+drop w 11 > WrongState
+drop x 11 > WrongState
+drop t 11 > read
+# a revision has its block's time
+second 29, put {a:6} 11 13 2, second 30 > WrongState
+# the same moment, told more exactly
+microsecond 30, put {a:6} 11 13 2, second 30 > WrongState
+# a revision has its block's transaction
+tx 20, put {a:6} 11 13 2, tx 30 > WrongState
+# a revision has its block's address
+sequence 1, put {a:6} 11 13 2, sequence 2 > WrongState
+strand 1, put {a:6} 11 13 2, strand 0 > WrongState
+# a revision of its block is read
+put {a:6} 11 13 2 > read
+# a revision's table is active or new
+put {a:5} 12 31 0 > WrongState
+put {a:5} 99 31 0 > WrongState
+# it was active before the block
+drop t 11, put {a:5} 11 31 0 > read
+# a document has one revision in a block
+put {a:6} 11 13 2, put {a:7} 11 13 2 > WrongState
+put {a:6} 11 31 0, put {a:7} 11 31 0 > WrongState
+# a new document has version 0 and content
+put {a:6} 11 31 1 > WrongState
+put - 11 31 0 > WrongState
+# a document goes on in its table by one version
+put {a:6} 11 13 0 > WrongState
+put {a:6} 11 13 1 > WrongState
+put {a:6} 11 13 3 > WrongState
+create u 31, put {a:6} 31 13 2 > WrongState
+# a deleted document has no next revision
+put {a:6} 11 14 2 > WrongState
+put - 11 14 2 > WrongState";
 
 #[test]
-fn a_new_table_has_an_id_of_its_transaction(rt: HostRuntime) -> Result<(), Fail> {
+fn each_condition_is_checked(rt: HostRuntime) -> Result<(), Fail> {
     let alloc = rt.alloc();
-    for (number, thing) in [(2, 5), (4, 1), (3, 0), (1, 1)] {
-        let mut parts = third(alloc)?;
-        parts.create(alloc, "u", table(number, thing))?;
-        assert_eq!(rt; damage_of(alloc, parts)?, Damage::WrongState);
+    for row in ROWS.lines() {
+        assert!(rt; row_is_told(alloc, row)?, "{row}");
     }
-    Ok(())
-}
-
-#[test]
-fn a_new_document_has_an_id_of_its_transaction(rt: HostRuntime) -> Result<(), Fail> {
-    let alloc = rt.alloc();
-    for (number, thing) in [(2, 5), (4, 1), (3, 0)] {
-        let mut parts = third(alloc)?;
-        parts.revise(
-            alloc,
-            table(1, 1),
-            document(number, thing),
-            0,
-            kept(alloc, 5)?,
-        )?;
-        assert_eq!(rt; damage_of(alloc, parts)?, Damage::WrongState);
-    }
-    Ok(())
-}
-
-#[test]
-fn new_ids_differ(rt: HostRuntime) -> Result<(), Fail> {
-    let alloc = rt.alloc();
-    let mut parts = third(alloc)?;
-    parts.create(alloc, "u", table(3, 1))?;
-    parts.create(alloc, "v", table(3, 1))?;
-    assert_eq!(rt; damage_of(alloc, parts)?, Damage::WrongState);
-    let mut parts = third(alloc)?;
-    parts.create(alloc, "u", table(3, 1))?;
-    parts.revise(alloc, table(1, 1), document(3, 1), 0, kept(alloc, 5)?)?;
-    assert_eq!(rt; damage_of(alloc, parts)?, Damage::WrongState);
-    Ok(())
-}
-
-#[test]
-fn an_index_is_new_on_an_active_table(rt: HostRuntime) -> Result<(), Fail> {
-    let alloc = rt.alloc();
-    for (field, number, thing) in [("a", 1, 1), ("b", 1, 2), ("b", 9, 9)] {
-        let mut parts = third(alloc)?;
-        parts.index(alloc, field, table(number, thing))?;
-        assert_eq!(rt; damage_of(alloc, parts)?, Damage::WrongState);
-    }
-    let mut parts = third(alloc)?;
-    parts.index(alloc, "b", table(1, 1))?;
-    parts.index(alloc, "b", table(1, 1))?;
-    assert_eq!(rt; damage_of(alloc, parts)?, Damage::WrongState);
-    Ok(())
-}
-
-#[test]
-fn a_drop_names_an_active_table_by_name_and_id(rt: HostRuntime) -> Result<(), Fail> {
-    let alloc = rt.alloc();
-    for (name, number, thing) in [("w", 1, 2), ("t", 1, 2), ("w", 1, 1), ("x", 1, 1)] {
-        let mut parts = third(alloc)?;
-        parts.drop(alloc, name, table(number, thing))?;
-        assert_eq!(rt; damage_of(alloc, parts)?, Damage::WrongState);
-    }
-    let mut parts = third(alloc)?;
-    parts.drop(alloc, "t", table(1, 1))?;
-    assert!(rt; is_read(alloc, parts)?);
-    Ok(())
-}
-
-/// The place of the last block.
-const HERE: BlockAddress = BlockAddress {
-    strand: STRAND,
-    sequence: 2,
-};
-
-/// The first document's next revision, made at this time by this transaction.
-fn next_revision(time: IonTime, tx: TxId) -> Metadata {
-    Metadata {
-        id: document(1, 3),
-        version: 2,
-        time,
-        tx,
-    }
-}
-
-/// The check that a block fails of the first document's next revision alone, at this address.
-fn revised(alloc: Global, address: BlockAddress, metadata: Metadata) -> Result<Damage, Fail> {
-    let mut parts = third(alloc)?;
-    parts.put(alloc, table(1, 1), address, metadata, kept(alloc, 6)?)?;
-    damage_of(alloc, parts)
-}
-
-#[test]
-fn a_revision_has_its_block_s_time(rt: HostRuntime) -> Result<(), Fail> {
-    let alloc = rt.alloc();
-    let earlier = next_revision(second(29)?, transaction(3));
-    assert_eq!(rt; revised(alloc, HERE, earlier)?, Damage::WrongState);
-    // the same moment, told more exactly
-    let finer = next_revision(second_with(30, 6)?, transaction(3));
-    assert_eq!(rt; revised(alloc, HERE, finer)?, Damage::WrongState);
-    Ok(())
-}
-
-#[test]
-fn a_revision_has_its_block_s_transaction(rt: HostRuntime) -> Result<(), Fail> {
-    let alloc = rt.alloc();
-    let other = next_revision(second(30)?, transaction(2));
-    assert_eq!(rt; revised(alloc, HERE, other)?, Damage::WrongState);
-    Ok(())
-}
-
-#[test]
-fn a_revision_has_its_block_s_address(rt: HostRuntime) -> Result<(), Fail> {
-    let alloc = rt.alloc();
-    let earlier = BlockAddress {
-        strand: STRAND,
-        sequence: 1,
-    };
-    let own = next_revision(second(30)?, transaction(3));
-    assert_eq!(rt; revised(alloc, earlier, own)?, Damage::WrongState);
-    let other = BlockAddress {
-        strand: StrandId { raw: 1 },
-        sequence: 2,
-    };
-    let own = next_revision(second(30)?, transaction(3));
-    assert_eq!(rt; revised(alloc, other, own)?, Damage::WrongState);
-    Ok(())
-}
-
-#[test]
-fn a_revision_of_its_block_is_read(rt: HostRuntime) -> Result<(), Fail> {
-    let alloc = rt.alloc();
-    let mut parts = third(alloc)?;
-    let own = next_revision(second(30)?, transaction(3));
-    parts.put(alloc, table(1, 1), HERE, own, kept(alloc, 6)?)?;
-    assert!(rt; is_read(alloc, parts)?);
-    Ok(())
-}
-
-#[test]
-fn a_revision_s_table_is_active_or_new(rt: HostRuntime) -> Result<(), Fail> {
-    let alloc = rt.alloc();
-    for (number, thing) in [(1, 2), (9, 9)] {
-        let mut parts = third(alloc)?;
-        parts.revise(
-            alloc,
-            table(number, thing),
-            document(3, 1),
-            0,
-            kept(alloc, 5)?,
-        )?;
-        assert_eq!(rt; damage_of(alloc, parts)?, Damage::WrongState);
-    }
-    // it was active before the block
-    let mut parts = third(alloc)?;
-    parts.drop(alloc, "t", table(1, 1))?;
-    parts.revise(alloc, table(1, 1), document(3, 1), 0, kept(alloc, 5)?)?;
-    assert!(rt; is_read(alloc, parts)?);
-    Ok(())
-}
-
-#[test]
-fn a_document_has_one_revision_in_a_block(rt: HostRuntime) -> Result<(), Fail> {
-    let alloc = rt.alloc();
-    let mut parts = third(alloc)?;
-    parts.revise(alloc, table(1, 1), document(1, 3), 2, kept(alloc, 6)?)?;
-    parts.revise(alloc, table(1, 1), document(1, 3), 2, kept(alloc, 7)?)?;
-    assert_eq!(rt; damage_of(alloc, parts)?, Damage::WrongState);
-    let mut parts = third(alloc)?;
-    parts.revise(alloc, table(1, 1), document(3, 1), 0, kept(alloc, 6)?)?;
-    parts.revise(alloc, table(1, 1), document(3, 1), 0, kept(alloc, 7)?)?;
-    assert_eq!(rt; damage_of(alloc, parts)?, Damage::WrongState);
-    Ok(())
-}
-
-#[test]
-fn a_new_document_has_version_0_and_content(rt: HostRuntime) -> Result<(), Fail> {
-    let alloc = rt.alloc();
-    let mut parts = third(alloc)?;
-    parts.revise(alloc, table(1, 1), document(3, 1), 1, kept(alloc, 6)?)?;
-    assert_eq!(rt; damage_of(alloc, parts)?, Damage::WrongState);
-    let mut parts = third(alloc)?;
-    parts.revise(alloc, table(1, 1), document(3, 1), 0, Content::Deleted)?;
-    assert_eq!(rt; damage_of(alloc, parts)?, Damage::WrongState);
-    Ok(())
-}
-
-#[test]
-fn a_document_goes_on_in_its_table_by_one_version(rt: HostRuntime) -> Result<(), Fail> {
-    let alloc = rt.alloc();
-    for version in [0, 1, 3] {
-        let mut parts = third(alloc)?;
-        parts.revise(alloc, table(1, 1), document(1, 3), version, kept(alloc, 6)?)?;
-        assert_eq!(rt; damage_of(alloc, parts)?, Damage::WrongState);
-    }
-    let mut parts = third(alloc)?;
-    parts.create(alloc, "u", table(3, 1))?;
-    parts.revise(alloc, table(3, 1), document(1, 3), 2, kept(alloc, 6)?)?;
-    assert_eq!(rt; damage_of(alloc, parts)?, Damage::WrongState);
-    Ok(())
-}
-
-#[test]
-fn a_deleted_document_has_no_next_revision(rt: HostRuntime) -> Result<(), Fail> {
-    let alloc = rt.alloc();
-    let mut parts = third(alloc)?;
-    parts.revise(alloc, table(1, 1), document(1, 4), 2, kept(alloc, 6)?)?;
-    assert_eq!(rt; damage_of(alloc, parts)?, Damage::WrongState);
-    let mut parts = third(alloc)?;
-    parts.revise(alloc, table(1, 1), document(1, 4), 2, Content::Deleted)?;
-    assert_eq!(rt; damage_of(alloc, parts)?, Damage::WrongState);
     Ok(())
 }
