@@ -1,3 +1,4 @@
+pub mod Depths
 pub mod Lengths
 mod NumberRows
 mod ReadRows

@@ -14,6 +14,7 @@ pub mod Found
 pub mod Parts
 pub mod Left
 mod SoFarRows
+mod Depths
 mod MadeShapes
 mod MadeLists
 mod MadeHashes
@@ -23,6 +24,7 @@ pub mod MadeJournals
 mod MadeStates
 mod MadeTables
 mod MadeProgress
+mod MadeStatements
 mod MadeRuns
 mod MadeFollows
 mod MadeWhole

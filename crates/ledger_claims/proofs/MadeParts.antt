@@ -88,10 +88,10 @@ fine_each d (v ∷ vs) h k = let both = and_parts (within v) (list_all within vs
 -- ---- values that don't nest too deep
 
 -- a struct of one field
-pub shallow_field : (d : ℕ) (name : List ℕ) (v : Value) → Shallow d v → Shallow (d + 1) (structure (field name v ∷ []))
+shallow_field : (d : ℕ) (name : List ℕ) (v : Value) → Shallow d v → Shallow (d + 1) (structure (field name v ∷ []))
 shallow_field d name v h = let e = depth_structure (field name v ∷ []) in let f = depth_field (field name v) in omega (arith, e, f, h)
 
-pub shallow_id : (name : List ℕ) (raw : ℕ) → Shallow 65 (named_id name raw)
+pub shallow_id : (name : List ℕ) (raw : ℕ) → Shallow 130 (named_id name raw)
 shallow_id name raw =
     let text : Shallow 0 (id_value raw) = (let e = depth_string (id_text raw) in omega (arith, e)) in
     let one : Shallow 1 (named_id name raw) = shallow_field 0 name (id_value raw) text in

@@ -33,10 +33,10 @@ pub record FineDraft (ts : List Table) (created : List ℕ) (d : Draft) : Type 0
   pub table : has_table ts created d.table ≡ true
   pub table_fits : id_fits d.table.raw ≡ true
 
--- a row is a document of depth 64 at most, or a struct around it
+-- a parameter nests at most as deep as a document, and a row at most as deep as the answer of a SELECT
 pub record ShallowSaid (x : Said) : Type 0 where
   pub params : AllByRecursion (Shallow 64) x.params
-  pub rows : AllByRecursion (Shallow 65) x.answer.rows
+  pub rows : AllByRecursion (Shallow 130) x.answer.rows
 
 abbrev pub all_ids : List Schema → List Draft → List ℕ
 all_ids cs log = created_ids cs ++ draft_ids log

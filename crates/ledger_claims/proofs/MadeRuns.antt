@@ -8,7 +8,13 @@ use Rattle.ion_values.specs.declared.value.Value.{Value}
 use Rattle.ion_values.specs.declared.value.Body.{out-Body}
 use Rattle.ion_forms.specs.Write.{value_text}
 use Rattle.pql_model.specs.Meaning.{meaning, under}
+use Rattle.pql_model.specs.Parse.{parsed}
 use Rattle.pql_model.specs.declared.expr.Expr.{Expr}
+use Rattle.pql_model.specs.declared.statement.FromClause.{FromClause}
+use Rattle.pql_model.specs.declared.statement.Select.{Select}
+use Rattle.pql_model.specs.declared.statement.Statement.TheVariants as statement
+use Rattle.pql_model.specs.declared.tables.View.{View}
+use Rattle.pql_model.specs.declared.tables.View.TheVariants as view
 use Rattle.ql_types.specs.declared.TableId.{TableId}
 use Rattle.ledger_model.specs.declared.block.Draft.{Draft}
 use Rattle.ledger_model.specs.declared.block.Schema.{Schema}
@@ -17,8 +23,8 @@ use Rattle.ledger_model.specs.declared.outcome.Refusal.{Refusal}
 use Rattle.ledger_model.specs.declared.outcome.Refusal.TheVariants.{TooManyTables, TooManyRevisions, DocumentTooLarge, NotADocument, TooDeep}
 use Rattle.ledger_model.specs.Values.{is_struct, kind_of}
 use Rattle.ledger_model.specs.State.{State, Table}
-use Rattle.ledger_model.specs.Statements.{Served, create_table, insert_into, select_all, served_of}
-use Rattle.ledger_model.specs.Run.{Begun, Progress, Effect, Ran, ran, refused, next_id, is_shallow, is_small, told_depth, first_deep, has_room, not_stored, active_count, created_count, no_table_more, unless, and_then, changed_by, tables_now, table_now, reserved, on_table, existing, created, documents_in, new_document, stored, if_documents, inserted, selected, effect_of, if_read, if_shallow, recorded, step, then_run, run_from, run, start}
+use Rattle.ledger_model.specs.Statements.{Served, create_table, insert_into, select_from, served_of}
+use Rattle.ledger_model.specs.Run.{Begun, Progress, Effect, Ran, ran, refused, next_id, is_shallow, is_small, told_depth, first_deep, has_room, not_stored, active_count, created_count, no_table_more, unless, and_then, changed_by, tables_now, table_now, reserved, on_table, existing, created, documents_in, new_document, stored, if_documents, inserted, first_absent, rows_in, views_of, selected, effect_of, if_read, if_shallow, recorded, step, then_run, run_from, run, start}
 use Rattle.ledger_model.specs.Whole.{id_fits}
 use Rattle.ledger_model.specs.Follows.{created_ids, has_table}
 use Rattle.ledger_claims.proofs.MadeLists.{all_append, all_push, all_like, differ_rest}
@@ -28,6 +34,8 @@ use Rattle.ledger_claims.proofs.MadeJournals.{past}
 use Rattle.ledger_claims.proofs.MadeStates.{Sound}
 use Rattle.ledger_claims.proofs.MadeTables.{active_is, active_has, active_fits}
 use Rattle.ledger_claims.proofs.MadeViews.{draft_ids, latest_all, view_shallow}
+use Rattle.ledger_claims.proofs.MadeStatements.{IsRead, Reads, request_reads}
+use Rattle.ledger_claims.proofs.Depths.{answer_shallow}
 use Rattle.ledger_claims.proofs.MadeProgress.{FineDraft, ShallowSaid, Made, create_more, insert_more, none_made}
 
 -- ---- what stands against nothing
@@ -69,7 +77,7 @@ module _ (mask number limit : ℕ) (s : State) (sound : Sound mask limit s) (mas
 
   -- what a statement adds
   record FineEffect (p : Progress) (e : Effect) : Type 0 where
-    pub rows : AllByRecursion (Shallow 65) e.rows
+    pub rows : AllByRecursion (Shallow 130) e.rows
     pub made : MadeBy (changed_by p e)
 
   abbrev Leaves : Progress → Result Effect Refusal → Type 0
@@ -96,7 +104,7 @@ module _ (mask number limit : ℕ) (s : State) (sound : Sound mask limit s) (mas
   then_leaves : (p : Progress) (e : Effect) → FineEffect p e → (x : Result Effect Refusal) → Leaves (changed_by p e) x → Leaves p (and_then e x)
   then_leaves p e one (Err cause) h = tt
   then_leaves p e one (Ok f) h = record {
-    rows = all_append (Shallow 65) e.rows f.rows one.rows h.rows;
+    rows = all_append (Shallow 130) e.rows f.rows one.rows h.rows;
     made = same_made _ _ _ _ _ _ (append_assoc p.schema e.schema f.schema) (append_assoc p.log e.log f.log) (omega arith) h.made;
   }
 
@@ -169,20 +177,32 @@ module _ (mask number limit : ℕ) (s : State) (sound : Sound mask limit s) (mas
       unless_leaves p (reserved name) _ (λ _. on_table_leaves p name _ (table_now s p name) (λ id t.
       documents_leave p id m (table_there p m name id t) (documents_in (meaning e (under [] params)))))
 
-  -- ---- SELECT * from a user view
+  -- ---- SELECT
 
-  leaves_select : (p : Progress) (name variable : List ℕ) → MadeBy p → Leaves p (selected s p name variable)
-  leaves_select p name variable m =
+  in_shallow : (p : Progress) → MadeBy p → (v : View) (o : Option TableId) → AllByRecursion (λ r. Shallow 64 r.value) (rows_in s p v o)
+  in_shallow p m view.User (Some table) =
       let pending = all_like (FineDraft s.tables (created_ids p.schema)) (λ d. ShallowContent d.content) (λ d f. f.shallow) p.log m.drafts in
-      on_table_leaves p name _ (table_now s p name) (λ id t.
-      record { rows = view_shallow variable id s.revisions p.log sound.contents pending; made = same_progress p m })
+      view_shallow table s.revisions p.log sound.contents pending
+  in_shallow p m view.User None = tt
+  in_shallow p m view.Committed o = tt
+  in_shallow p m (view.History _ _) o = tt
+
+  views_shallow : (p : Progress) → MadeBy p → (name : List ℕ) (v : View) → AllByRecursion (λ r. Shallow 64 r.value) (views_of s p name v)
+  views_shallow p m name v = in_shallow p m v (table_now s p name)
+
+  leaves_select : (p : Progress) (params : List Value) (text : List ℕ) (select : Select) (from : FromClause) → MadeBy p → AllByRecursion (Shallow 64) params
+      → parsed text ≡ Ok (statement.Select select from) → Leaves p (selected s p params select from)
+  leaves_select p params text select from m given e =
+      unless_leaves p (first_absent s p from.sources) _ (λ _.
+      record { rows = answer_shallow (views_of s p) params text select from (views_shallow p m) given e; made = same_progress p m })
 
   -- ---- one statement
 
-  leaves_effect : (p : Progress) (params : List Value) (st : Served) → MadeBy p → Leaves p (effect_of begun s p params st)
-  leaves_effect p params (create_table name) m = leaves_create p name m
-  leaves_effect p params (insert_into name e) m = leaves_insert p params name e m
-  leaves_effect p params (select_all name variable) m = leaves_select p name variable m
+  leaves_effect : (p : Progress) (params : List Value) (text : List ℕ) (st : Served) → MadeBy p → AllByRecursion (Shallow 64) params → IsRead text st
+      → Leaves p (effect_of begun s p params st)
+  leaves_effect p params text (create_table name) m given e = leaves_create p name m
+  leaves_effect p params text (insert_into name value) m given e = leaves_insert p params name value m
+  leaves_effect p params text (select_from select from) m given e = leaves_select p params text select from m given e
 
   abbrev Keeps : Result Progress Refusal → Type 0
   Keeps (Ok q) = FineProgress q
@@ -195,17 +215,19 @@ module _ (mask number limit : ℕ) (s : State) (sound : Sound mask limit s) (mas
     made = h.made;
   }
 
-  shallow_keeps : (p : Progress) (r : Request) → FineProgress p → (o : Option ℕ) → first_deep r.params ≡ o → (x : Result Effect Refusal) → Leaves p x → Keeps (recorded p r (if_shallow o x))
+  shallow_keeps : (p : Progress) (r : Request) → FineProgress p → (o : Option ℕ) → first_deep r.params ≡ o → (x : Result Effect Refusal)
+      → (AllByRecursion (Shallow 64) r.params → Leaves p x) → Keeps (recorded p r (if_shallow o x))
   shallow_keeps p r so (Some depth) e x h = tt
-  shallow_keeps p r so None e x h = recorded_keeps p r so e x h
+  shallow_keeps p r so None e x h = recorded_keeps p r so e x (h (params_shallow r.params e))
 
-  read_keeps : (p : Progress) (r : Request) → FineProgress p → (x : Result Served Refusal)
+  read_keeps : (p : Progress) (r : Request) → FineProgress p → (x : Result Served Refusal) → Reads r.text x
       → Keeps (recorded p r (if_read (λ st. if_shallow (first_deep r.params) (effect_of begun s p r.params st)) x))
-  read_keeps p r so (Err cause) = tt
-  read_keeps p r so (Ok st) = shallow_keeps p r so (first_deep r.params) refl (effect_of begun s p r.params st) (leaves_effect p r.params st so.made)
+  read_keeps p r so (Err cause) h = tt
+  read_keeps p r so (Ok st) h =
+      shallow_keeps p r so (first_deep r.params) refl (effect_of begun s p r.params st) (λ given. leaves_effect p r.params r.text st so.made given h)
 
   step_keeps : (p : Progress) (r : Request) → FineProgress p → Keeps (step begun s p r)
-  step_keeps p r so = read_keeps p r so (served_of r)
+  step_keeps p r so = read_keeps p r so (served_of r) (request_reads r)
 
   -- ---- all statements
 

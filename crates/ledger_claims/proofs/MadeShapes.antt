@@ -69,7 +69,3 @@ within_field f = search (rules, the_lemmas)
 
 pub depth_field : (f : Field) → field_depth f ≡ depth_of f.value
 depth_field f = search (rules, the_lemmas)
-
--- a value without its annotations
-pub depth_plain : (v : Value) → depth_of (plain v.body) ≡ depth_of v
-depth_plain v = search (rules, the_lemmas)

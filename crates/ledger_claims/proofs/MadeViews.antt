@@ -1,24 +1,20 @@
 -- The latest revisions of documents, and the rows of a view.
-use Rattle.std.proofs.Common.{◌≡◌, ◌∙◌, ◌==◌, arith, ℕ, true, false, List, [], ◌∷◌, ◌++◌, map, Option, Some, None, refl, sym, ap, subst, append_assoc, append-nil}
+use Rattle.std.proofs.Common.{◌≡◌, ◌∙◌, ◌==◌, ℕ, true, false, List, [], ◌∷◌, ◌++◌, map, Option, Some, None, refl, sym, ap, subst, append_assoc, append-nil}
 use Rattle.std.specs.List.{AllByRecursion, filter_map, cons_option}
 use Rattle.std.proofs.lemmas.Bool.{cond_both}
 use Rattle.std.proofs.lemmas.List.{map-append}
+use Rattle.pql_model.specs.declared.tables.Row.{Row}
 use Rattle.ql_types.specs.declared.DocId.{DocId}
 use Rattle.ql_types.specs.declared.TableId.{TableId}
 use Rattle.ledger_model.specs.declared.block.Content.{Content}
 use Rattle.ledger_model.specs.declared.block.Content.TheVariants.{Deleted, Kept}
 use Rattle.ledger_model.specs.declared.block.Draft.{Draft}
-use Rattle.ledger_model.specs.declared.block.Row.{Row}
-use Rattle.ion_values.specs.declared.value.Body.{out-Body}
-use Rattle.ledger_model.specs.Values.{plain, field, is_struct}
-use Rattle.ledger_model.specs.Journal.{structure}
 use Rattle.ledger_model.specs.State.{Recorded, draft_of}
 use Rattle.ledger_model.specs.Views.{put, latest, latest_from, live, row_of, user_view}
-use Rattle.ledger_model.specs.Run.{all_of}
 use Rattle.ledger_model.specs.Follows.{all_differ}
-use Rattle.ledger_claims.proofs.MadeLists.{all_append, all_mapped, all_like, differ_front}
-use Rattle.ledger_claims.proofs.MadeShapes.{Shallow, depth_plain}
-use Rattle.ledger_claims.proofs.MadeParts.{ShallowContent, shallow_field}
+use Rattle.ledger_claims.proofs.MadeLists.{all_append, all_mapped, differ_front}
+use Rattle.ledger_claims.proofs.MadeShapes.{Shallow}
+use Rattle.ledger_claims.proofs.MadeParts.{ShallowContent}
 
 -- ---- what holds of each revision holds of each latest one
 
@@ -82,19 +78,11 @@ rows_shallow table (d ∷ ds) h = one_row (row_of table d) _ (row_shallow table 
 committed_shallow : (rs : List Recorded) → AllByRecursion (λ r. ShallowContent r.revision.content) rs → AllByRecursion (λ d. ShallowContent d.content) (map draft_of rs)
 committed_shallow rs h = all_mapped (λ d. ShallowContent d.content) draft_of rs h
 
--- what `*` makes of a document nests one level deeper at most
-all_of_shallow : (source : List ℕ) (r : Row) → Shallow 64 r.value → Shallow 65 (all_of source r)
-all_of_shallow source r h =
-    cond_both (is_struct (out-Body r.value.body)) (plain r.value.body) (structure (field source r.value ∷ [])) (Shallow 65)
-    (λ _. let e = depth_plain r.value in omega (arith, e, h)) (λ _. shallow_field 64 source r.value h)
-
 -- each row of a view is a document of its revisions
-pub view_shallow : (source : List ℕ) (table : TableId) (committed : List Recorded) (pending : List Draft)
+pub view_shallow : (table : TableId) (committed : List Recorded) (pending : List Draft)
     → AllByRecursion (λ r. ShallowContent r.revision.content) committed → AllByRecursion (λ d. ShallowContent d.content) pending
-    → AllByRecursion (Shallow 65) (map (all_of source) (user_view table (map draft_of committed) pending))
-view_shallow source table committed pending h k =
+    → AllByRecursion (λ r. Shallow 64 r.value) (user_view table (map draft_of committed) pending)
+view_shallow table committed pending h k =
     let drafts = map draft_of committed ++ pending in
     let each = all_append (λ d. ShallowContent d.content) (map draft_of committed) pending (committed_shallow committed h) k in
-    let last = all_latest (λ d. ShallowContent d.content) drafts [] tt each in
-    let rows = rows_shallow table (latest drafts) last in
-    all_mapped (Shallow 65) (all_of source) _ (all_like (λ r. Shallow 64 r.value) (λ r. Shallow 65 (all_of source r)) (all_of_shallow source) _ rows)
+    rows_shallow table (latest drafts) (all_latest (λ d. ShallowContent d.content) drafts [] tt each)

@@ -38,7 +38,7 @@ use Rattle.ledger_claims.proofs.MadeProgress.{ShallowSaid}
 pub record FineSaid (x : Said) : Type 0 where
   pub text : text_within x.text ≡ true
   pub params : AllByRecursion (Fine 64) x.params
-  pub rows : AllByRecursion (Fine 65) x.answer.rows
+  pub rows : AllByRecursion (Fine 130) x.answer.rows
 
 pub record FineChange (c : Schema) : Type 0 where
   pub name : change_within c ≡ true
@@ -48,7 +48,7 @@ pub said_is : (x : Said) → ShallowSaid x → said_within x ≡ true → FineSa
 said_is x h k =
     let both = and_parts (text_within x.text && list_all within x.params) (list_all within x.answer.rows) k in
     let front = and_parts (text_within x.text) (list_all within x.params) both.0 in
-    record { text = front.0; params = fine_each 64 x.params h.params front.1; rows = fine_each 65 x.answer.rows h.rows both.1 }
+    record { text = front.0; params = fine_each 64 x.params h.params front.1; rows = fine_each 130 x.answer.rows h.rows both.1 }
 
 -- ---- the parts' values
 
@@ -100,13 +100,13 @@ place_fine p h k =
       (fine_field 0 (codes "transaction") _ refl (fine_number 0 p.transaction (omega (arith, k))), tt),
     )
 
-said_fine : (s : Said) → FineSaid s → Fine 67 (said_value s)
+said_fine : (s : Said) → FineSaid s → Fine 132 (said_value s)
 said_fine s f =
-    fine_structure 66 _ (
-      fine_field 66 (codes "statement") _ refl (fine_string 66 s.text f.text),
+    fine_structure 131 _ (
+      fine_field 131 (codes "statement") _ refl (fine_string 131 s.text f.text),
       (
-        fine_field 66 (codes "parameters") _ refl (fine_more 65 66 _ (omega arith) (fine_list 64 s.params f.params)),
-        (fine_field 66 (codes "answer") _ refl (fine_list 65 s.answer.rows f.rows), tt),
+        fine_field 131 (codes "parameters") _ refl (fine_more 65 131 _ (omega arith) (fine_list 64 s.params f.params)),
+        (fine_field 131 (codes "answer") _ refl (fine_list 130 s.answer.rows f.rows), tt),
       ),
     )
 
@@ -148,40 +148,40 @@ pub record FineBlock (b : Block) : Type 0 where
   pub tables : AllByRecursion (λ (t : TableId). id_fits t.raw ≡ true) b.info.tables
   pub revisions : AllByRecursion FineRevision b.revisions
 
-info_fine : (i : Info) (rs : List Revision) → Fine 1 (place_value i.place) → AllByRecursion FineSaid i.said → AllByRecursion FineChange i.schema → Fine 69 (info_value i rs)
+info_fine : (i : Info) (rs : List Revision) → Fine 1 (place_value i.place) → AllByRecursion FineSaid i.said → AllByRecursion FineChange i.schema → Fine 134 (info_value i rs)
 info_fine i rs place said schema =
-    let statements = fine_list 67 (map said_value i.said) (all_mapped (Fine 67) said_value i.said (all_like FineSaid (λ s. Fine 67 (said_value s)) said_fine i.said said)) in
+    let statements = fine_list 132 (map said_value i.said) (all_mapped (Fine 132) said_value i.said (all_like FineSaid (λ s. Fine 132 (said_value s)) said_fine i.said said)) in
     let changes = fine_list 1 (map schema_value i.schema) (all_mapped (Fine 1) schema_value i.schema (all_like FineChange (λ c. Fine 1 (schema_value c)) schema_fine i.schema schema)) in
     let documents = fine_list 1 (document_values i.tables rs) (documents_fine i.tables rs) in
-    fine_structure 68 _ (
-      fine_field 68 (codes "place") _ refl (fine_more 1 68 _ (omega arith) place),
+    fine_structure 133 _ (
+      fine_field 133 (codes "place") _ refl (fine_more 1 133 _ (omega arith) place),
       (
-        fine_field 68 (codes "statements") _ refl statements,
-        (fine_field 68 (codes "schema") _ refl (fine_more 2 68 _ (omega arith) changes), (fine_field 68 (codes "documents") _ refl (fine_more 2 68 _ (omega arith) documents), tt)),
+        fine_field 133 (codes "statements") _ refl statements,
+        (fine_field 133 (codes "schema") _ refl (fine_more 2 133 _ (omega arith) changes), (fine_field 133 (codes "documents") _ refl (fine_more 2 133 _ (omega arith) documents), tt)),
       ),
     )
 
-block_fine : (b : Block) → FineBlock b → Fine 70 (block_value b)
+block_fine : (b : Block) → FineBlock b → Fine 135 (block_value b)
 block_fine b f =
-    let address = fine_more 1 69 _ (omega arith) (address_fine b.header.address (let h = f.sequence in omega (arith, h))) in
+    let address = fine_more 1 134 _ (omega arith) (address_fine b.header.address (let h = f.sequence in omega (arith, h))) in
     let entries = fine_list 0 _ (all_mapped (Fine 0) (λ h. plain (body.Blob (hash_bytes h))) b.list (all_like IsEntry (λ h. Fine 0 (plain (body.Blob (hash_bytes h)))) entry_fine b.list f.digests.list)) in
     let info = info_fine b.info b.revisions (place_fine b.info.place f.session f.transaction) f.said f.schema in
     let revisions = fine_list 65 (map revision_value b.revisions) (all_mapped (Fine 65) revision_value b.revisions (all_like FineRevision (λ r. Fine 65 (revision_value r)) revision_fine b.revisions f.revisions)) in
-    fine_structure 69 _ (
-      fine_field 69 (codes "blockAddress") _ refl address,
+    fine_structure 134 _ (
+      fine_field 134 (codes "blockAddress") _ refl address,
       (
-        fine_field 69 (codes "transactionId") _ refl (fine_id 69 b.header.tx.raw),
+        fine_field 134 (codes "transactionId") _ refl (fine_id 134 b.header.tx.raw),
         (
-          fine_field 69 (codes "blockTimestamp") _ refl (fine_moment 69 b.header.time f.time),
+          fine_field 134 (codes "blockTimestamp") _ refl (fine_moment 134 b.header.time f.time),
           (
-            fine_field 69 (codes "blockHash") _ refl (fine_blob 69 b.hash.bytes f.digests.hash.ranges),
+            fine_field 134 (codes "blockHash") _ refl (fine_blob 134 b.hash.bytes f.digests.hash.ranges),
             (
-              fine_field 69 (codes "entriesHash") _ refl (fine_blob 69 b.entries.bytes f.digests.entries.ranges),
+              fine_field 134 (codes "entriesHash") _ refl (fine_blob 134 b.entries.bytes f.digests.entries.ranges),
               (
-                fine_field 69 (codes "previousBlockHash") _ refl (fine_blob 69 b.previous.bytes f.digests.previous.ranges),
+                fine_field 134 (codes "previousBlockHash") _ refl (fine_blob 134 b.previous.bytes f.digests.previous.ranges),
                 (
-                  fine_field 69 (codes "entriesHashList") _ refl (fine_more 1 69 _ (omega arith) entries),
-                  (fine_field 69 (codes "transactionInfo") _ refl info, (fine_field 69 (codes "revisions") _ refl (fine_more 66 69 _ (omega arith) revisions), tt)),
+                  fine_field 134 (codes "entriesHashList") _ refl (fine_more 1 134 _ (omega arith) entries),
+                  (fine_field 134 (codes "transactionInfo") _ refl info, (fine_field 134 (codes "revisions") _ refl (fine_more 66 134 _ (omega arith) revisions), tt)),
                 ),
               ),
             ),

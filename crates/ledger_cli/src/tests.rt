@@ -177,6 +177,7 @@ const REFUSED: &str = "\"SELECT * FORM t\" = 1 = code:1,at:9,kind:Unexpected\n\
     \"SELECT a FROM t, u\" = 1 = code:1,at:7,kind:UnknownName\n\
     \"SELECT 1e3 FROM t\" = 1 = code:1,at:7,kind:FloatRefused\n\
     \"SELECT * FROM t ORDER BY a\" = 1 = code:1,at:16,kind:Unexpected\n\
+    \"CREATE TABLE t\",\"SELECT * FROM t, w JOIN v ON v.a > w.a\" = 2 = code:2,name:\"w\"\n\
     \"CREATE TABLE _ql_x\" = 1 = code:4,name:\"_ql_x\"\n\
     \"CREATE TABLE t\",\"INSERT INTO t 5\" = 2 = code:10,kind:Int\n\
     \"CREATE TABLE t\",{text:\"INSERT INTO t ?\",params:[[{},null.struct]]} = 2 = code:10,kind:Null\n\
@@ -206,6 +207,51 @@ fn refused(alloc: Global, number: &str, cause: &str) -> Result<String, Fail> {
     )?)
 }
 
+/// The documents of two tables.
+const TWO_TABLES: &str = "\"CREATE TABLE t\",\"CREATE TABLE u\",\
+    {text:\"INSERT INTO t ?\",params:[[{n:1},{n:2,items:[7,8,9]},{n:3,items:4}]]},\
+    \"INSERT INTO u {'x': 7, 'y': '7'}\"";
+
+/// What the statements that make them answer.
+const TWO_MADE: &str =
+    "[{tableId:\"0000000000000000018OWH\"}],[{tableId:\"0000000000000000018OWI\"}],\
+    [{documentId:\"0000000000000000018OWJ\"},{documentId:\"0000000000000000018OWK\"},{documentId:\"0000000000000000018OWL\"}],\
+    [{documentId:\"0000000000000000018OWM\"}]";
+
+/// Selects from the two tables, and what they answer.
+const SELECTS: &str = "SELECT VALUE i FROM t, t.items AS i => 7,8,9
+SELECT VALUE u.x / 2 FROM u => 3
+SELECT VALUE u.x = u.y FROM u => false
+SELECT VALUE COALESCE(u.z, 0) FROM u => 0
+SELECT VALUE u.x + 0.5 FROM u => 75d-1
+SELECT VALUE u.x < u.y FROM u => 
+SELECT VALUE u.x / 0 FROM u => 
+SELECT VALUE u.z FROM u => 
+SELECT * FROM t, u WHERE t.n = 2 => {n:2,items:[7,8,9],x:7,y:\"7\"}
+SELECT a.n, b.n AS m FROM t AS a INNER JOIN t AS b ON a.n < b.n => {n:1,m:2},{n:1,m:3},{n:2,m:3}
+SELECT a.n, u.x FROM t AS a CROSS JOIN u WHERE a.n < 3 => {n:1,x:7},{n:2,x:7}
+SELECT n, 1 FROM t WHERE n > 1 => {n:2,_2:1},{n:3,_2:1}
+SELECT VALUE t FROM t WHERE items IS MISSING => {n:1}
+SELECT * FROM t, t.items AS i WHERE i = 8 => {n:2,items:[7,8,9],i:8}
+SELECT COUNT(*), SUM(n), MIN(n) AS least, MAX(items), COUNT(items) FROM t => {_1:3,_2:6,least:1,_5:2}
+SELECT SUM(n), COUNT(n) FROM t WHERE n > 3 => {_1:null,_2:0}";
+
+#[test]
+fn selects(rt: HostRuntime) -> Result<(), Fail> {
+    let alloc = rt.alloc();
+    for row in SELECTS.lines() {
+        let (select, answer) = row.split_once(" => ").unwrap_or((row, ""));
+        let statements = format!(in alloc; "{TWO_TABLES},\"{select}\"")?;
+        let script = script_of(alloc, statements.as_str())?;
+        let got = run_command(&rt, alloc, to_run(alloc, RUN, script.as_str())?)?;
+        let report = format!(in alloc;
+            "{{session:1,transaction:1,outcome:committed,tx:\"0000000000000000018OWG\",block:0,answers:[{TWO_MADE},[{answer}]]}}\n"
+        )?;
+        assert_eq!(rt; got.output.as_str(), report.as_str());
+    }
+    Ok(())
+}
+
 #[test]
 fn a_table_too_many(rt: HostRuntime) -> Result<(), Fail> {
     let alloc = rt.alloc();
@@ -229,13 +275,11 @@ fn statements_that_are_not_served(rt: HostRuntime) -> Result<(), Fail> {
         "CREATE INDEX ON t (a)",
         "DELETE FROM t",
         "UPDATE t SET t.a = 1",
-        "SELECT a FROM t",
-        "SELECT VALUE t FROM t",
         "SELECT * FROM _ql_committed_t",
-        "SELECT * FROM t WHERE a = 1",
         "SELECT * FROM t BY id",
         "SELECT * FROM history(t)",
-        "SELECT * FROM t, t.a",
+        "SELECT * FROM t, t.a AS b, _ql_committed_t",
+        "FROM t SET t.a = 1",
     ] {
         let both = format!(in alloc; "\"CREATE TABLE t\",\"{statement}\"")?;
         let script = script_of(alloc, both.as_str())?;

@@ -1,25 +1,20 @@
 -- What a statement adds to its transaction.
-use Rattle.std.proofs.Common.{◌≡◌, ℕ, ◌+◌, List, [], ◌∷◌, ◌++◌, map, Option, Some, None, Result, Ok, Err, refl, sym, ◌∙◌, ap, arith}
+use Rattle.std.proofs.Common.{◌≡◌, ℕ, ◌+◌, List, [], ◌∷◌, ◌++◌, Option, Some, None, Result, Ok, Err, refl, sym, ◌∙◌, ap}
 use Rattle.std.proofs.lemmas.List.{append-nil}
 use Rattle.std.specs.Prelude.{codes}
-use Rattle.std.specs.List.{filter_map}
 use Rattle.ion_values.specs.declared.value.Value.{Value}
 use Rattle.ql_types.specs.declared.TableId.{TableId}
 use Rattle.ledger_model.specs.declared.block.Said.{Said}
 use Rattle.ledger_model.specs.declared.block.Schema.TheVariants.{Create}
-use Rattle.ledger_model.specs.declared.block.Draft.{Draft}
 use Rattle.ledger_model.specs.declared.outcome.Refusal.{Refusal}
 use Rattle.ledger_model.specs.declared.script.Request.{Request}
-use Rattle.ledger_model.specs.State.{draft_of}
 use Rattle.ledger_model.specs.State as state
-use Rattle.ledger_model.specs.Views.{latest, latest_from, row_of, user_view}
 use Rattle.ledger_model.specs.Values.{named_id}
-use Rattle.ledger_model.specs.Run.{Begun, Progress, Effect, all_of, changed_by, created, existing, new_table, next_id, no_table_more, on_table, recorded, reserved, selected, unless}
+use Rattle.ledger_model.specs.Run.{Begun, Progress, Effect, changed_by, created, existing, new_table, next_id, no_table_more, on_table, recorded, reserved, unless}
 use Rattle.ledger_model.specs.Script.{or_else}
 use Rattle.ledger_core.specs.declared.catalog.Catalog.{Catalog}
 use Rattle.ledger_core.specs.Catalogs.{Lists}
 use Rattle.ledger_core.specs.Transactions.{found, not_created, table_in, tables_in}
-use Rattle.ledger_core.proofs.Lists.{latest-more}
 
 -- ---- what is said and added
 
@@ -66,28 +61,3 @@ on-found name None table f is = let bad : ⊥ = cc in absurd bad
 pub on-none : (name : List ℕ) (t : Option TableId) (cause : Refusal) (f : TableId → Result Effect Refusal) → found name t ≡ Err cause → on_table name t f ≡ Err cause
 on-none name (Some there) cause f is = let bad : ⊥ = cc in absurd bad
 on-none name None cause f is = let e : Err cause ≡ found name None = sym is in cc
-
--- ---- SELECT
-
--- the rows of a table's view, over the committed documents
-view-rows : (source : List ℕ) (table : TableId) (documents committed pending : List Draft) → documents ≡ latest committed
-    → map (all_of source) (filter_map (row_of table) (latest_from documents pending)) ≡ map (all_of source) (user_view table committed pending)
-view-rows source table documents committed pending are =
-    ap (λ ds. map (all_of source) (filter_map (row_of table) ds)) (ap (λ ds. latest_from ds pending) are ∙ sym (latest-more [] committed pending))
-
--- a select adds nothing but what was said
-pub selected-done : (s : state.State) (c : Catalog) (source name variable : List ℕ) (lent : List Draft) (table : TableId) (rows : List Value) (p q : Progress) (r : Request) → Lists s c
-    → source ≡ variable → lent ≡ p.log → rows ≡ map (all_of source) (filter_map (row_of table) (latest_from c.documents lent)) → found name (table_in c p name) ≡ Ok table
-    → q.said ≡ said_more p.said r rows → q.schema ≡ p.schema → q.log ≡ p.log → q.made ≡ p.made → recorded p r (selected s p name variable) ≡ Ok q
-selected-done s c source name variable lent table rows p q r lists source_is lent_is rows_are found_is said schema log made =
-    let committed : List Draft = map draft_of s.revisions in
-    let view : rows ≡ map (all_of variable) (user_view table committed p.log) =
-    rows_are ∙ ap (λ (x : List ℕ). map (all_of x) (filter_map (row_of table) (latest_from c.documents lent))) source_is
-    ∙ ap (λ (ds : List Draft). map (all_of variable) (filter_map (row_of table) (latest_from c.documents ds))) lent_is
-    ∙ view-rows variable table c.documents committed p.log lists.documents in
-    let there = on-found name (table_in c p name) table (λ t. Ok (record { rows = map (all_of variable) (user_view t committed p.log); schema = []; log = []; made = 0 })) found_is in
-    let same : q.made ≡ p.made + 0 = omega arith in
-    ap (λ (ts : List state.Table). recorded p r (selected (record s { tables = ts }) p name variable)) (sym lists.tables)
-    ∙ ap (recorded p r) there
-    ∙ recorded-is p q r (record { rows = map (all_of variable) (user_view table committed p.log); schema = []; log = []; made = 0 })
-    (said ∙ ap (said_more p.said r) view) (schema ∙ sym (append-nil p.schema)) (log ∙ sym (append-nil p.log)) same

@@ -14,3 +14,4 @@ pub mod Lists
 pub mod Loans
 pub mod Mapped
 pub mod Places
+pub mod Selects

@@ -1,14 +1,8 @@
 -- Documents that are lent, and pending revisions over committed ones.
-use Rattle.std.proofs.Common.{◌≡◌, ℕ, ◌+◌, ◌<◌, ◌≤◌, List, [], ◌∷◌, ◌++◌, length, get_or, drop, map, set, Some, None, Bor, sym, ◌∙◌, ap, ap₂, subst}
+use Rattle.std.proofs.Common.{◌≡◌, ℕ, ◌+◌, ◌<◌, ◌≤◌, List, [], ◌∷◌, ◌++◌, length, get_or, drop, set, Some, None, Bor, sym, ◌∙◌, ap, subst}
 use Rattle.std.proofs.lemmas.List.{length-map, map-set, map-append, drop_more, drop_all}
-use Rattle.std.proofs.lemmas.List.Elements.{filter_map-append}
-use Rattle.std.specs.List.{filter_map}
-use Rattle.ion_values.specs.declared.value.Value.{Value}
-use Rattle.ql_types.specs.declared.TableId.{TableId}
-use Rattle.ledger_model.specs.declared.block.Row.{Row}
-use Rattle.ledger_model.specs.Run.{all_of}
 use Rattle.ledger_model.specs.declared.block.Draft.{Draft}
-use Rattle.ledger_model.specs.Views.{put, latest_from, row_of}
+use Rattle.ledger_model.specs.Views.{put, latest_from}
 use Rattle.ledger_core.specs.Places.{place_in, lent}
 use Rattle.ledger_core.proofs.Places.{place-within, put-at, put-new, put-found, put-absent, place-kept}
 
@@ -56,21 +50,8 @@ pub over-new : (kept new more : List (Bor Draft)) (d : Draft) (ps : List Draft) 
 over-new kept new more d ps i all within is place put_is so_far =
     rw (put_is, ← put-absent (lent kept) (lent new) d place) (next (lent kept ++ lent new) d ps i all within is so_far)
 
--- what `*` makes of a table's documents among these
-abbrev pub rows_of : List ℕ → TableId → List Draft → List Value
-rows_of source table ds = map (all_of source) (filter_map (row_of table) ds)
-
-rows-more : (source : List ℕ) (table : TableId) (xs ys : List Draft) → rows_of source table (xs ++ ys) ≡ rows_of source table xs ++ rows_of source table ys
-rows-more source table xs ys =
-    ap (λ (rs : List Row). map (all_of source) rs) (filter_map-append (row_of table) xs ys)
-    ∙ map-append (all_of source) (filter_map (row_of table) xs) (filter_map (row_of table) ys)
-
--- the rows of the committed documents and then of the new ones
-pub rows-of-all : (source : List ℕ) (table : TableId) (kept new a b : List (Bor Draft)) (ps all : List Draft) (i : ℕ) (none first last : List Value) → none ≡ []
-    → first ≡ none ++ rows_of source table (lent a) → last ≡ first ++ rows_of source table (lent b) → a ≡ kept → b ≡ new → length ps ≤ i
-    → latest_from (lent kept ++ lent new) (drop i ps) ≡ all → last ≡ rows_of source table all
-rows-of-all source table kept new a b ps all i none first last none_is first_is last_is a_is b_is past so_far =
-    let done : lent kept ++ lent new ≡ all = sym (ap (latest_from (lent kept ++ lent new)) (drop_all i ps past)) ∙ so_far in
-    last_is
-    ∙ ap₂ (λ (x y : List Value). x ++ y) (first_is ∙ ap₂ (λ (x : List Value) y. x ++ rows_of source table (lent y)) none_is a_is) (ap (λ y. rows_of source table (lent y)) b_is)
-    ∙ sym (rows-more source table (lent kept) (lent new)) ∙ ap (rows_of source table) done
+-- the committed documents and then the new ones, where no pending revision is left
+pub all-lent : (kept new more last : List (Bor Draft)) (ps all : List Draft) (i : ℕ) → lent last ≡ lent kept ++ lent more → more ≡ new → length ps ≤ i
+    → latest_from (lent kept ++ lent new) (drop i ps) ≡ all → lent last ≡ all
+all-lent kept new more last ps all i last_is more_is past so_far =
+    last_is ∙ ap (λ ds. lent kept ++ lent ds) more_is ∙ sym (ap (latest_from (lent kept ++ lent new)) (drop_all i ps past)) ∙ so_far

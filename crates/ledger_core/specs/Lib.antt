@@ -6,7 +6,9 @@ pub mod Known
 pub mod Loads
 pub mod Places
 pub mod Ranges
+pub mod Selects
 pub mod Statements
 pub mod Stops
 pub mod Tails
 pub mod Transactions
+pub mod UserViews

@@ -9,15 +9,15 @@ use Rattle.ledger_model.specs.declared.block.Schema.{Schema}
 use Rattle.ledger_model.specs.declared.block.Schema.TheVariants.{Create}
 use Rattle.ledger_model.specs.declared.outcome.Refusal.{Refusal}
 use Rattle.ledger_model.specs.declared.outcome.Refusal.TheVariants.{ParseFault}
-use Rattle.ledger_model.specs.Statements.{Served, create_table, insert_into, select_all}
+use Rattle.ledger_model.specs.Statements.{Served, create_table, insert_into, select_from}
 use Rattle.ledger_model.specs.Run.{not_stored}
 use Rattle.ledger_core.specs.declared.statements.Served as held
-use Rattle.ledger_core.specs.declared.statements.Served.TheVariants.{CreateTable, InsertInto, SelectAll}
+use Rattle.ledger_core.specs.declared.statements.Served.TheVariants.{CreateTable, InsertInto, Select}
 
 abbrev pub asked_by : held.Served → Served
 asked_by (CreateTable name) = create_table name.now
 asked_by (InsertInto table value) = insert_into table.now value.now
-asked_by (SelectAll table variable) = select_all table.now variable.now
+asked_by (Select select from) = select_from select.now from.now
 
 -- a fault of a text, as why the statement is refused
 abbrev pub read_of : Result Statement Fault → Result Statement Refusal

@@ -1,5 +1,6 @@
 //! What a request asks for: its text by the grammar, with as many parameters as it has question marks.
 ghost use Rattle.std.specs.Prelude.{◌≡◌, Ok, Err, Some, None, IfOk, MatchOption, MatchResult};
+ghost use Rattle.std.specs.List.{list_all};
 ghost use Rattle.ledger_model.specs.Statements as spec;
 ghost use Rattle.ledger_model.specs.Statements.{counted, if_wanted};
 ghost use Rattle.ledger_model.specs.Unbuilt.{is_known, is_served};
@@ -7,6 +8,7 @@ ghost use Rattle.pql_model.specs.Parse.{parsed};
 ghost use Rattle.ledger_core.specs.Statements.{asked_by, read_of};
 ghost use Rattle.ledger_core.specs.Stops.{Comes};
 
+use crate::sources::is_committed;
 use crate::stopped::Stopped;
 use ion_values::{OutOfMemory, Text, Value};
 use ledger_model::{ParseKind, Refusal, Request};
@@ -17,9 +19,17 @@ use std::alloc::Global;
 /// What a statement asks for, of those that are served.
 #[derive(Clone, Copy)]
 pub(crate) enum Served<'a> {
-    CreateTable { name: &'a Text },
-    InsertInto { table: &'a Text, value: &'a Expr },
-    SelectAll { table: &'a Text, variable: &'a Text },
+    CreateTable {
+        name: &'a Text,
+    },
+    InsertInto {
+        table: &'a Text,
+        value: &'a Expr,
+    },
+    Select {
+        select: &'a Select,
+        from: &'a FromClause,
+    },
 }
 
 /// The statement that a text is. It stops with `ParseFault` where it is none.
@@ -71,71 +81,43 @@ fn served_as(statement: &Statement) -> Option<Served<'_>>
     }
 }
 
-fn selected<'a>(select: &Select, from: &'a FromClause) -> Option<Served<'a>>
+/// A SELECT from user views and paths, without BY.
+fn selected<'a>(select: &'a Select, from: &'a FromClause) -> Option<Served<'a>>
     ensures { MatchOption result (spec.selected select.now from.now ≡ None) (λ s. spec.selected select.now from.now ≡ Some (asked_by s)) }
 {
-    match select {
-        Select::Star => unfiltered(from),
-        _ => None,
+    if are_served_sources(from.sources.as_slice()) {
+        Some(Served::Select { select, from })
+    } else {
+        None
     }
 }
 
-/// `SELECT *` without a WHERE.
-fn unfiltered(from: &FromClause) -> Option<Served<'_>>
-    ensures { MatchOption result (spec.unfiltered from.now.sources from.now.filter ≡ None) (λ s. spec.unfiltered from.now.sources from.now.filter ≡ Some (asked_by s)) }
+fn are_served_sources(sources: &[Source]) -> bool
+    ensures { result ≡ list_all spec.is_served_source sources.now }
 {
-    match &from.filter {
-        Some(_) => None,
-        None => one_source(from.sources.as_slice()),
+    'sources: for source in sources {
+        if !is_served_source(source) {
+            return false;
+        }
     }
+    true
 }
 
-fn one_source(sources: &[Source]) -> Option<Served<'_>>
-    ensures { MatchOption result (spec.one_source sources.now ≡ None) (λ s. spec.one_source sources.now ≡ Some (asked_by s)) }
+fn is_served_source(source: &Source) -> bool
+    ensures { result ≡ spec.is_served_source source.now }
 {
-    match sources {
-        [source] => bare_source(source),
-        _ => None,
-    }
+    is_plain(&source.from) && source.id_name.is_none()
 }
 
-/// A source without BY and ON.
-fn bare_source(source: &Source) -> Option<Served<'_>>
-    ensures { MatchOption result (spec.bare_source source.now source.now.id_name source.now.on ≡ None) (λ s. spec.bare_source source.now source.now.id_name source.now.on ≡ Some (asked_by s)) }
-{
-    match &source.id_name {
-        Some(_) => None,
-        None => match &source.on {
-            Some(_) => None,
-            None => view_of(&source.from, &source.variable),
-        },
-    }
-}
-
-/// A user view.
-fn view_of<'a>(from: &'a SourceKind, variable: &'a Text) -> Option<Served<'a>>
-    ensures { MatchOption result (spec.view_of from.now variable.now ≡ None) (λ s. spec.view_of from.now variable.now ≡ Some (asked_by s)) }
+/// The user view of a table, or a path.
+fn is_plain(from: &SourceKind) -> bool
+    ensures { result ≡ spec.is_plain from.now }
 {
     match from {
-        SourceKind::Table { name } => {
-            if is_committed(name.as_str()) {
-                None
-            } else {
-                Some(Served::SelectAll {
-                    table: name,
-                    variable,
-                })
-            }
-        }
-        _ => None,
+        SourceKind::Table { name } => !is_committed(name.as_str()),
+        SourceKind::History { .. } => false,
+        SourceKind::Path(_) => true,
     }
-}
-
-/// Whether it is the name of a committed view.
-fn is_committed(name: &str) -> bool
-    ensures { result ≡ spec.is_committed name.now }
-{
-    name.as_bytes().starts_with(b"_ql_committed_".as_slice())
 }
 
 /// Whether the request is served: its statement is one of those that are done, or it is refused for itself.

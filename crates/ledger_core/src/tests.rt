@@ -1,5 +1,6 @@
 mod attempts;
 mod runs;
+mod views;
 
 use crate::keeping::Keeper;
 use crate::{LoadCause, LoadFault, SettleFault, Tail};

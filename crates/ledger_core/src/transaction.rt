@@ -172,9 +172,7 @@ impl Transaction {
             Served::InsertInto { table, value } => {
                 self.insert(alloc, catalog, table, value, request)
             }
-            Served::SelectAll { table, variable } => {
-                self.select(alloc, catalog, table, variable, request)
-            }
+            Served::Select { select, from } => self.select(alloc, catalog, select, from, request),
         }
     }
 }

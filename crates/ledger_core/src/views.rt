@@ -1,16 +1,13 @@
-//! The rows of a table, a transaction's pending revisions counted.
-ghost use Rattle.std.specs.Prelude.{◌≡◌, ◌++◌, length, map, IfOk, OnOk};
-ghost use Rattle.std.specs.List.{filter_map};
-ghost use Rattle.ledger_model.specs.Views.{put, latest, latest_from, row_of};
-ghost use Rattle.ledger_model.specs.Run.{all_in, all_of};
+//! Documents with their latest revisions, a transaction's pending ones counted.
+ghost use Rattle.std.specs.Prelude.{◌≡◌, ◌++◌, length, IfOk, OnOk};
+ghost use Rattle.ledger_model.specs.Views.{put, latest, latest_from};
 ghost use Rattle.ledger_core.specs.Places.{place_in, lent};
 
 use crate::documents::Documents;
-use crate::values::{is_struct, plain};
-use ion_values::{Body, Field, OutOfMemory, Text, Value, Values, copy};
+use ion_values::{OutOfMemory, copy};
 use ledger_model::{Content, Draft};
 use lists::Sequence;
-use ql_types::{DocId, TableId};
+use ql_types::DocId;
 use std::alloc::Global;
 
 /// A content that equals the given one.
@@ -82,64 +79,33 @@ fn lent<'a>(alloc: Global, drafts: &'a [Draft]) -> Result<Sequence<&'a Draft>, O
     Ok(new)
 }
 
-/// What `*` makes of a table's documents, over committed ones and the pending revisions, where the source has this name.
-pub(crate) fn view_rows(
+/// The documents, each with its latest revision, in order of first insertion: the committed ones under the pending
+/// revisions, lent.
+pub(crate) fn latest_over<'a>(
     alloc: Global,
-    source: &str,
-    documents: &Documents,
-    pending: &[Draft],
-    table: TableId,
-) -> Result<Values, OutOfMemory>
-    ensures { IfOk result (λ rows. rows ≡ map (all_of source.now) (filter_map (row_of table) (latest_from documents.now pending.now))) }
+    committed: &'a Documents,
+    pending: &'a [Draft],
+) -> Result<Sequence<&'a Draft>, OutOfMemory>
+    ensures { IfOk result (λ documents. lent documents ≡ latest_from committed.now pending.now) }
 {
-    let mut kept = lent(alloc, documents.as_slice())?;
+    let mut kept = lent(alloc, committed.as_slice())?;
     let mut new = Sequence::new(alloc);
     'pending: for draft in pending {
-        match documents.place_of(draft.id) {
+        match committed.place_of(draft.id) {
             Some(at) => kept.set(at, draft),
             None => put(&mut new, draft)?,
         }
     }
-    let mut rows = Sequence::new(alloc);
-    put_rows(alloc, source, &mut rows, kept.as_slice(), table)?;
-    put_rows(alloc, source, &mut rows, new.as_slice(), table)?;
-    Ok(rows)
+    push_all(&mut kept, new.as_slice())?;
+    Ok(kept)
 }
 
-/// Puts what `*` makes of the documents that are of the table and aren't deleted behind the rows.
-fn put_rows(
-    alloc: Global,
-    source: &str,
-    rows: &mut Values,
-    documents: &[&Draft],
-    table: TableId,
-) -> Result<(), OutOfMemory>
-    ensures { OnOk result (rows.new ≡ rows.old ++ map (all_of source.now) (filter_map (row_of table) (lent documents.now))) }
+/// Puts more documents behind these.
+fn push_all<'a>(documents: &mut Sequence<&'a Draft>, more: &[&'a Draft]) -> Result<(), OutOfMemory>
+    ensures { OnOk result (lent documents.new ≡ lent documents.old ++ lent more.now) }
 {
-    for document in documents {
-        if document.table.raw != table.raw {
-            continue;
-        }
-        if let Content::Kept(value) = &document.content {
-            rows.push(all_in(alloc, source, value)?)?;
-        }
+    for document in more {
+        documents.push(*document)?;
     }
     Ok(())
-}
-
-/// What `*` makes of a document of the source with this name: a struct of its fields, or of the whole document under the name
-/// where it is no struct. It has no annotations.
-fn all_in(alloc: Global, source: &str, document: &Value) -> Result<Value, OutOfMemory>
-    ensures { IfOk result (λ row. row ≡ all_in source.now document.now) }
-{
-    if is_struct(&document.body) {
-        let Value { body, .. } = copy(alloc, document)?;
-        return Ok(plain(alloc, body));
-    }
-    let mut fields = Sequence::new(alloc);
-    fields.push(Field {
-        name: Text::from_text(alloc, source)?,
-        value: copy(alloc, document)?,
-    })?;
-    Ok(plain(alloc, Body::Struct(fields)))
 }

@@ -29,7 +29,7 @@ use Rattle.ledger_model.specs.declared.script.Request.{Request}
 use Rattle.ql_types.specs.declared.TableId.{TableId}
 use Rattle.ledger_model.specs.Values.{named_id}
 use Rattle.ledger_model.specs.State.{State, empty}
-use Rattle.ledger_model.specs.Statements.{create_table, insert_into, select_all, if_wanted, served_as, served_of, with_parameters}
+use Rattle.ledger_model.specs.Statements.{create_table, insert_into, select_from, if_wanted, served_as, served_of, with_parameters}
 use Rattle.ledger_model.specs.Unbuilt.{is_served}
 use Rattle.ledger_model.specs.Run.{Begun, created, documents_in, first_deep, has_room, inserted, new_table, no_table_more, nothing, selected, start, stored}
 
@@ -48,7 +48,13 @@ creates : served_of (asks (codes "CREATE TABLE t") []) ≡ Ok (create_table (cod
 unfolding parsed lex is_reserved layers expression free_path
 creates = refl
 
-selects : served_of (asks (codes "SELECT * FROM t AS x") []) ≡ Ok (select_all (codes "t") (codes "x"))
+abbrev table_as : List ℕ → List ℕ → FromClause
+table_as name variable = record {
+  sources = record { from = source.Table name; variable = variable; id_name = None; on = None } ∷ [];
+  filter = None;
+}
+
+selects : served_of (asks (codes "SELECT * FROM t AS x") []) ≡ Ok (select_from select.Star (table_as (codes "t") (codes "x")))
 unfolding parsed lex is_reserved layers expression free_path
 selects = refl
 
@@ -68,16 +74,10 @@ no_statement = refl
 
 -- ---- which statements are served
 
-abbrev from : List ℕ → FromClause
-from name = record {
-  sources = record { from = source.Table name; variable = name; id_name = None; on = None } ∷ [];
-  filter = None;
-}
-
-committed : served_as (statement.Select select.Star (from (codes "_ql_committed_t"))) ≡ None
+committed : served_as (statement.Select select.Star (table_as (codes "_ql_committed_t") (codes "x"))) ≡ None
 committed = refl
 
-of_value : served_as (statement.Select (select.Value (expr.Parameter 0)) (from (codes "t"))) ≡ None
+of_value : served_as (statement.Select (select.Value (expr.Parameter 0)) (table_as (codes "t") (codes "x"))) ≡ Some (select_from (select.Value (expr.Parameter 0)) (table_as (codes "t") (codes "x")))
 of_value = refl
 
 drops : served_as (statement.Drop (codes "t")) ≡ None
@@ -121,7 +121,7 @@ own_insert = refl
 none_there : inserted first empty start [] (codes "t") (expr.Missing) ≡ Err (NoSuchTable (codes "t"))
 none_there = refl
 
-none_read : selected empty start (codes "t") (codes "x") ≡ Err (NoSuchTable (codes "t"))
+none_read : selected empty start [] select.Star (table_as (codes "t") (codes "x")) ≡ Err (NoSuchTable (codes "t"))
 none_read = refl
 
 -- four changes in front of these

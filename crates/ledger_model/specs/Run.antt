@@ -1,13 +1,23 @@
 -- What a transaction's statements mean, one after another, on a state and the changes that pend so far.
-use Rattle.std.specs.Prelude.{ℕ, ◌+◌, ◌-◌, ◌^◌, min, not, Bool, nat_le, nat_lt, List, [], ◌∷◌, ◌++◌, map, length, codes, Option, Some, None, Result, Ok, Err, if◌then◌else◌}
+use Rattle.std.specs.Prelude.{ℕ, ◌+◌, ◌-◌, ◌^◌, min, not, Bool, nat_le, nat_lt, List, [], ◌∷◌, ◌++◌, map, length, codes, Option, Some, None, Result, Ok, Err, is_some, if◌then◌else◌}
 use Rattle.ion_values.specs.declared.value.Value.{Value}
 use Rattle.ion_values.specs.declared.value.Body.{Body, out-Body}
 use Rattle.ion_values.specs.declared.value.Body.TheOpen.{Body-F}
 use Rattle.ion_values.specs.declared.value.Field.{Field}
 use Rattle.ion_values.specs.declared.value.Kind.TheVariants.{Null}
-use Rattle.ion_values.specs.declared.value.Body.TheVariants as body
 use Rattle.ion_values.specs.Depth.{depth_of}
 use Rattle.pql_model.specs.declared.expr.Expr.{Expr}
+use Rattle.pql_model.specs.declared.statement.FromClause.{FromClause}
+use Rattle.pql_model.specs.declared.statement.Select.{Select}
+use Rattle.pql_model.specs.declared.statement.Source.{Source}
+use Rattle.pql_model.specs.declared.statement.SourceKind.{SourceKind}
+use Rattle.pql_model.specs.declared.statement.SourceKind.TheVariants as source
+use Rattle.pql_model.specs.declared.tables.Row.{Row}
+use Rattle.pql_model.specs.declared.tables.View.{View}
+use Rattle.pql_model.specs.declared.tables.View.TheVariants as view
+use Rattle.pql_model.specs.Answers.{answered}
+use Rattle.pql_model.specs.From.{Viewed, rows_of}
+use Rattle.pql_model.specs.Tables.{table_named}
 use Rattle.pql_model.specs.declared.scope.Evaluated.{Evaluated}
 use Rattle.pql_model.specs.declared.scope.Evaluated.TheVariants.{Missing, Found}
 use Rattle.pql_model.specs.Meaning.{meaning, under}
@@ -19,14 +29,13 @@ use Rattle.ledger_model.specs.declared.block.Schema.{Schema}
 use Rattle.ledger_model.specs.declared.block.Schema.TheVariants.{Create}
 use Rattle.ledger_model.specs.declared.block.Draft.{Draft}
 use Rattle.ledger_model.specs.declared.block.Content.TheVariants.{Kept}
-use Rattle.ledger_model.specs.declared.block.Row.{Row}
 use Rattle.ledger_model.specs.declared.script.Request.{Request}
 use Rattle.ledger_model.specs.declared.outcome.Refusal.{Refusal}
 use Rattle.ledger_model.specs.declared.outcome.Refusal.TheVariants.{NoSuchTable, TableExists, ReservedName, TooManyTables, TooManyRevisions, DocumentTooLarge, NotADocument, TooDeep}
-use Rattle.ledger_model.specs.Values.{plain, field, kind_of, is_struct, named_id}
+use Rattle.ledger_model.specs.Values.{kind_of, is_struct, named_id}
 use Rattle.ledger_model.specs.State.{State, Table, all_changed, active_table, draft_of}
 use Rattle.ledger_model.specs.Views.{user_view, latest}
-use Rattle.ledger_model.specs.Statements.{Served, create_table, insert_into, select_all, is_reserved, served_of}
+use Rattle.ledger_model.specs.Statements.{Served, create_table, insert_into, select_from, is_reserved, served_of}
 
 -- the mask of the journal's ids and the number of the transaction
 pub record Begun : Type 0 where
@@ -188,19 +197,39 @@ abbrev pub inserted : Begun → State → Progress → List Value → List ℕ �
 inserted b s p params name e =
     unless (reserved name) (on_table name (table_now s p name) (λ table. if_documents (documents_in (meaning e (under [] params))) (stored b table p)))
 
--- ---- SELECT * from a user view
+-- ---- SELECT
 
--- what `*` makes of a document of the source with this name: a struct of its fields, or of the whole document under the name where
--- it is no struct; it has no annotations
-abbrev pub all_in : List ℕ → Value → Value
-all_in source v = if is_struct (out-Body v.body) then plain v.body else plain (body.Struct (field source v ∷ []))
+-- the table that a source names, its views' prefix left out
+abbrev pub table_in : SourceKind → Option (List ℕ)
+table_in (source.Table name) = Some (table_named name)
+table_in (source.History table _ _) = Some table
+table_in (source.Path path) = None
 
-abbrev pub all_of : List ℕ → Row → Value
-all_of source row = all_in source row.value
+abbrev pub absent_table : State → Progress → Option (List ℕ) → Option Refusal
+absent_table s p None = None
+absent_table s p (Some name) = if is_some (table_now s p name) then None else Some (NoSuchTable name)
 
-abbrev pub selected : State → Progress → List ℕ → List ℕ → Result Effect Refusal
-selected s p name variable = on_table name (table_now s p name) (λ table. Ok (record {
-  rows = map (all_of variable) (user_view table (map draft_of s.revisions) p.log);
+abbrev pub or_else : Option Refusal → Option Refusal → Option Refusal
+or_else None cause = cause
+or_else (Some first) cause = Some first
+
+-- the first table in the text that isn't active
+abbrev pub first_absent : State → Progress → List Source → Option Refusal
+first_absent s p [] = None
+first_absent s p (x ∷ xs) = or_else (absent_table s p (table_in x.from)) (first_absent s p xs)
+
+-- no statement that is served so far asks for another view than the user's
+abbrev pub rows_in : State → Progress → View → Option TableId → List Row
+rows_in s p view.User (Some table) = user_view table (map draft_of s.revisions) p.log
+rows_in s p _ _ = []
+
+-- the views of the tables, the transaction's own changes counted
+abbrev pub views_of : State → Progress → Viewed
+views_of s p name v = rows_in s p v (table_now s p name)
+
+abbrev pub selected : State → Progress → List Value → Select → FromClause → Result Effect Refusal
+selected s p params select from = unless (first_absent s p from.sources) (Ok (record {
+  rows = answered params (rows_of (views_of s p) params from) select;
   schema = [];
   log = [];
   made = 0;
@@ -211,7 +240,7 @@ selected s p name variable = on_table name (table_now s p name) (λ table. Ok (r
 abbrev pub effect_of : Begun → State → Progress → List Value → Served → Result Effect Refusal
 effect_of b s p params (create_table name) = created b s p name
 effect_of b s p params (insert_into name e) = inserted b s p params name e
-effect_of b s p params (select_all name variable) = selected s p name variable
+effect_of b s p params (select_from select from) = selected s p params select from
 
 abbrev pub if_read : (Served → Result Effect Refusal) → Result Served Refusal → Result Effect Refusal
 if_read f (Ok statement) = f statement

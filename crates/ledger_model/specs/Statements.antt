@@ -1,13 +1,13 @@
 -- The statement that a request asks for: its text by the grammar, with as many parameters as it has question marks (PartiQL); and
--- which statements are served so far: CREATE TABLE, INSERT INTO a table, and `SELECT *` from one user view.
-use Rattle.std.specs.Prelude.{ℕ, ◌==◌, ◌-◌, ◌^◌, min, Bool, List, [], ◌∷◌, length, codes, Option, Some, None, Result, Ok, Err, if◌then◌else◌}
+-- which statements are served so far: CREATE TABLE, INSERT INTO a table, and SELECT from user views and paths without BY.
+use Rattle.std.specs.Prelude.{ℕ, ◌==◌, ◌&&◌, ◌-◌, ◌^◌, min, not, Bool, true, false, List, length, codes, Option, Some, None, Result, Ok, Err, is_some, if◌then◌else◌}
+use Rattle.std.specs.List.{list_all}
 use Rattle.ion_values.specs.declared.value.Value.{Value}
 use Rattle.ion_grammar.specs.Blanks.{begins}
 use Rattle.pql_model.specs.declared.ParseKind.TheVariants.{Unexpected}
 use Rattle.pql_model.specs.declared.expr.Expr.{Expr}
 use Rattle.pql_model.specs.declared.statement.FromClause.{FromClause}
 use Rattle.pql_model.specs.declared.statement.Select.{Select}
-use Rattle.pql_model.specs.declared.statement.Select.TheVariants as select
 use Rattle.pql_model.specs.declared.statement.Source.{Source}
 use Rattle.pql_model.specs.declared.statement.SourceKind.{SourceKind}
 use Rattle.pql_model.specs.declared.statement.SourceKind.TheVariants as source
@@ -16,6 +16,7 @@ use Rattle.pql_model.specs.declared.statement.Statement.TheVariants as statement
 use Rattle.pql_model.specs.Parameters.{in_statement}
 use Rattle.pql_model.specs.Parse.{parsed}
 use Rattle.pql_model.specs.Productions.{Fault}
+use Rattle.pql_model.specs.Tables.{is_committed}
 use Rattle.ledger_model.specs.declared.script.Request.{Request}
 use Rattle.ledger_model.specs.declared.outcome.Refusal.{Refusal}
 use Rattle.ledger_model.specs.declared.outcome.Refusal.TheVariants.{ParseFault, ParameterCount}
@@ -25,10 +26,6 @@ use Rattle.ledger_model.specs.declared.outcome.Refusal.TheVariants.{ParseFault, 
 -- a name that is the ledger's own
 abbrev pub is_reserved : List ℕ → Bool
 is_reserved name = begins (codes "_ql_") name
-
--- a name of a committed view
-abbrev pub is_committed : List ℕ → Bool
-is_committed name = begins (codes "_ql_committed_") name
 
 -- ---- the text and its parameters
 
@@ -52,30 +49,20 @@ statement_of r = with_parameters (parsed r.text) r.params
 pub data Served : Type 0 where
   create_table : (name : List ℕ) → Served
   insert_into : (table : List ℕ) (value : Expr) → Served
-  select_all : (table variable : List ℕ) → Served
+  select_from : (select : Select) (from : FromClause) → Served
 
--- a user view
-abbrev pub view_of : SourceKind → List ℕ → Option Served
-view_of (source.Table name) variable = if is_committed name then None else Some (select_all name variable)
-view_of _ variable = None
+-- the user view of a table, or a path
+abbrev pub is_plain : SourceKind → Bool
+is_plain (source.Table name) = not (is_committed name)
+is_plain (source.History table _ _) = false
+is_plain (source.Path path) = true
 
--- a source without BY and ON
-abbrev pub bare_source : Source → Option (List ℕ) → Option Expr → Option Served
-bare_source s None None = view_of s.from s.variable
-bare_source s _ _ = None
-
-abbrev pub one_source : List Source → Option Served
-one_source (s ∷ []) = bare_source s s.id_name s.on
-one_source _ = None
-
--- without a WHERE
-abbrev pub unfiltered : List Source → Option Expr → Option Served
-unfiltered sources None = one_source sources
-unfiltered sources (Some e) = None
+-- and no BY
+abbrev pub is_served_source : Source → Bool
+is_served_source s = is_plain s.from && not (is_some s.id_name)
 
 abbrev pub selected : Select → FromClause → Option Served
-selected select.Star from = unfiltered from.sources from.filter
-selected _ from = None
+selected select from = if list_all is_served_source from.sources then Some (select_from select from) else None
 
 abbrev pub served_as : Statement → Option Served
 served_as (statement.Create table) = Some (create_table table)

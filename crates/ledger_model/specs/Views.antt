@@ -6,7 +6,7 @@ use Rattle.ql_types.specs.declared.TableId.{TableId}
 use Rattle.ledger_model.specs.declared.block.Draft.{Draft}
 use Rattle.ledger_model.specs.declared.block.Content.{Content}
 use Rattle.ledger_model.specs.declared.block.Content.TheVariants.{Deleted, Kept}
-use Rattle.ledger_model.specs.declared.block.Row.{Row}
+use Rattle.pql_model.specs.declared.tables.Row.{Row}
 
 -- the documents in order of first insertion, each with its latest revision, after one revision more
 abbrev pub put : List Draft → Draft → List Draft

@@ -1,12 +1,7 @@
 use ion_values::{IonTime, Value, Values};
 use lists::{Sequence, Text};
+use pql_model::Answer;
 use ql_types::{BlockAddress, DocId, Hash, Hash32, Place, TableId, TxId};
-
-/// What a statement answered, row by row.
-#[derive(Drop)]
-pub struct Answer {
-    pub rows: Values,
-}
 
 /// A statement with its parameters and its answer.
 #[derive(Drop)]
@@ -45,13 +40,6 @@ pub struct Draft {
 }
 
 pub type Drafts = Sequence<Draft>;
-
-/// A document of a view.
-#[derive(Drop)]
-pub struct Row {
-    pub id: DocId,
-    pub value: Value,
-}
 
 /// Whose revision it is, which one, counted from 0, and the time and the transaction of its block.
 #[derive(Clone, Copy)]

@@ -11,11 +11,11 @@ mod script;
 mod tests;
 
 pub use block::{
-    Answer, Block, Content, Draft, Drafts, Header, Info, Metadata, Revision, Revisions, Row, Said,
-    SaidList, Schema, SchemaList, TableIds,
+    Block, Content, Draft, Drafts, Header, Info, Metadata, Revision, Revisions, Said, SaidList,
+    Schema, SchemaList, TableIds,
 };
 pub use blocks::Blocks;
 pub use damage::Damage;
 pub use outcome::{Item, Named, Outcome, Outcomes, PlacedOutcome, Refusal};
-pub use pql_model::ParseKind;
+pub use pql_model::{Answer, ParseKind, Row};
 pub use script::{Asked, Job, Request, Script, ScriptFault, ScriptKind, Session};

@@ -28,6 +28,18 @@ pub fn eval(
     eval_in(alloc, e, scope.as_slice(), params)
 }
 
+/// What the path leads to under one row and the parameters, MISSING where it leads nowhere.
+pub fn eval_path(
+    alloc: Global,
+    path: &Path,
+    scope: &Scope,
+    params: &[Value],
+) -> Result<Evaluated, OutOfMemory>
+    ensures { IfOk result (λ answer. answer ≡ meaning_of_path path.now (under scope.now params.now)) }
+{
+    path_in(alloc, path, scope.as_slice(), params)
+}
+
 fn parameter(number: u32, params: &[Value]) -> Option<&Value>
     ensures { option_copied result ≡ slice_get params.now number }
 {

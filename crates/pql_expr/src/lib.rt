@@ -13,7 +13,9 @@ mod patterns;
 mod texts;
 mod words;
 
-pub use evaluation::eval;
+pub use evaluation::{eval, eval_path};
+pub use made::is_unknown;
+pub use operators::operate;
 
 #[cfg(test)]
 mod tests;

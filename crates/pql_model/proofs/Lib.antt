@@ -5,3 +5,14 @@ mod Depths
 mod MeaningBound
 mod MeaningDepths
 mod MeaningRows
+mod SelectRows
+mod PathDepths
+pub mod AnswerDepths
+mod Gives
+mod Tallness
+mod ExpressionDepths
+mod LayerDepths
+mod TokenDepths
+mod StatementDepths
+pub mod ParsedDepths
+mod ShallowRows

@@ -15,3 +15,7 @@ pub mod Steps
 pub mod Texts
 pub mod Meaning
 pub mod MeaningDepth
+pub mod Tables
+pub mod From
+pub mod Answers
+pub mod Shallow

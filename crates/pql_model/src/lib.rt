@@ -6,19 +6,23 @@ mod counts;
 mod expr;
 mod laws;
 mod mark;
+mod names;
 mod scope;
 mod statement;
+mod tables;
 mod token;
 
 pub use counts::parameters;
 pub use expr::{Expr, Exprs, Member, Members, Operator, Path, PathStep, PathSteps};
-pub use laws::depth_is_bounded;
+pub use laws::{answers_are_shallow, depth_is_bounded, parsed_is_shallow};
 pub use mark::{Mark, Marks, Place, Role};
+pub use names::last_name;
 pub use scope::{Bindings, Bound, Evaluated, Scope};
 pub use statement::{
     Change, FromClause, Select, SelectItem, SelectItems, Setting, Settings, Source, SourceKind,
     Sources, Statement,
 };
+pub use tables::{Answer, Probe, Row, Rows, Tables, View};
 pub use token::{Lexed, Located, Symbol, Token, Tokens};
 
 /// Why a text is no statement.

@@ -11,7 +11,7 @@ use crate::parser::Parser;
 use crate::paths::free_path;
 use lists::{Boxed, OutOfMemory, Sequence, Text};
 use pql_model::{
-    Expr, FromClause, ParseKind, Path, PathStep, Place, Role, Source, SourceKind, Sources,
+    Expr, FromClause, ParseKind, Path, Place, Role, Source, SourceKind, Sources, last_name,
 };
 use std::alloc::Global;
 use std::collections::BTreeSet;
@@ -425,17 +425,4 @@ fn constant(parser: &mut Parser<'_>) -> Result<Boxed<Expr>, ParseAnswer>
     parser.advance();
     let constant = Boxed::new(parser.alloc, constant)?;
     Ok(constant)
-}
-
-/// The last name of a path.
-fn last_name<'a>(first: &'a str, steps: &'a [PathStep]) -> &'a str
-    ensures { result.now ≡ spec.last_name first.now steps.now }
-{
-    let mut last = first;
-    'steps: for step in steps {
-        if let PathStep::Field(name) = step {
-            last = name.as_str();
-        }
-    }
-    last
 }

@@ -103,6 +103,17 @@ const RUNS: &str = "CREATE TABLE t = 1 rows\n\
     DROP TABLE t = 1: ParseFault 0 Unexpected\n\
     INSERT INTO t ?|{a:1} = 1: NoSuchTable t\n\
     SELECT * FROM t = 1: NoSuchTable t\n\
+    CREATE TABLE t;SELECT * FROM t, t.a AS x, v AS y, u AS z = 2: NoSuchTable v\n\
+    CREATE TABLE t;INSERT INTO t [{}, {}];SELECT * FROM t AS x, t AS y = 4 rows\n\
+    CREATE TABLE t;INSERT INTO t {};SELECT VALUE ? FROM t WHERE ?|1 false = 0 rows\n\
+    CREATE TABLE t;INSERT INTO t {};SELECT * FROM t, t.a AS x = 0 rows\n\
+    SELECT * FROM _ql_committed_t AS x = 1: ParseFault 0 Unexpected\n\
+    SELECT * FROM t, _ql_committed_t AS x = 1: ParseFault 0 Unexpected\n\
+    SELECT * FROM history(t) AS x = 1: ParseFault 0 Unexpected\n\
+    SELECT * FROM t BY d = 1: ParseFault 0 Unexpected\n\
+    SELECT * FROM t, u BY d = 1: ParseFault 0 Unexpected\n\
+    SELECT * FROM t WHERE ? = 1: ParameterCount 1 0\n\
+    SELECT * FROM t WHERE ?|{a:1} 2 = 1: ParameterCount 1 2\n\
     CREATE TABLE t;CREATE TABLE t = 2: TableExists t\n\
     CREATE TABLE _ql_x = 1: ReservedName _ql_x\n\
     CREATE TABLE \"_ql_\" = 1: ReservedName _ql_\n\
@@ -142,7 +153,13 @@ const ROWS: &str = "CREATE TABLE t = {tableId:\"0000000000000000018OWH\"}\n\
     CREATE TABLE t;INSERT INTO t VALUE {'a': 1 + 2};SELECT * FROM t = {a:3}\n\
     CREATE TABLE t;INSERT INTO t {'a': MISSING, 'b': NULL};SELECT * FROM t = {b:null}\n\
     CREATE TABLE t;INSERT INTO t ?|x::[y::{a:1},{b:z::2}];SELECT * FROM t AS x = {a:1}{b:z::2}\n\
-    CREATE TABLE t;CREATE TABLE u;INSERT INTO u {'a': 1};INSERT INTO t {'b': 2};SELECT * FROM u = {a:1}";
+    CREATE TABLE t;CREATE TABLE u;INSERT INTO u {'a': 1};INSERT INTO t {'b': 2};SELECT * FROM u = {a:1}\n\
+    CREATE TABLE t;INSERT INTO t [{'a': 1}, {'a': 2}];SELECT VALUE [a + ?] FROM t WHERE a > ?|3 1 = [5]\n\
+    CREATE TABLE t;INSERT INTO t [{'a': 1}, {'a': 2}];SELECT COUNT(*), SUM(a) AS s FROM t = {_1:2,s:3}\n\
+    CREATE TABLE t;INSERT INTO t [{'a': 1, 'b': [3, 4]}, {'a': 2}];SELECT x.a, y FROM t AS x, x.b AS y = \
+    {a:1,y:3}{a:1,y:4}\n\
+    CREATE TABLE t;INSERT INTO t [{'a': 1}, {'a': 2}];CREATE TABLE u;INSERT INTO u {'b': 2};\
+    SELECT * FROM t JOIN u ON t.a=u.b = {a:2,b:2}";
 
 #[test]
 fn each_answer_is_told(rt: HostRuntime) -> Result<(), Fail> {
@@ -170,7 +187,11 @@ fn creations(alloc: Global, more: u32) -> Result<String, Fail> {
 }
 
 /// A journal of so many tables, `t0` and on, of which the first one may be active no more.
-fn with_tables(alloc: Global, count: u32, first_is_active: bool) -> Result<Catalog, Fail> {
+pub(crate) fn with_tables(
+    alloc: Global,
+    count: u32,
+    first_is_active: bool,
+) -> Result<Catalog, Fail> {
     let mut catalog = Catalog::new(alloc);
     for number in 0..count {
         catalog.tables.push(Table {
@@ -320,7 +341,7 @@ fn a_value_has_a_deepest_nesting(rt: HostRuntime) -> Result<(), Fail> {
 }
 
 /// A document of the table 1 whose content is the one value of a text.
-fn document(alloc: Global, raw: u128, text: &str) -> Result<Draft, Fail> {
+pub(crate) fn document(alloc: Global, raw: u128, text: &str) -> Result<Draft, Fail> {
     let Ok(mut values) = read_stream(alloc, text.as_bytes(), 80) else {
         return Err(Fail::from("the document is no Ion text"));
     };
