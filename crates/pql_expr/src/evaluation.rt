@@ -2,17 +2,21 @@
 ghost use Rattle.std.specs.Prelude.{◌≡◌, map, slice_get, IfOk};
 ghost use Rattle.std.specs.Option.{option_copied};
 ghost use Rattle.pql_model.specs.Meaning as spec;
-ghost use Rattle.pql_model.specs.Meaning.{each, meaning, meaning_of_member, meaning_of_path, meaning_of_step, under, walked};
+ghost use Rattle.pql_model.specs.Made.{found};
+ghost use Rattle.pql_model.specs.Meaning.{before, each, meaning, meaning_of_member, meaning_of_path, meaning_of_step, under};
+ghost use Rattle.pql_model.specs.declared.scope.Evaluated.TheVariants.{Found};
+ghost use Rattle.pql_expr.specs.Contexts.{context_of};
 ghost use Rattle.pql_model.specs.Lists as lists_spec;
 ghost use Rattle.pql_expr.specs.Words.{with_one, with_two};
 
-use crate::made::{answer, is_unknown, null};
-use crate::operators::between;
-use crate::paths::{at_index, at_name, copied, named};
+use crate::context::Context;
+use crate::made::{answer, is_unknown, null, truth};
+use crate::operators::{between, settled};
+use crate::paths::{Root, at_index, copied, field_of, id_value, root_of};
 use crate::words::{OneOperand, TwoOperands, with_one, with_two};
-use ion_values::{Body, Field, Value};
+use ion_values::{Body, Field, Value, copy};
 use lists::{OutOfMemory, Sequence};
-use pql_model::{Bound, Evaluated, Expr, Member, Path, PathStep, Scope};
+use pql_model::{Evaluated, Expr, Member, Path, PathStep, Scope};
 use std::alloc::Global;
 
 /// The meaning of the expression under one row and the parameters: MISSING or a value. A parameter
@@ -25,19 +29,29 @@ pub fn eval(
 ) -> Result<Evaluated, OutOfMemory>
     ensures { IfOk result (λ answer. answer ≡ meaning e.now (under scope.now params.now)) }
 {
-    eval_in(alloc, e, scope.as_slice(), params)
+    let context = Context {
+        scope: scope.as_slice(),
+        is_whole: true,
+        params,
+    };
+    eval_in(alloc, e, &context)
 }
 
-/// What the path leads to under one row and the parameters, MISSING where it leads nowhere.
-pub fn eval_path(
+/// What the path of a source leads to, from the sources before it, MISSING where it leads nowhere.
+pub fn eval_source_path(
     alloc: Global,
     path: &Path,
     scope: &Scope,
     params: &[Value],
 ) -> Result<Evaluated, OutOfMemory>
-    ensures { IfOk result (λ answer. answer ≡ meaning_of_path path.now (under scope.now params.now)) }
+    ensures { IfOk result (λ answer. answer ≡ meaning_of_path path.now (before scope.now params.now)) }
 {
-    path_in(alloc, path, scope.as_slice(), params)
+    let context = Context {
+        scope: scope.as_slice(),
+        is_whole: false,
+        params,
+    };
+    path_in(alloc, path, &context)
 }
 
 fn parameter(number: u32, params: &[Value]) -> Option<&Value>
@@ -50,56 +64,50 @@ fn parameter(number: u32, params: &[Value]) -> Option<&Value>
 fn eval_in(
     alloc: Global,
     e: &Expr,
-    scope: &[Bound],
-    params: &[Value],
+    context: &Context<'_>,
 ) -> Result<Evaluated, OutOfMemory>
-    ensures { IfOk result (λ answer. answer ≡ meaning e.now (under scope.now params.now)) }
+    ensures { IfOk result (λ answer. answer ≡ meaning e.now (context_of context.now)) }
 {
     match e {
         Expr::Value(v) => copied(alloc, Some(v)),
         Expr::Missing => Ok(Evaluated::Missing),
-        Expr::Parameter(number) => copied(alloc, parameter(*number, params)),
-        Expr::Path(path) => path_in(alloc, path, scope, params),
-        Expr::Negate(e) => of_one(alloc, OneOperand::Negate, e.get(), scope, params),
-        Expr::Not(e) => of_one(alloc, OneOperand::Not, e.get(), scope, params),
-        Expr::List(es) => list_in(alloc, es.as_slice(), scope, params),
-        Expr::Struct(members) => struct_in(alloc, members.as_slice(), scope, params),
+        Expr::Parameter(number) => copied(alloc, parameter(*number, context.params)),
+        Expr::Path(path) => path_in(alloc, path, context),
+        Expr::Negate(e) => of_one(alloc, OneOperand::Negate, e.get(), context),
+        Expr::Not(e) => of_one(alloc, OneOperand::Not, e.get(), context),
+        Expr::List(es) => list_in(alloc, es.as_slice(), context),
+        Expr::Struct(members) => struct_in(alloc, members.as_slice(), context),
         Expr::Binary { op, left, right } => {
-            let left = eval_in(alloc, left.get(), scope, params)?;
-            of_two(
-                alloc,
-                TwoOperands::Operator(*op),
-                left,
-                right.get(),
-                scope,
-                params,
-            )
+            let left = eval_in(alloc, left.get(), context)?;
+            if let Some(holds) = settled(*op, &left) {
+                return Ok(truth(alloc, holds));
+            }
+            of_two(alloc, TwoOperands::Operator(*op), left, right.get(), context)
         }
         Expr::IsIn { value, list } => {
-            let value = eval_in(alloc, value.get(), scope, params)?;
-            of_two(alloc, TwoOperands::In, value, list.get(), scope, params)
+            let value = eval_in(alloc, value.get(), context)?;
+            of_two(alloc, TwoOperands::In, value, list.get(), context)
         }
         Expr::Like { value, pattern } => {
-            let value = eval_in(alloc, value.get(), scope, params)?;
+            let value = eval_in(alloc, value.get(), context)?;
             of_two(
                 alloc,
                 TwoOperands::Like,
                 value,
                 pattern.get(),
-                scope,
-                params,
+                context,
             )
         }
         Expr::Between { value, low, high } => {
-            let value = eval_in(alloc, value.get(), scope, params)?;
-            let low = eval_in(alloc, low.get(), scope, params)?;
-            between_in(alloc, value, low, high.get(), scope, params)
+            let value = eval_in(alloc, value.get(), context)?;
+            let low = eval_in(alloc, low.get(), context)?;
+            between_in(alloc, value, low, high.get(), context)
         }
-        Expr::IsNull(e) => of_one(alloc, OneOperand::IsNull, e.get(), scope, params),
-        Expr::IsMissing(e) => of_one(alloc, OneOperand::IsMissing, e.get(), scope, params),
-        Expr::Coalesce(es) => first_known(alloc, es.as_slice(), scope, params),
-        Expr::Size(e) => of_one(alloc, OneOperand::Size, e.get(), scope, params),
-        Expr::CharLength(e) => of_one(alloc, OneOperand::CharLength, e.get(), scope, params),
+        Expr::IsNull(e) => of_one(alloc, OneOperand::IsNull, e.get(), context),
+        Expr::IsMissing(e) => of_one(alloc, OneOperand::IsMissing, e.get(), context),
+        Expr::Coalesce(es) => first_known(alloc, es.as_slice(), context),
+        Expr::Size(e) => of_one(alloc, OneOperand::Size, e.get(), context),
+        Expr::CharLength(e) => of_one(alloc, OneOperand::CharLength, e.get(), context),
         Expr::CountAll | Expr::Count(_) | Expr::Sum(_) | Expr::Min(_) | Expr::Max(_) => {
             Ok(Evaluated::Missing)
         }
@@ -111,12 +119,11 @@ fn of_one(
     alloc: Global,
     word: OneOperand,
     e: &Expr,
-    scope: &[Bound],
-    params: &[Value],
+    context: &Context<'_>,
 ) -> Result<Evaluated, OutOfMemory>
-    ensures { IfOk result (λ answer. answer ≡ with_one word (meaning e.now (under scope.now params.now))) }
+    ensures { IfOk result (λ answer. answer ≡ with_one word (meaning e.now (context_of context.now))) }
 {
-    let found = eval_in(alloc, e, scope, params)?;
+    let found = eval_in(alloc, e, context)?;
     Ok(with_one(alloc, word, &found))
 }
 
@@ -126,12 +133,11 @@ fn of_two(
     word: TwoOperands,
     left: Evaluated,
     right: &Expr,
-    scope: &[Bound],
-    params: &[Value],
+    context: &Context<'_>,
 ) -> Result<Evaluated, OutOfMemory>
-    ensures { IfOk result (λ answer. answer ≡ with_two word left (meaning right.now (under scope.now params.now))) }
+    ensures { IfOk result (λ answer. answer ≡ with_two word left (meaning right.now (context_of context.now))) }
 {
-    let right = eval_in(alloc, right, scope, params)?;
+    let right = eval_in(alloc, right, context)?;
     with_two(alloc, word, &left, &right)
 }
 
@@ -141,12 +147,11 @@ fn between_in(
     value: Evaluated,
     low: Evaluated,
     high: &Expr,
-    scope: &[Bound],
-    params: &[Value],
+    context: &Context<'_>,
 ) -> Result<Evaluated, OutOfMemory>
-    ensures { IfOk result (λ answer. answer ≡ lists_spec.between value low (meaning high.now (under scope.now params.now))) }
+    ensures { IfOk result (λ answer. answer ≡ lists_spec.between value low (meaning high.now (context_of context.now))) }
 {
-    let high = eval_in(alloc, high, scope, params)?;
+    let high = eval_in(alloc, high, context)?;
     between(alloc, &value, &low, &high)
 }
 
@@ -154,33 +159,55 @@ fn between_in(
 fn path_in(
     alloc: Global,
     path: &Path,
-    scope: &[Bound],
-    params: &[Value],
+    context: &Context<'_>,
 ) -> Result<Evaluated, OutOfMemory>
-    ensures { IfOk result (λ answer. answer ≡ meaning_of_path path.now (under scope.now params.now)) }
+    ensures { IfOk result (λ answer. answer ≡ meaning_of_path path.now (context_of context.now)) }
 {
-    let mut found = named(alloc, path.first.as_str(), scope)?;
-    'steps: for step in path.steps.as_slice() {
-        found = step_in(alloc, step, found, scope, params)?;
+    let steps = path.steps.as_slice();
+    match root_of(path.first.as_str(), context.is_whole, context.scope) {
+        Root::Nothing => Ok(Evaluated::Missing),
+        Root::Value(v) => walked(alloc, steps, v, context),
+        Root::Id(id) => {
+            let text = id_value(alloc, id)?;
+            walked(alloc, steps, &text, context)
+        }
     }
-    Ok(found)
+}
+
+// A copy of what the steps lead to.
+#[cycle(eval)]
+fn walked(
+    alloc: Global,
+    steps: &[PathStep],
+    from: &Value,
+    context: &Context<'_>,
+) -> Result<Evaluated, OutOfMemory>
+    ensures { IfOk result (λ answer. answer ≡ spec.walked (map meaning_of_step steps.now) (context_of context.now) (Found from.now)) }
+{
+    let mut at = from;
+    'steps: for step in steps {
+        match step_in(alloc, step, at, context)? {
+            Some(next) => at = next,
+            None => return Ok(Evaluated::Missing),
+        }
+    }
+    Ok(Evaluated::Found(copy(alloc, at)?))
 }
 
 #[cycle(eval)]
-fn step_in(
+fn step_in<'a>(
     alloc: Global,
     step: &PathStep,
-    from: Evaluated,
-    scope: &[Bound],
-    params: &[Value],
-) -> Result<Evaluated, OutOfMemory>
-    ensures { IfOk result (λ answer. answer ≡ meaning_of_step step.now (under scope.now params.now) from) }
+    from: &'a Value,
+    context: &Context<'_>,
+) -> Result<Option<&'a Value>, OutOfMemory>
+    ensures { IfOk result (λ v. found (option_copied v) ≡ meaning_of_step step.now (context_of context.now) (Found from.now)) }
 {
     match step {
-        PathStep::Field(name) => at_name(alloc, name.as_str(), &from),
+        PathStep::Field(name) => Ok(field_of(name.as_str(), from)),
         PathStep::Index(index) => {
-            let index = eval_in(alloc, index, scope, params)?;
-            at_index(alloc, &index, &from)
+            let index = eval_in(alloc, index, context)?;
+            Ok(at_index(&index, from))
         }
     }
 }
@@ -189,14 +216,13 @@ fn step_in(
 fn list_in(
     alloc: Global,
     es: &[Expr],
-    scope: &[Bound],
-    params: &[Value],
+    context: &Context<'_>,
 ) -> Result<Evaluated, OutOfMemory>
-    ensures { IfOk result (λ answer. answer ≡ lists_spec.list_of (each (map meaning es.now) (under scope.now params.now))) }
+    ensures { IfOk result (λ answer. answer ≡ lists_spec.list_of (each (map meaning es.now) (context_of context.now))) }
 {
     let mut values = Sequence::new(alloc);
     'members: for e in es {
-        match eval_in(alloc, e, scope, params)? {
+        match eval_in(alloc, e, context)? {
             Evaluated::Missing => {}
             Evaluated::Found(v) => values.push(v)?,
         }
@@ -208,14 +234,13 @@ fn list_in(
 fn struct_in(
     alloc: Global,
     members: &[Member],
-    scope: &[Bound],
-    params: &[Value],
+    context: &Context<'_>,
 ) -> Result<Evaluated, OutOfMemory>
-    ensures { IfOk result (λ answer. answer ≡ lists_spec.struct_of (each (map meaning_of_member members.now) (under scope.now params.now))) }
+    ensures { IfOk result (λ answer. answer ≡ lists_spec.struct_of (each (map meaning_of_member members.now) (context_of context.now))) }
 {
     let mut fields = Sequence::new(alloc);
     'members: for member in members {
-        match eval_in(alloc, &member.value, scope, params)? {
+        match eval_in(alloc, &member.value, context)? {
             Evaluated::Missing => {}
             Evaluated::Found(value) => fields.push(Field {
                 name: member.name.copy(alloc)?,
@@ -230,13 +255,12 @@ fn struct_in(
 fn first_known(
     alloc: Global,
     es: &[Expr],
-    scope: &[Bound],
-    params: &[Value],
+    context: &Context<'_>,
 ) -> Result<Evaluated, OutOfMemory>
-    ensures { IfOk result (λ answer. answer ≡ lists_spec.coalesce (each (map meaning es.now) (under scope.now params.now))) }
+    ensures { IfOk result (λ answer. answer ≡ lists_spec.coalesce (each (map meaning es.now) (context_of context.now))) }
 {
     'members: for e in es {
-        let found = eval_in(alloc, e, scope, params)?;
+        let found = eval_in(alloc, e, context)?;
         if !is_unknown(&found) {
             return Ok(found);
         }

@@ -4,6 +4,7 @@
 mod arithmetic;
 mod comparisons;
 mod containers;
+mod context;
 mod evaluation;
 mod logic;
 mod made;
@@ -13,7 +14,7 @@ mod patterns;
 mod texts;
 mod words;
 
-pub use evaluation::{eval, eval_path};
+pub use evaluation::{eval, eval_source_path};
 pub use made::is_unknown;
 pub use operators::operate;
 

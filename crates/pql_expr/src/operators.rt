@@ -1,8 +1,10 @@
 //! The operators that stand between two operands, LIKE and BETWEEN.
-ghost use Rattle.std.specs.Prelude.{◌≡◌, IfOk};
+ghost use Rattle.std.specs.Prelude.{◌≡◌, IfOk, IfSome};
 ghost use Rattle.pql_model.specs.Comparisons.{of_both};
 ghost use Rattle.pql_model.specs.Lists as lists_spec;
+ghost use Rattle.pql_model.specs.Made.{truth as spec_truth};
 ghost use Rattle.pql_model.specs.Meaning as spec;
+ghost use Rattle.pql_model.specs.declared.scope.Evaluated.{Evaluated};
 ghost use Rattle.pql_model.specs.Texts as texts_spec;
 
 use crate::arithmetic::{difference, product, quotient, remainder, sum};
@@ -52,6 +54,17 @@ fn of_known(
         return Ok(null(alloc));
     }
     of_values(alloc, op, v, w)
+}
+
+/// What the operator gives by its left side alone: false in AND, true in OR.
+pub fn settled(op: Operator, left: &Evaluated) -> Option<bool>
+    ensures { IfSome result (λ holds. (right : Evaluated) → spec.operate op left.now right ≡ spec_truth holds) }
+{
+    match (op, truth_in(left)) {
+        (Operator::And, Some(false)) => Some(false),
+        (Operator::Or, Some(true)) => Some(true),
+        _ => None,
+    }
 }
 
 /// What the operator gives for its two sides.

@@ -1,15 +1,15 @@
 //! What names mean in a row, and the steps of paths.
-ghost use Rattle.std.specs.Prelude.{◌≡◌, reverse, IfOk};
-ghost use Rattle.std.specs.List.{find};
+ghost use Rattle.std.specs.Prelude.{◌≡◌, IfOk};
 ghost use Rattle.std.specs.Option.{option_copied};
 ghost use Rattle.ql_types.specs.Ids.{id_text};
-ghost use Rattle.pql_model.specs.Made.{found, onward, seen};
+ghost use Rattle.ion_values.specs.declared.value.Body.TheVariants as body;
+ghost use Rattle.pql_model.specs.Made.{found, made, onward, seen};
 ghost use Rattle.pql_model.specs.Steps as spec;
+ghost use Rattle.pql_expr.specs.Contexts.{meant_at};
 
-use crate::made::answer;
 use ion_values::{Body, Field, Value, copy};
-use lists::{OutOfMemory, Text};
-use pql_model::{Bound, Evaluated};
+use lists::{OutOfMemory, Sequence, Text};
+use pql_model::{Bound, Evaluated, Resolved, resolve};
 use ql_types::{DocId, id_digits};
 use std::alloc::Global;
 
@@ -73,52 +73,14 @@ pub fn copied(alloc: Global, v: Option<&Value>) -> Result<Evaluated, OutOfMemory
     }
 }
 
-/// The step `.name`.
-pub fn at_name(alloc: Global, name: &str, from: &Evaluated) -> Result<Evaluated, OutOfMemory>
-    ensures { IfOk result (λ e. e ≡ onward (λ v. found (spec.field_of name.now v)) from.now) }
-{
-    match from {
-        Evaluated::Missing => Ok(Evaluated::Missing),
-        Evaluated::Found(v) => copied(alloc, field_of(name, v)),
-    }
-}
-
-fn at_value(alloc: Global, index: &Value, from: &Evaluated) -> Result<Evaluated, OutOfMemory>
-    ensures { IfOk result (λ e. e ≡ onward (λ v. found (spec.indexed index.now v)) from.now) }
-{
-    match from {
-        Evaluated::Missing => Ok(Evaluated::Missing),
-        Evaluated::Found(v) => copied(alloc, indexed(index, v)),
-    }
-}
-
 /// The step `[index]`.
-pub fn at_index(
-    alloc: Global,
-    index: &Evaluated,
-    from: &Evaluated,
-) -> Result<Evaluated, OutOfMemory>
-    ensures { IfOk result (λ e. e ≡ onward (λ w. onward (λ v. found (spec.indexed w v)) from.now) index.now) }
+pub fn at_index<'a>(index: &Evaluated, from: &'a Value) -> Option<&'a Value>
+    ensures { found (option_copied result) ≡ onward (λ w. found (spec.indexed w from.now)) index.now }
 {
     match index {
-        Evaluated::Missing => Ok(Evaluated::Missing),
-        Evaluated::Found(index) => at_value(alloc, index, from),
+        Evaluated::Missing => None,
+        Evaluated::Found(index) => indexed(index, from),
     }
-}
-
-fn is_id_name(name: &str, bound: &Bound) -> bool
-    ensures { result ≡ spec.is_id_name name.now bound.now.id_name bound.now.id }
-{
-    match (&bound.id_name, &bound.id) {
-        (Some(by), Some(_)) => by.as_str() == name,
-        _ => false,
-    }
-}
-
-fn binds(name: &str, bound: &Bound) -> bool
-    ensures { result ≡ spec.binds name.now bound.now }
-{
-    is_id_name(name, bound) || bound.variable.as_str() == name
 }
 
 fn id_text(alloc: Global, id: DocId) -> Result<Text, OutOfMemory>
@@ -132,51 +94,75 @@ fn id_text(alloc: Global, id: DocId) -> Result<Text, OutOfMemory>
     Ok(text)
 }
 
-fn id_answer(alloc: Global, id: Option<DocId>) -> Result<Evaluated, OutOfMemory>
-    ensures { IfOk result (λ e. e ≡ spec.id_answer id) }
+/// An id as a string.
+pub fn id_value(alloc: Global, id: DocId) -> Result<Value, OutOfMemory>
+    ensures { IfOk result (λ v. v ≡ made (body.String (id_text id.raw))) }
+{
+    Ok(Value {
+        annotations: Sequence::new(alloc),
+        body: Body::String(id_text(alloc, id)?),
+    })
+}
+
+/// What the first name of a path means: nothing, a value of the row, or the id of its document.
+pub enum Root<'a> {
+    Nothing,
+    Value(&'a Value),
+    Id(DocId),
+}
+
+fn value_or_nothing<'a>(v: Option<&'a Value>) -> Root<'a>
+    ensures { meant_at result ≡ found (option_copied v.entry) }
+{
+    match v {
+        Some(v) => Root::Value(v),
+        None => Root::Nothing,
+    }
+}
+
+fn id_or_nothing<'a>(id: Option<DocId>) -> Root<'a>
+    ensures { meant_at result ≡ spec.id_answer id }
 {
     match id {
-        Some(id) => Ok(answer(alloc, Body::String(id_text(alloc, id)?))),
-        None => Ok(Evaluated::Missing),
+        Some(id) => Root::Id(id),
+        None => Root::Nothing,
     }
 }
 
-fn bound_to(alloc: Global, name: &str, bound: &Bound) -> Result<Evaluated, OutOfMemory>
-    ensures { IfOk result (λ e. e ≡ spec.bound_to name.now bound.now) }
+fn of_source<'a>(resolved: Resolved, bound: &'a Bound) -> Root<'a>
+    ensures { meant_at result ≡ spec.meant_by resolved bound.now }
 {
-    if is_id_name(name, bound) {
-        return id_answer(alloc, bound.id);
+    match resolved {
+        Resolved::Variable(_) => Root::Value(&bound.value),
+        Resolved::Id(_) => id_or_nothing(bound.id),
     }
-    Ok(Evaluated::Found(copy(alloc, &bound.value)?))
 }
 
-fn last_binding<'a>(name: &str, scope: &'a [Bound]) -> Option<&'a Bound>
-    ensures { option_copied result ≡ find (spec.binds name.now) (reverse scope.now) }
+fn in_row<'a>(resolved: Resolved, scope: &'a [Bound]) -> Root<'a>
+    ensures { meant_at result ≡ spec.meant_in scope.now resolved }
 {
-    let mut last = None;
-    'sources: for bound in scope {
-        if binds(name, bound) {
-            last = Some(bound);
-        }
+    let (Resolved::Variable(place) | Resolved::Id(place)) = resolved;
+    match scope.get(place) {
+        Some(bound) => of_source(resolved, bound),
+        None => Root::Nothing,
     }
-    last
 }
 
-fn field_of_only<'a>(name: &str, scope: &'a [Bound]) -> Option<&'a Value>
-    ensures { found (option_copied result) ≡ spec.field_of_only name.now scope.now }
+fn field_of_only<'a>(name: &str, is_whole: bool, scope: &'a [Bound]) -> Option<&'a Value>
+    ensures { found (option_copied result) ≡ spec.field_of_only name.now is_whole scope.now }
 {
     match scope {
-        [only] => field_of(name, &only.value),
+        [only] if is_whole => field_of(name, &only.value),
         _ => None,
     }
 }
 
-/// What the first name of a path means.
-pub fn named(alloc: Global, name: &str, scope: &[Bound]) -> Result<Evaluated, OutOfMemory>
-    ensures { IfOk result (λ e. e ≡ spec.named name.now scope.now) }
+/// What the first name of a path means in a row, which may have all sources of the statement or not.
+pub fn root_of<'a>(name: &str, is_whole: bool, scope: &'a [Bound]) -> Root<'a>
+    ensures { meant_at result ≡ spec.named name.now is_whole scope.now }
 {
-    match last_binding(name, scope) {
-        Some(bound) => bound_to(alloc, name, bound),
-        None => copied(alloc, field_of_only(name, scope)),
+    match resolve(name, scope) {
+        Some(resolved) => in_row(resolved, scope),
+        None => value_or_nothing(field_of_only(name, is_whole, scope)),
     }
 }

@@ -36,7 +36,7 @@ use Rattle.pql_model.specs.Comparisons.{of_both}
 use Rattle.pql_model.specs.From.{Combined, Viewed, bound_element, bound_of, bound_row, combined, combined_with, elements_of, elements_or_none, extended, given, given_by, is_kept, rows_of}
 use Rattle.pql_model.specs.Lists.{field_in, list_seen, value_in}
 use Rattle.pql_model.specs.Made.{Seen, is_unknown, onward, seen}
-use Rattle.pql_model.specs.Meaning.{meaning_of_path, under}
+use Rattle.pql_model.specs.Meaning.{before, meaning_of_path, under}
 use Rattle.pql_model.specs.MeaningDepth.{depth_in}
 use Rattle.pql_model.specs.Tables.{table_named, view_named}
 use Rattle.pql_model.specs.Shallow.{AnswersAreShallow, AreWithin, IsShallowSelect, expr_depth, item_depth}
@@ -142,15 +142,15 @@ module _ (d : ℕ) (low : 64 ≤ d) where
   -- ---- rows
 
   module _ (views : Viewed) (params : List Value) (shallow : AreWithin d views) where
-    given_rows : (s : Source) (kind : SourceKind) (before : Combined) → scope_depth before ≤ d → scope_depth (given_by views params s kind before) ≤ d
-    given_rows s (source.Table name) before h =
+    given_rows : (s : Source) (kind : SourceKind) (scope : Combined) → scope_depth scope ≤ d → scope_depth (given_by views params s kind scope) ≤ d
+    given_rows s (source.Table name) scope h =
         map_depth row_depth bound_depth (bound_row s) d d (λ r le. le) (views (table_named name) (view_named name)) (shallow _ _)
-    given_rows s (source.History table start end) before h =
+    given_rows s (source.History table start end) scope h =
         map_depth row_depth bound_depth (bound_row s) d d (λ r le. le) (views table (view.History (bound_of params start) (bound_of params end))) (shallow _ _)
-    given_rows s (source.Path path) before h =
+    given_rows s (source.Path path) scope h =
         map_depth depth_of bound_depth (bound_element s) d d (λ v le. le)
-        (elements_of (meaning_of_path path (under before params)))
-        (omega (arith, elements_depth (meaning_of_path path (under before params)), path_is_bounded path (under before params)))
+        (elements_of (meaning_of_path path (before scope params)))
+        (omega (arith, elements_depth (meaning_of_path path (before scope params)), path_is_bounded path (before scope params)))
 
     extended_depth : (s : Source) (before : Combined) → scope_depth before ≤ d → all_rows_depth (extended views params s before) ≤ d
     extended_depth s before h =

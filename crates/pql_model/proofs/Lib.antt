@@ -7,6 +7,7 @@ mod MeaningDepths
 mod MeaningRows
 mod SelectRows
 mod PathDepths
+mod Resolving
 pub mod AnswerDepths
 mod Gives
 mod Tallness

@@ -179,12 +179,12 @@ member_bound : (x : Member-F Expr PathStep Member Path) → OfExpr x.value → O
 member_bound x h c =
     rw (at_member x c, at_member_literal x, at_member_nesting x, field_in_depth x.name (meaning x.value c)) (h c)
 
-at_path : (x : Path-F Expr PathStep Member Path) (c : Context) → meaning_of_path (roll-Path x) c ≡ walked (map meaning_of_step x.steps) c (named x.first c.scope)
+at_path : (x : Path-F Expr PathStep Member Path) (c : Context) → meaning_of_path (roll-Path x) c ≡ walked (map meaning_of_step x.steps) c (named x.first c.is_whole c.scope)
 at_path x c = search (rules, the_lemmas)
 
 path_bound : (name : List ℕ) (ss : List S) → OfPath (roll-Path (record { first = name; steps = map (λ s. s.0) ss }))
 path_bound name ss c =
-    rw (at_path (record { first = name; steps = map (λ s. s.0) ss }) c) (omega (arith, walked_bound ss c (named name c.scope), named_depth name c.scope))
+    rw (at_path (record { first = name; steps = map (λ s. s.0) ss }) c) (omega (arith, walked_bound ss c (named name c.is_whole c.scope), named_depth name c.is_whole c.scope))
 
 -- ---- the whole
 

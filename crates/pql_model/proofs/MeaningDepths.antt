@@ -1,5 +1,5 @@
 -- The value of an expression is at most as much deeper than what it is made from as the expression nests.
-use Rattle.std.proofs.Common.{◌≡◌, ℕ, ◌≤◌, max, ℤ, pos, ◌+ℤ◌, ◌-ℤ◌, ◌*ℤ◌, int_div, int_rem, Bool, true, false, not, cond, if◌then◌else◌, ◌||◌, ◌&&◌, List, [], ◌∷◌, map, length, reverse, refl, arith, rules}
+use Rattle.std.proofs.Common.{zero, suc, slice_get, ◌≡◌, ℕ, ◌≤◌, max, ℤ, pos, ◌+ℤ◌, ◌-ℤ◌, ◌*ℤ◌, int_div, int_rem, Bool, true, false, not, cond, if◌then◌else◌, ◌||◌, ◌&&◌, List, [], ◌∷◌, map, length, reverse, refl, arith, rules}
 use Rattle.std.specs.declared.option.Option.{Option}
 use Rattle.std.specs.declared.option.Option.TheVariants.{None, Some}
 use Rattle.std.specs.Option.{option_map_or}
@@ -30,7 +30,10 @@ use Rattle.pql_model.specs.Logic.{conjunction, disjunction, negation, is_true, i
 use Rattle.pql_model.specs.Arithmetic.{some_int, decimal_answer, int_of, decimal_of, combined, divided, negated, opposite, minus}
 use Rattle.pql_model.specs.Texts.{joined, like, text_of, length_of, char_length}
 use Rattle.pql_model.specs.Lists.{any_of, is_among, is_equal_to, is_null_answer, is_in, between, members_of, size_of, size, list_seen}
-use Rattle.pql_model.specs.Steps.{binds, bound_to, is_id_name, id_answer, field_of_only, named, field_of}
+use Rattle.pql_model.specs.Names.{called_in_row, resolve}
+use Rattle.pql_model.specs.declared.names.Resolved.{Resolved}
+use Rattle.pql_model.specs.declared.names.Resolved.TheVariants.{Variable, Id}
+use Rattle.pql_model.specs.Steps.{id_answer, field_of_only, meant_by, meant_in, place_of, named, field_of}
 use Rattle.pql_model.specs.Meaning.{of_values, operate}
 use Rattle.pql_model.specs.MeaningDepth.{depth_in}
 use Rattle.pql_model.proofs.Depths.{found_depth, field_of_depth, deepest_append, bool_depth, int_depth, string_depth}
@@ -178,34 +181,29 @@ choice_depth : (b : Bool) (x y : Evaluated) (n : ℕ) → depth_in x ≤ n → d
 choice_depth true x y n f g = f
 choice_depth false x y n f g = g
 
-bound_to_depth : (name : List ℕ) (b : Bound) → depth_in (bound_to name b) ≤ of_bound b
-bound_to_depth name b =
-    choice_depth (is_id_name name b.id_name b.id) (id_answer b.id) (Found b.value) (of_bound b) (omega (arith, id_flat b.id)) (omega arith)
+meant_by_depth : (r : Resolved) (b : Bound) → depth_in (meant_by r b) ≤ of_bound b
+meant_by_depth (Variable place) b = omega arith
+meant_by_depth (Id place) b = omega (arith, id_flat b.id)
 
-abbrev of_found : List ℕ → Option Bound → Evaluated → ℕ
-of_found name o other = depth_in (option_map_or (bound_to name) o other)
+place_depth : (r : Resolved) (place : ℕ) (scope : List Bound) → depth_in (option_map_or (meant_by r) (slice_get scope place) Missing) ≤ deepest (map of_bound scope)
+place_depth r place [] = omega arith
+place_depth r zero (b ∷ bs) = omega (arith, meant_by_depth r b)
+place_depth r (suc place) (b ∷ bs) = omega (arith, place_depth r place bs)
 
-found_bound : (name : List ℕ) (test : Bound → Bool) (bs : List Bound) (other : Evaluated) (n : ℕ) → depth_in other ≤ n → of_found name (find test bs) other ≤ max n (deepest (map of_bound bs))
-found_bound name test [] other n h = omega (arith, h)
-found_bound name test (b ∷ bs) other n h =
-    elim (test b) as (λ t. of_found name (cond t (Some b) (find test bs)) other ≤ max n (deepest (map of_bound (b ∷ bs)))) [
-      | true ↦ omega (arith, bound_to_depth name b)
-      | false ↦ omega (arith, found_bound name test bs other n h)
-    ]
+only_depth : (name : List ℕ) (whole : Bool) (scope : List Bound) → depth_in (field_of_only name whole scope) ≤ deepest (map of_bound scope)
+only_depth name false scope = omega arith
+only_depth name true [] = omega arith
+only_depth name true (b ∷ []) = omega (arith, found_depth (field_of name b.value), field_of_depth name b.value)
+only_depth name true (b ∷ c ∷ bs) = omega arith
 
-reversed : (bs : List Bound) → deepest (map of_bound (reverse bs)) ≡ deepest (map of_bound bs)
-reversed [] = refl
-reversed (b ∷ bs) =
-    rw (reverse_onto bs b [], map-append of_bound (reverse bs) (b ∷ []), deepest_append) (omega (arith, reversed bs))
+resolved_depth : (o : Option Resolved) (other : Evaluated) (scope : List Bound) → depth_in other ≤ deepest (map of_bound scope)
+    → depth_in (option_map_or (meant_in scope) o other) ≤ deepest (map of_bound scope)
+resolved_depth None other scope h = h
+resolved_depth (Some r) other scope h = place_depth r (place_of r) scope
 
-only_depth : (name : List ℕ) (scope : List Bound) → depth_in (field_of_only name scope) ≤ deepest (map of_bound scope)
-only_depth name [] = omega arith
-only_depth name (b ∷ []) = omega (arith, found_depth (field_of name b.value), field_of_depth name b.value)
-only_depth name (b ∷ c ∷ bs) = omega arith
-
-pub named_depth : (name : List ℕ) (scope : List Bound) → depth_in (named name scope) ≤ deepest (map of_bound scope)
-named_depth name scope =
-    omega (arith, found_bound name (binds name) (reverse scope) (field_of_only name scope) (deepest (map of_bound scope)) (only_depth name scope), reversed scope)
+pub named_depth : (name : List ℕ) (whole : Bool) (scope : List Bound) → depth_in (named name whole scope) ≤ deepest (map of_bound scope)
+named_depth name whole scope =
+    resolved_depth (resolve name (map called_in_row scope)) (field_of_only name whole scope) scope (only_depth name whole scope)
 
 pub coalesce_step : (e rest : Evaluated) (n : ℕ) → depth_in e ≤ n → depth_in rest ≤ n → depth_in (if is_unknown e then rest else e) ≤ n
 coalesce_step e rest n f g = choice_depth (is_unknown e) rest e n g f

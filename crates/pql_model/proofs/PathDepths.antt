@@ -61,12 +61,12 @@ level_bound (PathStep-F.Index i) c e = indexed_bound (meaning i c) e
 step_bound : (x : PathStep-F Expr PathStep Member Path) → OfStep (roll-PathStep x)
 step_bound x c e = rw (at_step x) (level_bound x c e)
 
-at_path : (x : Path-F Expr PathStep Member Path) (c : Context) → meaning_of_path (roll-Path x) c ≡ walked (map meaning_of_step x.steps) c (named x.first c.scope)
+at_path : (x : Path-F Expr PathStep Member Path) (c : Context) → meaning_of_path (roll-Path x) c ≡ walked (map meaning_of_step x.steps) c (named x.first c.is_whole c.scope)
 at_path x c = search (rules, the_lemmas)
 
 path_bound : (name : List ℕ) (ss : List S) → OfPath (roll-Path (record { first = name; steps = map (λ s. s.0) ss }))
 path_bound name ss c =
-    rw (at_path (record { first = name; steps = map (λ s. s.0) ss }) c) (omega (arith, walked_bound ss c (named name c.scope), named_depth name c.scope))
+    rw (at_path (record { first = name; steps = map (λ s. s.0) ss }) c) (omega (arith, walked_bound ss c (named name c.is_whole c.scope), named_depth name c.is_whole c.scope))
 
 pub path_is_bounded : (p : Path) (c : Context) → depth_in (meaning_of_path p c) ≤ scope_depth c.scope
 path_is_bounded =

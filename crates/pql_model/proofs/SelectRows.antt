@@ -97,6 +97,13 @@ of_second = search (rules, the_lemmas, values.the_lemmas)
 of_third : given documents [] source_i (of_t 3 third ∷ []) ≡ []
 of_third = search (rules, the_lemmas, values.the_lemmas)
 
+-- in `FROM t, items` the name isn't a field of t, because the statement has two sources
+abbrev source_of_field : Source
+source_of_field = record { from = source.Path (named (codes "items") []); variable = codes "items"; id_name = None; on = None }
+
+of_a_field : given documents [] source_of_field (of_t 2 second ∷ []) ≡ []
+of_a_field = search (rules, the_lemmas, values.the_lemmas)
+
 abbrev pair : ℕ → List Bound
 pair n = of_t 2 second ∷ of_i (int n) ∷ []
 

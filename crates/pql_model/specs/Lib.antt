@@ -11,6 +11,7 @@ pub mod Arithmetic
 pub mod Comparisons
 pub mod Lists
 pub mod Logic
+pub mod Names
 pub mod Steps
 pub mod Texts
 pub mod Meaning

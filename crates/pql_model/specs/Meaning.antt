@@ -1,6 +1,6 @@
 -- The meaning of an expression under one row and the parameters (PartiQL; the profile is the ledger's own): MISSING or a value, and
 -- never an error.
-use Rattle.std.specs.Prelude.{not, List, [], ◌∷◌, map, slice_get}
+use Rattle.std.specs.Prelude.{Bool, true, false, not, List, [], ◌∷◌, map, slice_get}
 use Rattle.std.specs.Ordering.{is_lt, is_le, is_gt, is_ge}
 use Rattle.ion_values.specs.declared.value.Value.{Value}
 use Rattle.ion_values.specs.declared.value.Field.{Field}
@@ -23,13 +23,18 @@ use Rattle.pql_model.specs.Arithmetic.{sum, difference, product, quotient, remai
 use Rattle.pql_model.specs.Texts.{joined, like, char_length}
 use Rattle.pql_model.specs.Lists.{is_in, between, list_of, field_in, struct_of, coalesce, size}
 
--- one row of the sources, and the parameters
+-- one row of the sources, whether these are all sources of the statement, and the parameters
 pub record Context : Type 0 where
   pub scope : List Bound
+  pub is_whole : Bool
   pub params : List Value
 
 abbrev pub under : List Bound → List Value → Context
-under scope params = record { scope = scope; params = params }
+under scope params = record { scope = scope; is_whole = true; params = params }
+
+-- what a path source sees: the sources before it
+abbrev pub before : List Bound → List Value → Context
+before scope params = record { scope = scope; is_whole = false; params = params }
 
 -- what a context gives an expression, a member and a step of a path
 abbrev pub Meant : Type 0
@@ -106,7 +111,7 @@ abbrev pub member_step : Member-F Meant Stepped Given Meant → Given
 member_step m c = field_in m.name (m.value c)
 
 abbrev pub path_step : Path-F Meant Stepped Given Meant → Meant
-path_step p c = walked p.steps c (named p.first c.scope)
+path_step p c = walked p.steps c (named p.first c.is_whole c.scope)
 
 abbrev pub meaning : Expr → Meant
 meaning = fold-Expr Meant Stepped Given Meant expr_step step_step member_step path_step

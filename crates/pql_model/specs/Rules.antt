@@ -1,8 +1,7 @@
 -- What a statement owes beyond its grammar (PartiQL Specification, scoping of names, and aggregation; the placement of BY and of
 -- the targets of changes as in Amazon QLDB's PartiQL). The rules judge the marks that were set in reading the statement, in text order.
-use Rattle.std.specs.Prelude.{ℕ, ◌==◌, ◌&&◌, ◌||◌, not, Bool, true, false, nat_lt, List, [], ◌∷◌, length, take, drop, codes, Option, Some, None, if◌then◌else◌}
+use Rattle.std.specs.Prelude.{ℕ, ◌==◌, ◌&&◌, ◌||◌, not, Bool, true, false, nat_lt, List, [], ◌∷◌, length, map, take, drop, codes, is_some, Option, Some, None, if◌then◌else◌}
 use Rattle.std.specs.List.{list_any}
-use Rattle.std.specs.Str.{bytes_eq}
 use Rattle.ion_grammar.specs.Blanks.{begins}
 use Rattle.pql_model.specs.declared.ParseKind.{ParseKind}
 use Rattle.pql_model.specs.declared.ParseKind.TheVariants as kind
@@ -11,12 +10,15 @@ use Rattle.pql_model.specs.declared.mark.Place.{Place}
 use Rattle.pql_model.specs.declared.mark.Place.TheVariants as place
 use Rattle.pql_model.specs.declared.mark.Role.{Role}
 use Rattle.pql_model.specs.declared.mark.Role.TheVariants as role
+use Rattle.pql_model.specs.declared.names.Resolved.{Resolved}
+use Rattle.pql_model.specs.declared.names.Resolved.TheVariants.{Variable, Id}
 use Rattle.pql_model.specs.declared.statement.Statement.{Statement}
 use Rattle.pql_model.specs.declared.statement.Statement.TheVariants as statement
 use Rattle.pql_model.specs.declared.statement.Source.{Source}
 use Rattle.pql_model.specs.declared.statement.SourceKind.{SourceKind}
 use Rattle.pql_model.specs.declared.statement.SourceKind.TheVariants as source
 use Rattle.pql_model.specs.Grammar.{is_variable}
+use Rattle.pql_model.specs.Names.{called, resolve}
 use Rattle.pql_model.specs.Productions.{Fault}
 
 abbrev pub sources_of : Statement → List Source
@@ -24,37 +26,19 @@ sources_of (statement.Select select from) = from.sources
 sources_of (statement.Update from change) = from.sources
 sources_of (statement.From from change) = from.sources
 sources_of (statement.Delete from) = from.sources
-sources_of _ = []
+sources_of (statement.Insert table value) = []
+sources_of (statement.Create table) = []
+sources_of (statement.Index table field) = []
+sources_of (statement.Drop table) = []
 
 -- ---- what a name means
 
--- What a name is of a source: its variable or its BY name.
-pub data Meant : Type 0 where
-  Variable : SourceKind → Meant
-  Id : Meant
-
-abbrev pub is_id : List ℕ → Option (List ℕ) → Bool
-is_id name None = false
-is_id name (Some id) = bytes_eq id name
-
--- A BY name counts after the variable of its source.
-abbrev pub meant_by : List ℕ → Source → Option Meant
-meant_by name s = if is_id name s.id_name then Some Id else (if bytes_eq s.variable name then Some (Variable s.from) else None)
-
-abbrev pub or_else : Option Meant → Option Meant → Option Meant
-or_else (Some m) before = Some m
-or_else None before = before
-
--- Of several that are spelt alike the last is meant.
-abbrev pub meaning_of : List ℕ → List Source → Option Meant
-meaning_of name [] = None
-meaning_of name (s ∷ ss) = or_else (meaning_of name ss) (meant_by name s)
-
-abbrev pub is_known : List Source → List ℕ → Bool
-is_known sources name = list_any (λ s. is_id name s.id_name || bytes_eq s.variable name) sources
-
 abbrev pub is_single : List Source → Bool
 is_single sources = length sources == 1
+
+-- what the name means of these sources
+abbrev pub resolved : List ℕ → List Source → Option Resolved
+resolved name sources = resolve name (map called sources)
 
 -- A path source sees the earlier sources, and every other expression sees all.
 abbrev pub seen_from : Place → List Source → List Source
@@ -68,7 +52,7 @@ unless holds k = if holds then None else Some k
 
 -- A name is that of a source that the expression sees, or of a field of the only source.
 abbrev pub judged_name : Place → List ℕ → List Source → Option ParseKind
-judged_name p name sources = unless (is_known (seen_from p sources) name || is_single sources) kind.UnknownName
+judged_name p name sources = unless (is_some (resolved name (seen_from p sources)) || is_single sources) kind.UnknownName
 
 abbrev pub is_path : SourceKind → Bool
 is_path (source.Path p) = true
@@ -91,19 +75,22 @@ abbrev pub is_table : SourceKind → Bool
 is_table (source.Table name) = not (begins (codes "_ql_committed_") name)
 is_table _ = false
 
+abbrev pub is_table_at : ℕ → List Source → Bool
+is_table_at n sources = list_any (λ s. is_table s.from) (take 1 (drop n sources))
+
 -- with one source its variable may be left out
 abbrev pub is_target_of_one : List Source → Bool
 is_target_of_one (s ∷ []) = is_table s.from
 is_target_of_one _ = false
 
-abbrev pub is_target : Bool → List Source → Option Meant → Bool
-is_target has_steps sources (Some (Variable from)) = has_steps && is_table from
-is_target has_steps sources (Some Id) = false
+abbrev pub is_target : Bool → List Source → Option Resolved → Bool
+is_target has_steps sources (Some (Variable n)) = has_steps && is_table_at n sources
+is_target has_steps sources (Some (Id n)) = false
 is_target has_steps sources None = is_target_of_one sources
 
 -- The path of a change begins at a table's variable and has a step.
 abbrev pub judged_target : List ℕ → Bool → List Source → Option ParseKind
-judged_target name has_steps sources = unless (is_target has_steps sources (meaning_of name sources)) kind.BadTarget
+judged_target name has_steps sources = unless (is_target has_steps sources (resolved name sources)) kind.BadTarget
 
 abbrev pub judged : Place → Role → List Source → Option ParseKind
 judged p (role.Name name) sources = judged_name p name sources

@@ -1,6 +1,6 @@
--- Paths (PartiQL, path navigation; what a name means is the ledger's own). A name means the last source that binds it, a BY name
--- counting after the variable of its source; else, where there is exactly one source, the field of that source.
-use Rattle.std.specs.Prelude.{ℕ, ℤ, pos, negsuc, Bool, false, ◌||◌, List, [], ◌∷◌, reverse, slice_get, if◌then◌else◌}
+-- Paths (PartiQL, path navigation; what a name means is the ledger's own). A name means what it is of the sources; else, where the
+-- statement has exactly one source, the field of that source.
+use Rattle.std.specs.Prelude.{ℕ, ℤ, pos, negsuc, Bool, true, List, [], ◌∷◌, map, slice_get}
 use Rattle.std.specs.Option.{option_map, option_map_or}
 use Rattle.std.specs.List.{find}
 use Rattle.std.specs.Str.{bytes_eq}
@@ -12,10 +12,13 @@ use Rattle.ion_values.specs.declared.value.Value.{Value}
 use Rattle.ion_values.specs.declared.value.Field.{Field}
 use Rattle.ion_values.specs.declared.value.Body.TheVariants as body
 use Rattle.ion_values.specs.declared.value.Body.TheOpen.{Body-F}
+use Rattle.pql_model.specs.declared.names.Resolved.{Resolved}
+use Rattle.pql_model.specs.declared.names.Resolved.TheVariants.{Variable, Id}
 use Rattle.pql_model.specs.declared.scope.Bound.{Bound}
 use Rattle.pql_model.specs.declared.scope.Evaluated.{Evaluated}
 use Rattle.pql_model.specs.declared.scope.Evaluated.TheVariants.{Missing, Found}
 use Rattle.pql_model.specs.Made.{Seen, seen, answer, found}
+use Rattle.pql_model.specs.Names.{called_in_row, resolve}
 
 -- the first field of that name
 abbrev pub first_field : List ℕ → List Field → Option Value
@@ -49,27 +52,29 @@ indexed_seen _ v = None
 abbrev pub indexed : Value → Value → Option Value
 indexed i v = indexed_seen (seen i) v
 
--- the source has a BY name of that spelling, and an id
-abbrev pub is_id_name : List ℕ → Option (List ℕ) → Option DocId → Bool
-is_id_name name (Some by) (Some id) = bytes_eq by name
-is_id_name name _ _ = false
-
-abbrev pub binds : List ℕ → Bound → Bool
-binds name b = is_id_name name b.id_name b.id || bytes_eq b.variable name
-
 -- an id as a string
 abbrev pub id_answer : Option DocId → Evaluated
 id_answer None = Missing
 id_answer (Some id) = answer (body.String (id_text id.raw))
 
-abbrev pub bound_to : List ℕ → Bound → Evaluated
-bound_to name b = if is_id_name name b.id_name b.id then id_answer b.id else Found b.value
+-- the value of the source, and the id of its document
+abbrev pub meant_by : Resolved → Bound → Evaluated
+meant_by (Variable place) b = Found b.value
+meant_by (Id place) b = id_answer b.id
 
--- the field of the only source
-abbrev pub field_of_only : List ℕ → List Bound → Evaluated
-field_of_only name (b ∷ []) = found (field_of name b.value)
-field_of_only name _ = Missing
+abbrev pub place_of : Resolved → ℕ
+place_of (Variable place) = place
+place_of (Id place) = place
+
+abbrev pub meant_in : List Bound → Resolved → Evaluated
+meant_in scope r = option_map_or (meant_by r) (slice_get scope (place_of r)) Missing
+
+-- the field of the only source of the statement, where the row has all its sources
+abbrev pub field_of_only : List ℕ → Bool → List Bound → Evaluated
+field_of_only name true (b ∷ []) = found (field_of name b.value)
+field_of_only name _ _ = Missing
 
 -- what a path's first name means
-abbrev pub named : List ℕ → List Bound → Evaluated
-named name scope = option_map_or (bound_to name) (find (binds name) (reverse scope)) (field_of_only name scope)
+abbrev pub named : List ℕ → Bool → List Bound → Evaluated
+named name is_whole scope =
+    option_map_or (meant_in scope) (resolve name (map called_in_row scope)) (field_of_only name is_whole scope)

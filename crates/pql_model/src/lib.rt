@@ -16,7 +16,7 @@ pub use counts::parameters;
 pub use expr::{Expr, Exprs, Member, Members, Operator, Path, PathStep, PathSteps};
 pub use laws::{answers_are_shallow, depth_is_bounded, parsed_is_shallow};
 pub use mark::{Mark, Marks, Place, Role};
-pub use names::last_name;
+pub use names::{Resolved, last_name, resolve};
 pub use scope::{Bindings, Bound, Evaluated, Scope};
 pub use statement::{
     Change, FromClause, Select, SelectItem, SelectItems, Setting, Settings, Source, SourceKind,

@@ -1,7 +1,59 @@
-ghost use Rattle.std.specs.Prelude.{◌≡◌};
+//! What names of sources mean, and the last name of a path.
+ghost use Rattle.std.specs.Prelude.{◌≡◌, map};
 ghost use Rattle.pql_model.specs.Grammar as spec;
+ghost use Rattle.pql_model.specs.Names as names;
 
 use crate::expr::PathStep;
+use crate::scope::Bound;
+
+/// What a name means of the sources of a statement: the source at a place, counted from 0, or the id of its document.
+#[derive(Clone, Copy, Debug, PartialEq, Eq)]
+pub enum Resolved {
+    Variable(usize),
+    Id(usize),
+}
+
+fn is_id(name: &str, bound: &Bound) -> bool
+    ensures { result ≡ names.is_id name.now bound.now.id_name }
+{
+    match &bound.id_name {
+        Some(id) => id.as_str() == name,
+        None => false,
+    }
+}
+
+fn resolved_by(place: usize, name: &str, bound: &Bound) -> Option<Resolved>
+    ensures { result ≡ names.resolved_by place name.now (names.called_in_row bound.now) }
+{
+    if is_id(name, bound) {
+        return Some(Resolved::Id(place));
+    }
+    if bound.variable.as_str() == name {
+        return Some(Resolved::Variable(place));
+    }
+    None
+}
+
+fn later(found: Option<Resolved>, before: Option<Resolved>) -> Option<Resolved>
+    ensures { result ≡ names.or_else found before }
+{
+    match found {
+        Some(_) => found,
+        None => before,
+    }
+}
+
+/// What the name means of the sources in a row: of those that are spelt alike the last, a BY name
+/// counting after the variable of its source.
+pub fn resolve(name: &str, scope: &[Bound]) -> Option<Resolved>
+    ensures { result ≡ names.resolve name.now (map names.called_in_row scope.now) }
+{
+    let mut last = None;
+    'sources: for (place, bound) in scope.iter().enumerate() {
+        last = later(resolved_by(place, name, bound), last);
+    }
+    last
+}
 
 /// The last name of a path behind its first name: that of its last step with a name, or the first one.
 pub fn last_name<'a>(first: &'a str, steps: &'a [PathStep]) -> &'a str

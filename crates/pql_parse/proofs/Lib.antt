@@ -18,3 +18,4 @@ pub mod SourceTables
 pub mod SourceTurns
 pub mod StepTurns
 pub mod Steps
+mod ResolvedNames

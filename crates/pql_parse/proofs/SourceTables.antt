@@ -7,10 +7,10 @@ use Rattle.std.specs.List.{list_any}
 use Rattle.std.specs.Str.{bytes_eq}
 use Rattle.pql_model.specs.declared.statement.Source.{Source}
 use Rattle.pql_model.specs.declared.statement.SourceKind.{SourceKind}
-use Rattle.pql_model.specs.Rules.{Meant, Variable, Id, is_id, meaning_of, meant_by, or_else}
+use Rattle.pql_model.specs.Names.{is_id}
 use Rattle.pql_parse.specs.declared.rules.meanings.Meaning.{Meaning}
 use Rattle.pql_parse.specs.declared.rules.meanings.Meaning.TheVariants as meaning
-use Rattle.pql_parse.specs.Ruled.{has_name, is_below, told}
+use Rattle.pql_parse.specs.Ruled.{Meant, Variable, Id, has_name, is_below, meaning_of, meant_by, or_else, told}
 
 -- ---- the first source of each name, where the source at `at` comes before the rest
 

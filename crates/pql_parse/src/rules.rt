@@ -109,6 +109,7 @@ fn unless(holds: bool, kind: ParseKind) -> Option<ParseKind>
 }
 
 /// A name is that of a source that the expression sees, or of a field of the only source.
+#[tactic(auto, using(crate::proofs::ResolvedNames::known))]
 fn judged_name(scope: &Scope<'_>, place: Place, name: &str) -> Option<ParseKind>
     requires { IsScope scope.now }
     ensures { result ≡ spec.judged_name place name.now scope.now.sources.now }
@@ -137,6 +138,7 @@ fn judged_by(scope: &Scope<'_>, place: Place) -> Option<ParseKind>
 }
 
 /// The path of a change begins at a table's variable and has a step.
+#[tactic(auto, using(crate::proofs::ResolvedNames::target))]
 fn judged_target(scope: &Scope<'_>, name: &str, has_steps: bool) -> Option<ParseKind>
     requires { IsScope scope.now }
     ensures { result ≡ spec.judged_target name.now has_steps scope.now.sources.now }

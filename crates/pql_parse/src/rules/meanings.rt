@@ -1,7 +1,7 @@
 //! What names mean in the path of a change.
 ghost use Rattle.std.specs.Prelude.{◌≡◌, IfOk};
 ghost use Rattle.pql_model.specs.Rules as spec;
-ghost use Rattle.pql_parse.specs.Ruled.{HasMeanings, is_meant, told};
+ghost use Rattle.pql_parse.specs.Ruled.{HasMeanings, Variable, is_meant, told};
 
 use lists::OutOfMemory;
 use pql_model::{Source, SourceKind};
@@ -38,7 +38,7 @@ pub fn meanings_of(alloc: Global, sources: &[Source]) -> Result<Meanings<'_>, Ou
 }
 
 fn meaning_of(from: &SourceKind) -> Meaning
-    ensures { result ≡ told (spec.Variable from.now) }
+    ensures { result ≡ told (Variable from.now) }
 {
     if is_table(from) {
         Meaning::Table

@@ -1,0 +1,78 @@
+#!/usr/bin/env python3
+"""Measures selects over tables of growing length: processor time and memory beyond loading. README.md says more."""
+
+import os
+import subprocess
+import sys
+import tempfile
+from pathlib import Path
+
+TOP = Path(__file__).resolve().parent.parent
+WORDS = ["run", "--plain-ids", "--at", "2020-01-01T00:00:00.000Z"]
+RUNS = 3
+ONE_TABLE = [4_000, 8_000, 16_000]
+TWO_TABLES = [200, 400, 800]
+OVER_ONE = {
+    "all fields": "SELECT * FROM t",
+    "a condition": "SELECT VALUE t.number FROM t WHERE t.number % 2 = 0 AND t.owner <> 'p1'",
+    "items": "SELECT t.number, t.owner AS o, t.number * 2 FROM t",
+    "a path source": "SELECT VALUE i FROM t, t.items AS i",
+    "aggregates": "SELECT COUNT(*), SUM(t.number), MAX(t.owner) FROM t",
+    "a key": "SELECT VALUE t.owner FROM t WHERE t.number = 17",
+}
+OVER_TWO = {
+    "pairs": "SELECT COUNT(*) FROM t AS a, t AS b",
+    "a join": "SELECT VALUE a.owner FROM t AS a JOIN t AS b ON a.number = b.number",
+}
+
+
+def documents(count):
+    """One session: a table, and its documents, 40 a transaction."""
+    rows = [f'{{number:{n},owner:"p{n % 97}",items:[{n},{n + 1}]}}' for n in range(count)]
+    parts = [rows[at : at + 40] for at in range(0, count, 40)]
+    inserts = ",".join(f'{{statements:[{{text:"INSERT INTO t ?",params:[[{",".join(part)}]]}}]}}' for part in parts)
+    return f'[{{statements:["CREATE TABLE t"]}},{inserts}]'.encode()
+
+
+def run(program, journal, text):
+    """The processor seconds, the peak megabytes and the report of a run of the text."""
+    with tempfile.TemporaryFile() as given, tempfile.TemporaryFile() as told:
+        given.write(text)
+        given.seek(0)
+        child = subprocess.Popen([program, journal, *WORDS], stdin=given, stdout=told)
+        _, status, used = os.wait4(child.pid, 0)
+        told.seek(0)
+        report = told.read()
+    if status != 0 or b"outcome:refused" in report:
+        sys.exit(report.decode()[:500])
+    return used.ru_utime + used.ru_stime, used.ru_maxrss * 1024 / 1e6, report
+
+
+def best(program, journal, text):
+    runs = [run(program, journal, text) for _ in range(RUNS)]
+    return min(it[0] for it in runs), min(it[1] for it in runs), len(runs[0][2])
+
+
+def measure(program, counts, statements):
+    for name, statement in statements.items():
+        told = []
+        for count in counts:
+            with tempfile.TemporaryDirectory() as folder:
+                journal = Path(folder) / "journal"
+                run(program, journal, documents(count))
+                loading, held, _ = best(program, journal, b"")
+                # what is selected is part of the block, so the select is given up
+                text = f'[{{statements:["{statement}"],end:abort}}]'.encode()
+                seconds, peak, _ = best(program, journal, text)
+            told.append(f"{count}: {(seconds - loading) * 1000:.0f} ms, {max(peak - held, 0):.1f} MB")
+        print(f"{name} ({statement}): " + "; ".join(told), flush=True)
+
+
+def main():
+    program = sys.argv[1] if len(sys.argv) > 1 else TOP / "crates" / "ledger" / "out" / "ledger"
+    measure(program, ONE_TABLE, OVER_ONE)
+    measure(program, TWO_TABLES, OVER_TWO)
+    return 0
+
+
+sys.exit(main())
