@@ -16,6 +16,3 @@ pub use hash_checks::has_hashes;
 pub use read_blocks::{from_ion, values_tell_blocks};
 pub use seals::{revision_hash, seal, strand_hash};
 pub use values::to_ion;
-
-#[cfg(test)]
-mod tests;

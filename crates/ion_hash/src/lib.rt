@@ -8,6 +8,3 @@ mod timestamps;
 mod values;
 
 pub use values::{hash, serialize};
-
-#[cfg(test)]
-mod tests;

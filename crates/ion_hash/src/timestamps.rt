@@ -207,6 +207,3 @@ pub fn put_timestamp(out: &mut Bytes, time: &IonTime) -> Result<(), OutOfMemory>
 {
     put_parts(out, &time.parts())
 }
-
-#[cfg(test)]
-mod tests;

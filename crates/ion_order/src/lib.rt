@@ -12,6 +12,3 @@ pub use arithmetic::{add, multiply, subtract};
 pub use keys::key;
 pub use laws::{keys_tell_equal, numbers_are_ordered, values_are_ordered};
 pub use order::compare;
-
-#[cfg(test)]
-mod tests;

@@ -8,6 +8,3 @@ mod writing;
 pub use laws::{read_is_within, written_is_read};
 pub use stream::{ReadFault, read_stream};
 pub use writing::write;
-
-#[cfg(test)]
-mod tests;

@@ -92,6 +92,3 @@ fn refused(at: usize, kind: IonKind) -> ReadFault
         kind,
     })
 }
-
-#[cfg(test)]
-mod tests;

@@ -16,6 +16,3 @@ pub use front::lex;
 pub use lobs::lex_lob;
 pub use number::lex_number;
 pub use texts::{lex_quoted, lex_segment, lex_string};
-
-#[cfg(test)]
-mod tests;

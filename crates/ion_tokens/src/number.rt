@@ -120,6 +120,3 @@ pub fn whole(number: Option<i128>) -> Result<Scalar, IonKind>
         None => Err(IonKind::TooWide),
     }
 }
-
-#[cfg(test)]
-mod tests;

@@ -18,6 +18,3 @@ pub use fault::{IonFault, IonKind};
 pub use lists::{Bytes, OutOfMemory, Text};
 pub use time::{BadTime, IonTime, Precision, TimeParts};
 pub use value::{Body, Field, Fields, Key, Kind, Names, Value, Values};
-
-#[cfg(test)]
-mod tests;

@@ -27,6 +27,3 @@ pub fn line(alloc: Global, block: &Block) -> Result<Text, OutOfMemory>
     text.push_str("\n")?;
     Ok(text)
 }
-
-#[cfg(test)]
-mod tests;

@@ -7,8 +7,6 @@ mod blocks;
 mod damage;
 mod outcome;
 mod script;
-#[cfg(test)]
-mod tests;
 
 pub use block::{
     Block, Content, Draft, Drafts, Header, Info, Metadata, Revision, Revisions, Said, SaidList,

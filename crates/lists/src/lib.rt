@@ -10,6 +10,3 @@ pub use boxed::Boxed;
 pub use memory::OutOfMemory;
 pub use sequence::{Bytes, Sequence};
 pub use text::Text;
-
-#[cfg(test)]
-mod tests;

@@ -71,6 +71,3 @@ pub fn root(alloc: Global, leaves: &[Hash32]) -> Result<Hash, OutOfMemory>
 pub fn root_level_by_level()
     ensures { RootLevelByLevel }
 {}
-
-#[cfg(test)]
-mod tests;

@@ -59,6 +59,3 @@ pub fn fold(start: Hash, list: &[Hash32]) -> Hash
     list.iter()
         .fold(start, |so_far, next| dot(so_far, Hash::Full(*next)))
 }
-
-#[cfg(test)]
-mod tests;

@@ -42,9 +42,9 @@ pub path_missing : (p : Path) (c : Context) → Missing ≡ named p.first c.is_w
 path_missing p c nothing =
     sym
     (ap (λ q. meaning_of_path q c) (sym (roll-out-Path p))
-        ∙ at_path (out-Path p) c
-        ∙ ap (walked (map meaning_of_step p.steps) c) (sym nothing)
-        ∙ walked_missing p.steps c)
+    ∙ at_path (out-Path p) c
+    ∙ ap (walked (map meaning_of_step p.steps) c) (sym nothing)
+    ∙ walked_missing p.steps c)
 
 -- nor does one of which a step leads nowhere
 pub path_ends : (steps : List PathStep) (i : ℕ) (step : PathStep) (c : Context) (at from : Value) → i < length steps → step ≡ get_or steps i step

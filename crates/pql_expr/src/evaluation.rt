@@ -61,11 +61,7 @@ fn parameter(number: u32, params: &[Value]) -> Option<&Value>
 }
 
 #[cycle(eval)]
-fn eval_in(
-    alloc: Global,
-    e: &Expr,
-    context: &Context<'_>,
-) -> Result<Evaluated, OutOfMemory>
+fn eval_in(alloc: Global, e: &Expr, context: &Context<'_>) -> Result<Evaluated, OutOfMemory>
     ensures { IfOk result (λ answer. answer ≡ meaning e.now (context_of context.now)) }
 {
     match e {
@@ -82,7 +78,13 @@ fn eval_in(
             if let Some(holds) = settled(*op, &left) {
                 return Ok(truth(alloc, holds));
             }
-            of_two(alloc, TwoOperands::Operator(*op), left, right.get(), context)
+            of_two(
+                alloc,
+                TwoOperands::Operator(*op),
+                left,
+                right.get(),
+                context,
+            )
         }
         Expr::IsIn { value, list } => {
             let value = eval_in(alloc, value.get(), context)?;
@@ -90,13 +92,7 @@ fn eval_in(
         }
         Expr::Like { value, pattern } => {
             let value = eval_in(alloc, value.get(), context)?;
-            of_two(
-                alloc,
-                TwoOperands::Like,
-                value,
-                pattern.get(),
-                context,
-            )
+            of_two(alloc, TwoOperands::Like, value, pattern.get(), context)
         }
         Expr::Between { value, low, high } => {
             let value = eval_in(alloc, value.get(), context)?;
@@ -156,11 +152,7 @@ fn between_in(
 }
 
 #[cycle(eval)]
-fn path_in(
-    alloc: Global,
-    path: &Path,
-    context: &Context<'_>,
-) -> Result<Evaluated, OutOfMemory>
+fn path_in(alloc: Global, path: &Path, context: &Context<'_>) -> Result<Evaluated, OutOfMemory>
     ensures { IfOk result (λ answer. answer ≡ meaning_of_path path.now (context_of context.now)) }
 {
     let steps = path.steps.as_slice();
@@ -213,11 +205,7 @@ fn step_in<'a>(
 }
 
 #[cycle(eval)]
-fn list_in(
-    alloc: Global,
-    es: &[Expr],
-    context: &Context<'_>,
-) -> Result<Evaluated, OutOfMemory>
+fn list_in(alloc: Global, es: &[Expr], context: &Context<'_>) -> Result<Evaluated, OutOfMemory>
     ensures { IfOk result (λ answer. answer ≡ lists_spec.list_of (each (map meaning es.now) (context_of context.now))) }
 {
     let mut values = Sequence::new(alloc);
@@ -252,11 +240,7 @@ fn struct_in(
 }
 
 #[cycle(eval)]
-fn first_known(
-    alloc: Global,
-    es: &[Expr],
-    context: &Context<'_>,
-) -> Result<Evaluated, OutOfMemory>
+fn first_known(alloc: Global, es: &[Expr], context: &Context<'_>) -> Result<Evaluated, OutOfMemory>
     ensures { IfOk result (λ answer. answer ≡ lists_spec.coalesce (each (map meaning es.now) (context_of context.now))) }
 {
     'members: for e in es {

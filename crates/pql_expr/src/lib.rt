@@ -17,6 +17,3 @@ mod words;
 pub use evaluation::{eval, eval_source_path};
 pub use made::is_unknown;
 pub use operators::operate;
-
-#[cfg(test)]
-mod tests;

@@ -8,6 +8,3 @@ mod conditions;
 mod views;
 
 pub use clause::bindings;
-
-#[cfg(test)]
-mod tests;

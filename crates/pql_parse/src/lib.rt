@@ -19,6 +19,3 @@ mod words;
 
 pub use answer::ParseAnswer;
 pub use parsing::parse;
-
-#[cfg(test)]
-mod tests;

@@ -8,6 +8,3 @@ mod made;
 mod sources;
 
 pub use answers::answer;
-
-#[cfg(test)]
-mod tests;

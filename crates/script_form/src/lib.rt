@@ -7,6 +7,3 @@ mod scripts;
 pub use ledger_model::{ScriptFault, ScriptKind};
 pub use reports::report;
 pub use scripts::{ScriptAnswer, read_script};
-
-#[cfg(test)]
-mod tests;

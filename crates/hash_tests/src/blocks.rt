@@ -1,0 +1,226 @@
+//! Blocks: their hashes, and blocks as values.
+ghost use Rattle.std.specs.Prelude.{◌≡◌, true, IfOk};
+ghost use Rattle.ledger_model.specs.Seals.{IsSealed};
+
+use block_form::{from_ion, revision_hash, seal, strand_hash, to_ion};
+use ion_values::{BadTime, Body, IonTime, Kind, OutOfMemory, Precision, Text, TimeParts, Value};
+use ledger_model::{
+    Answer, Block, Content, Header, Info, Metadata, Revision, Revisions, Said, SaidList,
+};
+use lists::Sequence;
+use pair_hash::dot;
+use ql_types::{BlockAddress, DocId, Hash, Hash32, Place, StrandId, TableId, TxId};
+use std::alloc::Global;
+use std::test::Fail;
+
+/// The hash of `0B 80`, twenty-two digits 0, and `0E`: the id of the strand of number 0 as a string.
+const STRAND_HASH: [u8; 32] = [
+    0xe7, 0x79, 0x49, 0x2d, 0x1e, 0x26, 0xa8, 0x98, 0x4c, 0x0b, 0xdb, 0x5e, 0x52, 0x17, 0xe5, 0x59,
+    0xa4, 0xf5, 0x8a, 0x8d, 0x27, 0x27, 0xa4, 0x21, 0x52, 0x9f, 0x0c, 0x4a, 0x3d, 0xfc, 0xbf, 0x30,
+];
+
+/// The hash of the block below with content. A separate script, ../block_form/vectors/make.py, computed it.
+const BLOCK_HASH: [u8; 32] = [
+    0xe8, 0x0e, 0x3d, 0xf0, 0xac, 0xf7, 0x10, 0x17, 0xf1, 0xec, 0x63, 0xfb, 0x31, 0x69, 0xac, 0xda,
+    0x0d, 0xf1, 0x08, 0xf3, 0x78, 0x9b, 0x9e, 0x8b, 0xe3, 0xd3, 0x06, 0x5b, 0x6f, 0x51, 0x9b, 0x11,
+];
+
+/// Whether the block's hash is that of its list of hashes and of the hash before it. Of a sealed block it is, by the
+/// contracts alone.
+fn has_hash_of_its_list(block: &Block) -> bool
+    requires { IsSealed block.now }
+    ensures { result ≡ true }
+{
+    let [info, revisions, header] = block.list;
+    let entries = dot(dot(info, revisions), header);
+    dot(entries, Hash::Full(block.previous)) == Hash::Full(block.hash)
+}
+
+/// The year 2020.
+fn year() -> Result<IonTime, BadTime> {
+    IonTime::new(TimeParts {
+        precision: Precision::Year,
+        year: 2020,
+        month: 1,
+        day: 1,
+        hour: 0,
+        minute: 0,
+        second: 0,
+        digits: 0,
+        nanos: 0,
+        offset: None,
+    })
+}
+
+/// What the one revision of the block keeps: null, or nothing.
+fn content(alloc: Global, is_kept: bool) -> Content {
+    if is_kept {
+        Content::Kept(Value {
+            annotations: Sequence::new(alloc),
+            body: Body::Null(Kind::Null),
+        })
+    } else {
+        Content::Deleted
+    }
+}
+
+fn said(alloc: Global, statement: &str) -> Result<SaidList, OutOfMemory> {
+    let text = Text::from_text(alloc, statement)?;
+    let mut said = Sequence::new(alloc);
+    said.push(Said {
+        text,
+        params: Sequence::new(alloc),
+        answer: Answer {
+            rows: Sequence::new(alloc),
+        },
+    })?;
+    Ok(said)
+}
+
+/// What the transaction said and did: one statement.
+fn info(alloc: Global, statement: &str) -> Result<Info, OutOfMemory> {
+    let tables = Sequence::from_slice(alloc, &[TableId { raw: (1 << 24) + 1 }])?;
+    Ok(Info {
+        place: Place {
+            session: 1,
+            transaction: 1,
+        },
+        said: said(alloc, statement)?,
+        schema: Sequence::new(alloc),
+        tables,
+    })
+}
+
+fn header(time: IonTime) -> Header {
+    Header {
+        address: BlockAddress {
+            strand: StrandId { raw: 0 },
+            sequence: 0,
+        },
+        tx: TxId { raw: 1 << 24 },
+        time,
+        revisions: 1,
+    }
+}
+
+fn revision(alloc: Global, header: &Header, content: Content) -> Result<Revision, OutOfMemory> {
+    let metadata = Metadata {
+        id: DocId { raw: (1 << 24) + 2 },
+        version: 0,
+        time: header.time,
+        tx: header.tx,
+    };
+    let hash = revision_hash(alloc, &content, &metadata)?;
+    Ok(Revision {
+        address: header.address,
+        hash,
+        content,
+        metadata,
+    })
+}
+
+fn revisions(alloc: Global, header: &Header, content: Content) -> Result<Revisions, OutOfMemory> {
+    let mut revisions = Sequence::new(alloc);
+    revisions.push(revision(alloc, header, content)?)?;
+    Ok(revisions)
+}
+
+/// A block of one revision.
+fn block(
+    alloc: Global,
+    time: IonTime,
+    previous: Hash32,
+    statement: &str,
+    is_kept: bool,
+) -> Result<Block, OutOfMemory>
+    ensures { IfOk result IsSealed }
+{
+    let header = header(time);
+    let revisions = revisions(alloc, &header, content(alloc, is_kept))?;
+    seal(alloc, previous, header, info(alloc, statement)?, revisions)
+}
+
+/// Whether the block has another hash than the first one, and the same hash of its entries only if they are the same.
+fn is_told_apart(first: &Block, other: &Block, same_entries: bool) -> bool {
+    other.hash != first.hash && (other.entries == first.entries) == same_entries
+}
+
+#[test]
+fn each_part_changes_the_hashes(rt: HostRuntime) -> Result<(), Fail> {
+    let alloc = rt.alloc();
+    let time = year()?;
+    let strand = strand_hash(alloc, StrandId { raw: 0 })?;
+    assert!(rt; strand.bytes == STRAND_HASH);
+    let first = block(alloc, time, strand, "a", true)?;
+    assert!(rt; first.hash.bytes == BLOCK_HASH);
+    assert!(rt; has_hash_of_its_list(&first));
+    let zeros = Hash32 { bytes: [0; 32] };
+    for (previous, statement, is_kept, same_entries) in [
+        (zeros, "a", true, true),
+        (strand, "b", true, false),
+        (strand, "a", false, false),
+    ] {
+        let other = block(alloc, time, previous, statement, is_kept)?;
+        assert!(rt; is_told_apart(&first, &other, same_entries));
+    }
+    Ok(())
+}
+
+const FIELD_NAMES: &str = "blockAddress
+transactionId
+blockTimestamp
+blockHash
+entriesHash
+previousBlockHash
+entriesHashList
+transactionInfo
+revisions
+";
+
+/// The names of the fields, each with an end of line.
+fn field_names(alloc: Global, value: &Value) -> Result<Text, OutOfMemory> {
+    let mut names = Text::new(alloc);
+    if let Body::Struct(fields) = &value.body {
+        for field in fields.as_slice() {
+            names.push_str(field.name.as_str())?;
+            names.push('\n')?;
+        }
+    }
+    Ok(names)
+}
+
+#[test]
+fn fields_stand_in_order(rt: HostRuntime) -> Result<(), Fail> {
+    let alloc = rt.alloc();
+    let block = block(alloc, year()?, Hash32 { bytes: [0; 32] }, "a", true)?;
+    let names = field_names(alloc, &to_ion(alloc, &block)?)?;
+    assert_eq!(rt; names.as_str(), FIELD_NAMES);
+    Ok(())
+}
+
+fn is_read_as(alloc: Global, value: &Value, block: &Block) -> Result<bool, OutOfMemory> {
+    match from_ion(alloc, value)? {
+        Some(read) => Ok(
+            read.hash == block.hash && read.header.revisions == 1 && read.info.tables.len() == 1,
+        ),
+        None => Ok(false),
+    }
+}
+
+/// Whether a value with an annotation is read as a block.
+fn is_read_annotated(alloc: Global, mut value: Value) -> Result<bool, OutOfMemory> {
+    value.annotations.push(Text::from_text(alloc, "a")?)?;
+    Ok(from_ion(alloc, &value)?.is_some())
+}
+
+#[test]
+fn a_value_is_read_as_its_block(rt: HostRuntime) -> Result<(), Fail> {
+    let alloc = rt.alloc();
+    for is_kept in [true, false] {
+        let block = block(alloc, year()?, Hash32 { bytes: [7; 32] }, "a", is_kept)?;
+        let value = to_ion(alloc, &block)?;
+        assert!(rt; is_read_as(alloc, &value, &block)?);
+        assert!(rt; !is_read_annotated(alloc, value)?);
+    }
+    Ok(())
+}

@@ -1,2 +1,0 @@
-mod lobs;
-mod texts;

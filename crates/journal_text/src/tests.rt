@@ -1,5 +1,0 @@
-mod building;
-mod damaged;
-mod lines;
-mod reading;
-mod states;

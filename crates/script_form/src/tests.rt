@@ -1,2 +1,0 @@
-mod reporting;
-mod scripting;
