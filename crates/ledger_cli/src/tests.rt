@@ -50,7 +50,7 @@ fn run_command<R: Threads + Wait + Sync>(
 ) -> Result<Told, Fail> {
     let mut source = MemorySource::new(given.input, given.reads);
     let mut sink = MemorySink::new(alloc, given.writes);
-    let store = MemoryStore::new(given.held, given.fails);
+    let store = MemoryStore::new(alloc, given.held, given.fails);
     let clock = SetClock::new(vec![in alloc; 0]?);
     let ended = ledger_top(
         rt,

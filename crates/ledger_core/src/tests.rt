@@ -37,7 +37,7 @@ type Reloaded = Result<Tail<MemoryStore, u64>, LoadFault<MemoryStore, u64>>;
 /// The tail of a store of these bytes, of which the call after so many fails, with 7 in place of a clock.
 fn reloaded(alloc: Global, bytes: &[u8], passes: u64, kept: u64) -> Result<Reloaded, Fail> {
     let fails = vec![in alloc; Failing { passes, kept }]?;
-    let store = MemoryStore::new(bytes.to_vec(alloc)?, fails);
+    let store = MemoryStore::new(alloc, bytes.to_vec(alloc)?, fails);
     Ok(Tail::reload(alloc, store, 7, IdMask { bits: 0 }))
 }
 
@@ -158,7 +158,7 @@ fn nothing_is_cut_without_a_mark(rt: HostRuntime) -> Result<(), Fail> {
 fn is_kept_later(alloc: Global, passes: u64, kept: u64, left: &str) -> Result<bool, Fail> {
     let fails = vec![in alloc; Failing { passes, kept }]?;
     let mut keeper = Keeper {
-        store: MemoryStore::new(b"old\nrest".to_vec(alloc)?, fails),
+        store: MemoryStore::new(alloc, b"old\nrest".to_vec(alloc)?, fails),
         size: 4,
         marked: true,
     };

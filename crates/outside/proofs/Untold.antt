@@ -1,6 +1,6 @@
 -- A store that tells nothing of its content leaves nothing to show of it.
 use Rattle.std.proofs.Common.{ℕ, List, None, Result, Ok, Err, IfOk, inl, refl}
-use Rattle.std.specs.Prelude.{⊤}
+use Rattle.std.specs.Prelude.{⊤, OnOk, OnErr, IsErrOf}
 use Rattle.outside.specs.declared.traits.OutFault.{OutFault}
 use Rattle.outside.specs.declared.traits.OutFault.TheVariants.{Failed, OutOfMemory}
 use Rattle.outside.specs.Store.{AppendLeaves, CutLeaves, CutSynced, SyncSynced}
@@ -8,6 +8,15 @@ use Rattle.outside.specs.Store.{AppendLeaves, CutLeaves, CutSynced, SyncSynced}
 pub untold : {T E : Type 0} (r : Result T E) → IfOk r (λ _. ⊤)
 untold (Ok x) = tt
 untold (Err e) = tt
+
+pub none_told : {T E : Type 0} (P : Type 0) (r : Result T E) → OnOk r (P → P)
+none_told P (Ok x) = λ p. p
+none_told P (Err e) = tt
+
+-- what holds after any fault holds after want of memory
+pub lent_untold : {T P : Type 0} (r : Result T OutFault) → OnErr r P → IsErrOf r OutOfMemory → P
+lent_untold (Ok x) p wanted = cc
+lent_untold (Err fault) p wanted = p
 
 pub append_untold : {T : Type 0} (r : Result T OutFault) (piece : List ℕ) → AppendLeaves r None None piece
 append_untold (Ok x) piece = refl

@@ -1,11 +1,12 @@
 -- When a call of the outside may answer a fault.
-use Rattle.std.specs.Prelude.{◌≡◌, ℕ, ◌<◌, ◌≤◌, Bool, true, false, Result, Ok, Err, IsErrOf}
+use Rattle.std.specs.Prelude.{◌≡◌, ℕ, ◌<◌, ◌≤◌, Bool, true, false, Result, Ok, Err, IsOk, IsErrOf}
 use Rattle.outside.specs.declared.traits.OutFault.{OutFault}
 use Rattle.outside.specs.declared.traits.OutFault.TheVariants.{Failed, OutOfMemory}
 
--- The count of faults never falls. `Failed` is answered only where it rose in the call, and want of memory leaves it.
+-- The count of faults never falls. A call that succeeds or wants memory leaves it, and one that answers `Failed` raised it.
 pub record HasCause {T : Type 0} (before now : ℕ) (result : Result T OutFault) : Type 0 where
   pub later : before ≤ now
+  pub fine : IsOk result → now ≡ before
   pub failed : IsErrOf result Failed → before < now
   pub wanted : IsErrOf result OutOfMemory → now ≡ before
 

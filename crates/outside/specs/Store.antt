@@ -27,7 +27,7 @@ CutSynced (Ok x) before now size = now ≡ option_map (λ synced. min synced siz
 CutSynced (Err Failed) before now size = now ≡ option_map (λ synced. min synced size) before
 CutSynced (Err OutOfMemory) before now size = now ≡ before
 
--- After a sync the whole length is synced. A failed one leaves the synced length.
+-- After a sync the whole length is synced, where a synced length was told before. A failed one leaves it.
 abbrev pub SyncSynced : {T : Type 0} → Result T OutFault → Option (List ℕ) → Option ℕ → Option ℕ → Type 0
 SyncSynced (Ok x) bytes before now = IfSome before (λ _. IfSome bytes (λ held. now ≡ Some (length held)))
 SyncSynced (Err fault) bytes before now = now ≡ before

@@ -3,14 +3,15 @@
 mod clock;
 mod faults;
 mod files;
+mod held;
 mod input;
+mod journals;
 mod output;
 mod retry;
+mod transfers;
 
 pub use clock::SystemClock;
 pub use files::FileStore;
+pub use held::LockFile;
 pub use input::InputSource;
 pub use output::OutputSink;
-
-#[cfg(test)]
-mod tests;

@@ -1,5 +1,5 @@
 //! The traits of the outside.
-ghost use Rattle.std.specs.Prelude.{◌≡◌, ◌<◌, ℕ, ℤ, Bool, List, Option, length, IfOk, IfSome, OnErr, IsErrOf};
+ghost use Rattle.std.specs.Prelude.{◌≡◌, ◌<◌, ℕ, ℤ, Bool, List, Option, None, length, IfOk, IfSome, OnOk, OnErr, IsErrOf};
 ghost use Rattle.std.specs.Io.{ReadsAtMost, WritesAtMost};
 ghost use Rattle.std.specs.Io.KnownBytes.{ReadConsumes, WriteAppends};
 ghost use Rattle.outside.specs.Causes.{HasCause, is_failed};
@@ -128,10 +128,12 @@ pub trait JournalStore {
         ensures last { last_failed self.new ≡ is_failed result }
         ensures cause { HasCause (fault_count self.old) (fault_count self.new) result };
 
-    /// Makes all bytes that are held survive a stop of the machine. It changes no byte.
+    /// Makes all bytes that are held survive a stop of the machine. It changes no byte. A store that tells no synced
+    /// length tells none after it.
     fn sync(&mut self) -> Result<(), OutFault>
         ensures bytes { bytes self.new ≡ bytes self.old }
         ensures synced { SyncSynced result (bytes self.old) (synced self.old) (synced self.new) }
+        ensures untold { OnOk result (synced self.old ≡ None → synced self.new ≡ None) }
         ensures last { last_failed self.new ≡ is_failed result }
         ensures cause { HasCause (fault_count self.old) (fault_count self.new) result };
 }

@@ -67,7 +67,7 @@ fn letter(outcome: &Outcome) -> &str {
 /// are given up.
 fn run(alloc: Global, texts: &str, passes: u64, kept: u64) -> Result<Option<Told>, Fail> {
     let fails = vec![in alloc; Failing { passes, kept }]?;
-    let store = MemoryStore::new(Vec::new(alloc), fails);
+    let store = MemoryStore::new(alloc, Vec::new(alloc), fails);
     let mask = IdMask { bits: 0 };
     let mut ends = String::new(alloc);
     let Ok(mut tail) = Tail::reload(alloc, store, 7, mask) else {

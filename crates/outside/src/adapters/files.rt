@@ -5,36 +5,31 @@ ghost use Rattle.std.specs.Io.{ReadsAtMost};
 ghost use Rattle.outside.specs.Causes.{HasCause, is_failed};
 
 use super::faults::FaultCount;
-use super::retry;
+use super::held::{HeldFile, LockFile};
 use crate::traits::{JournalStore, OutFault};
-use std::fs::{File, OpenFile, OpenOptions};
-use std::io::{ErrorKind, Seek, SeekFrom};
+use std::io;
 use std::rt::Files;
-use std::{fs, io};
 
-/// The most that one call reads.
-const PIECE: usize = 4096;
-
-/// A store over a file, which each call opens anew. It tells nothing of its content. A missing file has the size 0,
-/// and the first append makes it.
+/// A store over a file. It tells nothing of its content. The first call opens the file, takes the lock that keeps other
+/// processes from it, and keeps it open. It fails where another process has the lock, and where the file is no journal. A
+/// missing file has the size 0, and the first append makes it; where another process made it in between, that append and
+/// each later call fails.
 #[derive(Drop)]
-pub struct FileStore<'a, R> {
-    rt: &'a R,
-    path: &'a str,
+pub struct FileStore<'a, R: Files> {
+    file: HeldFile<'a, R>,
     faults: FaultCount,
     last_failed: bool,
 }
 
-impl<'a, R> FileStore<'a, R> {
+impl<'a, R: Files> FileStore<'a, R> {
     /// A store over the file at this path, which is not touched yet.
     pub fn new(rt: &'a R, path: &'a str) -> FileStore<'a, R>
-        ensures path { result.path.now ≡ path.now }
+        ensures path { result.file.path.now ≡ path.now }
         ensures count { result.faults.count ≡ 0 }
         ensures last { result.last_failed ≡ false }
     {
         FileStore {
-            rt,
-            path,
+            file: HeldFile::new(rt, path),
             faults: FaultCount::new(),
             last_failed: false,
         }
@@ -76,7 +71,10 @@ impl<'a, R> FileStore<'a, R> {
     }
 }
 
-impl<R: Files> JournalStore for FileStore<'_, R> {
+impl<R: Files> JournalStore for FileStore<'_, R>
+where
+    R::File: LockFile,
+{
     ghost bytes = { λ _. None };
 
     ghost synced = { λ _. None };
@@ -95,25 +93,20 @@ impl<R: Files> JournalStore for FileStore<'_, R> {
         ensures spent { self.old.faults.count ≡ u64.MAX → IsErrOf result OutFault.OutOfMemory }
     {
         self.begin()?;
-        let size = size_of(self.rt, self.path);
+        let size = self.file.size();
         self.end(size)
     }
 
-    /// Reads into a piece of its own first, so that `out` stays as it was after a fault.
     fn read_at(&mut self, at: u64, out: &mut [u8]) -> Result<usize, OutFault>
         ensures bound { ReadsAtMost result out.new }
-        ensures lent { IsErrOf result OutFault.OutOfMemory → out.new ≡ out.old }
+        ensures lent { OnErr result (out.new ≡ out.old) }
         ensures last { self.new.last_failed ≡ is_failed result }
         ensures cause { HasCause self.old.faults.count self.new.faults.count result }
         ensures spent { self.old.faults.count ≡ u64.MAX → IsErrOf result OutFault.OutOfMemory }
     {
         self.begin()?;
-        let mut piece = [0u8; PIECE];
-        let room = out.len().min(PIECE);
-        let read = read_from(self.rt, self.path, at, &mut piece[..room]);
-        let count = self.end(read)?;
-        out[..count].copy_from_slice(&piece[..count]);
-        Ok(count)
+        let read = self.file.read_at(at, out);
+        self.end(read)
     }
 
     fn append(&mut self, piece: &[u8]) -> Result<(), OutFault>
@@ -122,7 +115,7 @@ impl<R: Files> JournalStore for FileStore<'_, R> {
         ensures spent { self.old.faults.count ≡ u64.MAX → IsErrOf result OutFault.OutOfMemory }
     {
         self.begin()?;
-        let added = append_to(self.rt, self.path, piece);
+        let added = self.file.append(piece);
         self.end(added)
     }
 
@@ -132,7 +125,7 @@ impl<R: Files> JournalStore for FileStore<'_, R> {
         ensures spent { self.old.faults.count ≡ u64.MAX → IsErrOf result OutFault.OutOfMemory }
     {
         self.begin()?;
-        let cut = cut_to(self.rt, self.path, size);
+        let cut = self.file.cut(size);
         self.end(cut)
     }
 
@@ -142,68 +135,7 @@ impl<R: Files> JournalStore for FileStore<'_, R> {
         ensures spent { self.old.faults.count ≡ u64.MAX → IsErrOf result OutFault.OutOfMemory }
     {
         self.begin()?;
-        let synced = sync_all(self.rt, self.path);
+        let synced = self.file.sync();
         self.end(synced)
-    }
-}
-
-fn size_of<R: Files>(rt: &R, path: &str) -> io::Result<u64> {
-    match fs::metadata(rt, path) {
-        Ok(metadata) => Ok(metadata.len()),
-        Err(error) if error.kind() == ErrorKind::NotFound => Ok(0),
-        Err(error) => Err(error),
-    }
-}
-
-/// The file, where there is one.
-fn opened<R: Files>(rt: &R, path: &str) -> io::Result<Option<R::File>> {
-    match File::open(rt, path) {
-        Ok(file) => Ok(Some(file)),
-        Err(error) if error.kind() == ErrorKind::NotFound => Ok(None),
-        Err(error) => Err(error),
-    }
-}
-
-fn read_from<R: Files>(rt: &R, path: &str, at: u64, out: &mut [u8]) -> io::Result<usize>
-    ensures { ReadsAtMost result out.new }
-{
-    let Some(mut file) = opened(rt, path)? else {
-        return Ok(0);
-    };
-    if at >= file.metadata()?.len() {
-        return Ok(0);
-    }
-    file.seek(SeekFrom::Start(at))?;
-    retry::read(&mut file, out)
-}
-
-/// Appends the whole piece. An error after a part of it was written is a short write, whatever its kind: only want of
-/// memory before that leaves the file as it was.
-fn append_to<R: Files>(rt: &R, path: &str, piece: &[u8]) -> io::Result<()> {
-    let mut file = OpenOptions::new().append(true).create(true).open(rt, path)?;
-    let mut at = 0;
-    while at < piece.len() {
-        match retry::write(&mut file, &piece[at..]) {
-            Ok(0) => return Err(io::Error::from(ErrorKind::WriteZero)),
-            Ok(taken) => at += taken,
-            Err(error) if at == 0 => return Err(error),
-            Err(_) => return Err(io::Error::from(ErrorKind::WriteZero)),
-        }
-    }
-    Ok(())
-}
-
-fn cut_to<R: Files>(rt: &R, path: &str, size: u64) -> io::Result<()> {
-    if size < size_of(rt, path)? {
-        let file = OpenOptions::new().write(true).open(rt, path)?;
-        file.set_len(size)?;
-    }
-    Ok(())
-}
-
-fn sync_all<R: Files>(rt: &R, path: &str) -> io::Result<()> {
-    match opened(rt, path)? {
-        Some(file) => file.sync_all(),
-        None => Ok(()),
     }
 }

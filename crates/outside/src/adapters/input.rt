@@ -1,21 +1,20 @@
 //! A source over a reader.
-ghost use Rattle.std.specs.Prelude.{◌≡◌, ◌<◌, None, IsErrOf};
+ghost use Rattle.std.specs.Prelude.{◌≡◌, ◌<◌, None, IsErrOf, OnErr};
 ghost use Rattle.std.specs.Io.{ReadsAtMost};
+ghost use Rattle.std.specs.Io.KnownBytes.{ReadConsumes};
 ghost use Rattle.outside.specs.Causes.{HasCause};
 
 use super::faults::FaultCount;
-use super::retry;
+use super::transfers;
 use crate::traits::{OutFault, Source};
 use std::io::Read;
 
-/// The most that one call reads.
-const PIECE: usize = 4096;
-
-/// A source over a reader, as standard input. It tells nothing of its content.
+/// A source over a reader, as standard input. It tells nothing of its content; of a reader whose bytes are known its
+/// own clauses say what it took.
 #[derive(Drop)]
 pub struct InputSource<R> {
-    pub(super) inner: R,
-    pub(super) faults: FaultCount,
+    inner: R,
+    faults: FaultCount,
 }
 
 impl<R> InputSource<R> {
@@ -39,23 +38,18 @@ impl<R: Read> Source for InputSource<R> {
         self.faults.count
     }
 
-    /// Reads into a piece of its own first, so that `out` stays as it was after a fault.
     fn read(&mut self, out: &mut [u8]) -> Result<usize, OutFault>
         ensures bound { ReadsAtMost result out.new }
-        ensures lent { IsErrOf result OutFault.OutOfMemory → out.new ≡ out.old }
+        ensures bytes { ReadConsumes (R.remaining self.old.inner) (R.remaining self.new.inner) result out.new }
+        ensures lent { OnErr result (out.new ≡ out.old) }
         ensures cause { HasCause self.old.faults.count self.new.faults.count result }
         ensures spent { self.old.faults.count ≡ u64.MAX → IsErrOf result OutFault.OutOfMemory × (self.new ≡ self.old) }
     {
         if self.faults.is_spent() {
             return Err(OutFault::OutOfMemory);
         }
-        let mut piece = [0u8; PIECE];
-        let room = out.len().min(PIECE);
-        match retry::read(&mut self.inner, &mut piece[..room]) {
-            Ok(count) => {
-                out[..count].copy_from_slice(&piece[..count]);
-                Ok(count)
-            }
+        match transfers::read(&mut self.inner, out) {
+            Ok(count) => Ok(count),
             Err(error) => Err(self.faults.fault(&error)),
         }
     }

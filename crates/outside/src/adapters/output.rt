@@ -1,6 +1,7 @@
 //! A sink over a writer.
 ghost use Rattle.std.specs.Prelude.{◌≡◌, ◌<◌, None, IsErrOf, IfOk, length};
 ghost use Rattle.std.specs.Io.{WritesAtMost};
+ghost use Rattle.std.specs.Io.KnownBytes.{WriteAppends};
 ghost use Rattle.outside.specs.Causes.{HasCause};
 
 use super::faults::FaultCount;
@@ -8,11 +9,12 @@ use super::retry;
 use crate::traits::{OutFault, Sink};
 use std::io::Write;
 
-/// A sink over a writer, as standard output. It tells nothing of its content.
+/// A sink over a writer, as standard output. It tells nothing of its content; of a writer whose bytes are known its
+/// own clauses say what it gave.
 #[derive(Drop)]
 pub struct OutputSink<W> {
-    pub(super) inner: W,
-    pub(super) faults: FaultCount,
+    inner: W,
+    faults: FaultCount,
 }
 
 impl<W> OutputSink<W> {
@@ -40,6 +42,7 @@ impl<W: Write> Sink for OutputSink<W> {
     fn write(&mut self, piece: &[u8]) -> Result<usize, OutFault>
         ensures bound { WritesAtMost result piece.now }
         ensures some { IfOk result (λ taken. 0 < length piece.now → 0 < taken) }
+        ensures bytes { WriteAppends (W.contents self.old.inner) (W.contents self.new.inner) result piece.now }
         ensures cause { HasCause self.old.faults.count self.new.faults.count result }
         ensures spent { self.old.faults.count ≡ u64.MAX → IsErrOf result OutFault.OutOfMemory × (self.new ≡ self.old) }
     {

@@ -6,6 +6,7 @@ ghost use Rattle.outside.specs.StoreForms.{store_of, unless_due, called, unserve
 use super::content::Content;
 use crate::plan::{Failing, Plan};
 use crate::traits::{JournalStore, OutFault};
+use std::alloc::Global;
 use std::marker::Model;
 
 /// A store over bytes in memory, whose calls fail by a list. An append that wants memory leaves the list as it was.
@@ -26,8 +27,8 @@ impl Model for MemoryStore {
 
 impl MemoryStore {
     /// A store of these bytes, all of them synced, whose calls by `&mut` fail by this list. It grows by the
-    /// allocator of its bytes.
-    pub fn new(bytes: Vec<u8>, fails: Vec<Failing>) -> MemoryStore
+    /// allocator that the bytes are from.
+    pub fn new(_alloc: Global, bytes: Vec<u8>, fails: Vec<Failing>) -> MemoryStore
         ensures { result ≡ store_of bytes.items (plan_of fails.items) }
     {
         MemoryStore {

@@ -4,6 +4,7 @@ ghost use Rattle.outside.specs.StoreForms.{content_of, appended, cut_to, synced_
 
 use super::content::Content;
 use crate::traits::{JournalStore, OutFault};
+use std::alloc::Global;
 use std::marker::Model;
 
 /// A store over bytes in memory that never fails. Only an append may want memory.
@@ -21,8 +22,8 @@ impl Model for SureStore {
 }
 
 impl SureStore {
-    /// A store of these bytes, all of them synced. It grows by the allocator of its bytes.
-    pub fn new(bytes: Vec<u8>) -> SureStore
+    /// A store of these bytes, all of them synced. It grows by the allocator that the bytes are from.
+    pub fn new(_alloc: Global, bytes: Vec<u8>) -> SureStore
         ensures { result ≡ content_of bytes.items }
     {
         SureStore {

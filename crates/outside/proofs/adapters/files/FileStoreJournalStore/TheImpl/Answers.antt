@@ -1,6 +1,6 @@
 -- The adapter tells nothing of its content, and its own clauses give the rest of what the trait asks.
 use Rattle.std.proofs.Common.{refl}
-use Rattle.outside.proofs.Untold.{untold, append_untold, cut_untold, cut_synced_untold, sync_untold}
+use Rattle.outside.proofs.Untold.{untold, none_told, lent_untold, append_untold, cut_untold, cut_synced_untold, sync_untold}
 use Rattle.outside.proofs.adapters.files.FileStoreJournalStore.TheImpl.Goals as goal
 
 pub size-tells : goal.size-tells
@@ -16,7 +16,7 @@ pub read_at-tells : goal.read_at-tells
 read_at-tells g c = record {
   bound = c.ensures.bound;
   given = untold c.result;
-  lent = c.ensures.lent;
+  lent = lent_untold c.result c.ensures.lent;
   bytes = refl;
   synced = refl;
   last = c.ensures.last;
@@ -43,6 +43,7 @@ pub sync-tells : goal.sync-tells
 sync-tells g c = record {
   bytes = refl;
   synced = sync_untold c.result;
+  untold = none_told _ c.result;
   last = c.ensures.last;
   cause = c.ensures.cause;
 }
