@@ -1,6 +1,6 @@
 //! Blocks as they are kept.
-use ledger_model::{Block, Blocks, Header, Info};
 use ion_values::{IonTime, Precision, TimeParts};
+use ledger_model::{Block, Blocks, Header, Info};
 use lists::Sequence;
 use ql_types::{BlockAddress, Hash, Hash32, Place, StrandId, TxId};
 use std::alloc::Global;

@@ -4,8 +4,8 @@ use Rattle.ql_types.specs.Ids.{transaction_in, thing_in}
 use Rattle.ledger_model.specs.declared.block.Block.{Block}
 use Rattle.ledger_model.specs.declared.damage.Damage.{Damage}
 use Rattle.ledger_model.specs.Damages.{strand_of, has_address, has_id, damage_behind, UndamagedBehind, Undamaged}
-use Rattle.ledger_claims.specs.Fits.{greatest}
-use Rattle.ledger_claims.specs.Attempts.{mask_of, IsStanding}
+use Rattle.ledger_claims.specs.Fits.{greatest, mask_of}
+use Rattle.ledger_claims.specs.Attempts.{IsStanding}
 use Rattle.ledger_claims.proofs.Tests.{both}
 
 -- a check that comes before others passes where none fails

@@ -1,5 +1,6 @@
 -- What an outcome says stays true when the run goes on: when a later job's block is appended or the store fails more often.
-use Rattle.std.proofs.Common.{◌≡◌, ℕ, ◌-◌, ◌^◌, ◌≤◌, List, [], ◌∷◌, ◌++◌, length, take, drop, slice_get, sym, ap, subst, ◌∙◌, arith, append_assoc, append-nil, length-append}
+use Rattle.std.proofs.Common.{◌≡◌, ℕ, suc, ◌-◌, ◌^◌, ◌<◌, ◌≤◌, List, [], ◌∷◌, ◌++◌, length, take, drop, slice_get, refl, sym, ap, subst, ◌∙◌, arith, append_assoc, append-nil, length-append}
+use Rattle.std.specs.Prelude.{IfSome}
 use Rattle.std.specs.List.{AllByRecursion}
 use Rattle.std.proofs.lemmas.List.{take-append-le}
 use Rattle.std.proofs.lemmas.Option.{slice_get_within}
@@ -11,7 +12,7 @@ use Rattle.ledger_model.specs.declared.outcome.PlacedOutcome.{PlacedOutcome}
 use Rattle.ledger_model.specs.State.{state}
 use Rattle.ledger_model.specs.Run.{run}
 use Rattle.ledger_model.specs.Script.{Placed}
-use Rattle.ledger_claims.specs.Fits.{RunRecord, made, HasNumber, IsBelow, IsFresh, ran_on, HasNoBlock, IsCommitted, Holds, EachHolds}
+use Rattle.ledger_claims.specs.Fits.{RunRecord, made, HasNumber, AllBefore, stood_behind, IsFresh, ran_on, HasNoBlock, IsCommitted, Holds, EachHolds}
 use Rattle.ledger_claims.proofs.Lists.{all_append, slice_get-append, drop_on}
 
 -- the record with these blocks, outcomes and count of failures
@@ -40,10 +41,10 @@ module _ (t : RunRecord) (blocks more : List Block) (outcomes : List PlacedOutco
   longer = let e : length blocks ≡ length (t.after ++ more) = ap length g.behind in omega (arith, length-append t.after more)
 
   number_on : (tx : TxId) (number : ℕ) → HasNumber t tx number → HasNumber u tx number
-  number_on tx number h = record { id = h.id; above = h.above; within = h.within }
+  number_on tx number h = record { id = h.id; above = h.above; within = h.within; counted = h.counted }
 
-  fresh_on : (done : List PlacedOutcome) (since : ℕ) → IsFresh t done since → IsFresh u done since
-  fresh_on done since h = record { from_before = h.from_before; not_past = omega (arith, h.not_past, longer); above = h.above }
+  fresh_on : (since : ℕ) → IsFresh t since → IsFresh u since
+  fresh_on since h = record { from_before = h.from_before; not_past = omega (arith, h.not_past, longer) }
 
   ran_same : (q : Placed) (number since : ℕ) → since ≤ length t.after → ran_on u q number since ≡ ran_on t q number since
   ran_same q number since within =
@@ -73,7 +74,7 @@ module _ (t : RunRecord) (blocks more : List Block) (outcomes : List PlacedOutco
   Holds-on done q others (Refused tx since statement cause) h = record {
     number = h.number;
     numbered = number_on tx h.number h.numbered;
-    fresh = fresh_on done since h.fresh;
+    fresh = fresh_on since h.fresh;
     ends = ran_same q h.number since h.fresh.not_past ∙ h.ends;
     blockless = blockless_on q others h.blockless;
   }
@@ -96,13 +97,13 @@ module _ (t : RunRecord) (blocks more : List Block) (outcomes : List PlacedOutco
   }
   Holds-on done q others (IdsSpent last) h = record {
     greatest_last = h.greatest_last;
-    reached = h.reached;
+    used = h.used;
     blockless = blockless_on q others h.blockless;
   }
   Holds-on done q others (Aborted tx since) h = record {
     number = h.number;
     numbered = number_on tx h.number h.numbered;
-    fresh = fresh_on done since h.fresh;
+    fresh = fresh_on since h.fresh;
     progress = h.progress;
     ends = ran_same q h.number since h.fresh.not_past ∙ h.ends;
     aborts = h.aborts;
@@ -114,41 +115,58 @@ module _ (t : RunRecord) (blocks more : List Block) (outcomes : List PlacedOutco
       → EachHolds t done qs os → EachHolds u done qs os
   EachHolds-on done [] [] others h = tt
   EachHolds-on done (q ∷ qs) (o ∷ os) others h =
-      (h.0, Holds-on done q others.0 o.outcome h.1, EachHolds-on (done ++ o ∷ []) qs os others.1 h.2)
+      (h.0, Holds-on done q others.0 o.outcome h.1, h.2, EachHolds-on (done ++ o ∷ []) qs os others.1 h.3)
   EachHolds-on done [] (o ∷ os) others h = h
   EachHolds-on done (q ∷ qs) [] others h = h
 
 -- ---- one outcome more
 
 module _ (t : RunRecord) (p : Placed) (new : PlacedOutcome) (place : new.place ≡ p.place) where
+  -- what the outcome says is true behind these, which ran before it
+  abbrev HoldsBehind : List PlacedOutcome → Type 0
+  HoldsBehind done = Holds t done p new.outcome × AllBefore t.mask done new.outcome
+
   pub EachHolds-more : (front : List PlacedOutcome) (qs : List Placed) (os : List PlacedOutcome) → EachHolds t front qs os
-      → Holds t (front ++ os) p new.outcome → EachHolds t front (qs ++ p ∷ []) (os ++ new ∷ [])
-  EachHolds-more front [] [] each holds = (place, subst (λ (x : List PlacedOutcome). Holds t x p new.outcome) (append-nil front) holds, tt)
+      → HoldsBehind (front ++ os) → EachHolds t front (qs ++ p ∷ []) (os ++ new ∷ [])
+  EachHolds-more front [] [] each holds =
+      let here : HoldsBehind front = subst (λ (x : List PlacedOutcome). HoldsBehind x) (append-nil front) holds in
+      (place, here.0, here.1, tt)
   EachHolds-more front (q ∷ qs) (o ∷ os) each holds = (
     each.0,
     each.1,
-    EachHolds-more (front ++ o ∷ []) qs os each.2
-        (subst (λ (x : List PlacedOutcome). Holds t x p new.outcome) (sym (append_assoc front (o ∷ []) os)) holds),
+    each.2,
+    EachHolds-more (front ++ o ∷ []) qs os each.3 (subst (λ (x : List PlacedOutcome). HoldsBehind x) (sym (append_assoc front (o ∷ []) os)) holds),
   )
   EachHolds-more front [] (o ∷ os) each holds = absurd each
   EachHolds-more front (q ∷ qs) [] each holds = absurd each
 
--- ---- each block that is told is there
+-- ---- where the outcomes so far were told
 
-below_one : (t : RunRecord) (done : List PlacedOutcome) (q : Placed) (o : Outcome) → Holds t done q o → IsBelow (length t.after) o
-below_one t done q (Committed tx block) h = slice_get_within t.after block h.sealed h.there
-below_one t done q (Conflict tx since named) h = tt
-below_one t done q (Refused tx since statement cause) h = tt
-below_one t done q (DigestDiffers tx since mine given) h = tt
-below_one t done q (StoreFault tx count) h = tt
-below_one t done q (JournalFull tx blocks) h = tt
-below_one t done q (IdsSpent last) h = tt
-below_one t done q (Aborted tx since) h = tt
-below_one t done q OutOfMemory h = tt
+-- no more blocks stood behind the transaction than there are
+abbrev pub IsWithin : ℕ → Outcome → Type 0
+IsWithin count o = IfSome (stood_behind o) (λ n. n ≤ count)
 
-pub all_below : (t : RunRecord) (done : List PlacedOutcome) (qs : List Placed) (os : List PlacedOutcome) → EachHolds t done qs os
-    → AllByRecursion (λ o. IsBelow (length t.after) o.outcome) os
-all_below t done [] [] each = tt
-all_below t done (q ∷ qs) (o ∷ os) each = (below_one t done q o.outcome each.1, all_below t (done ++ o ∷ []) qs os each.2)
-all_below t done [] (o ∷ os) each = absurd each
-all_below t done (q ∷ qs) [] each = absurd each
+one_within : (t : RunRecord) (done : List PlacedOutcome) (q : Placed) (o : Outcome) → Holds t done q o → IsWithin (length t.after) o
+one_within t done q (Committed tx block) h = let less : block < length t.after = slice_get_within t.after block h.sealed h.there in omega arith
+one_within t done q (Conflict tx since named) h = absurd h
+one_within t done q (Refused tx since statement cause) h = h.fresh.not_past
+one_within t done q (DigestDiffers tx since mine given) h = absurd h
+one_within t done q (StoreFault tx count) h = tt
+one_within t done q (JournalFull tx blocks) h = tt
+one_within t done q (IdsSpent last) h = tt
+one_within t done q (Aborted tx since) h = h.fresh.not_past
+one_within t done q OutOfMemory h = tt
+
+pub all_within : (t : RunRecord) (done : List PlacedOutcome) (qs : List Placed) (os : List PlacedOutcome) → EachHolds t done qs os
+    → AllByRecursion (λ o. IsWithin (length t.after) o.outcome) os
+all_within t done [] [] each = tt
+all_within t done (q ∷ qs) (o ∷ os) each = (one_within t done q o.outcome each.1, all_within t (done ++ o ∷ []) qs os each.3)
+all_within t done [] (o ∷ os) each = absurd each
+all_within t done (q ∷ qs) [] each = absurd each
+
+-- there are as many outcomes as jobs
+pub as_many : (t : RunRecord) (done : List PlacedOutcome) (qs : List Placed) (os : List PlacedOutcome) → EachHolds t done qs os → length os ≡ length qs
+as_many t done [] [] each = refl
+as_many t done (q ∷ qs) (o ∷ os) each = ap (λ n. suc n) (as_many t (done ++ o ∷ []) qs os each.3)
+as_many t done [] (o ∷ os) each = absurd each
+as_many t done (q ∷ qs) [] each = absurd each

@@ -11,8 +11,8 @@ use Rattle.ledger_model.specs.Journal.{journal_bytes}
 use Rattle.ledger_model.specs.Recovered.{has_no_line_feed}
 use Rattle.ledger_model.specs.declared.script.Job.{Job}
 use Rattle.ledger_model.specs.Script.{Placed, all_placed}
-use Rattle.ledger_claims.specs.Fits.{RunRecord, FitsBlocks}
-use Rattle.ledger_claims.specs.Attempts.{mask_of, Standing, Seals, Attempted, HoldsBehind, LeavesPart, LeavesStore}
+use Rattle.ledger_claims.specs.Fits.{RunRecord, FitsBlocks, mask_of}
+use Rattle.ledger_claims.specs.Attempts.{Standing, Seals, Attempted, HoldsBehind, LeavesPart, LeavesStore}
 use Rattle.ledger_claims.specs.Stores.{HasJournal, Holding, HoldingWithRest}
 use Rattle.ledger_claims.specs.Top.{Stored, HoldsRun}
 use Rattle.ledger_claims.specs.SoFar.{SoFar, standing, extended, LeavesRun}
@@ -79,7 +79,7 @@ module _ (t : RunRecord) (done : List Placed) (p : Placed) (rest : List Placed) 
 
 -- A transaction leaves the journal of the run as far as it came, where the store held such a journal before.
 pub LeavesRun-on : (t : RunRecord) (done : List Placed) (p : Placed) (rest : List Placed) (last : ℕ) (o : Outcome) (now : Standing) (closed before after : ℕ) (held kept : Option (List ℕ))
-    → ((v : Value) → has_no_line_feed (value_text v) ≡ true) → SoFar t done (p ∷ rest) last → Attempted (standing t last) t.time p t.closed o now closed
+    → ((v : Value) → has_no_line_feed (value_text v) ≡ true) → SoFar t done (p ∷ rest) last → Attempted (standing t last) t.time p o now
     → LeavesStore (standing t last) t.time p o now held kept → LeavesRun t before held → LeavesRun (extended t now.blocks p o closed) after kept
 LeavesRun-on t done p rest last (Committed tx block) now closed before after held kept law so attempted leaves left =
     of_sealed t done p rest last (Committed tx block) now closed before after law so tx block kept attempted leaves

@@ -9,7 +9,7 @@ use Rattle.ledger_model.specs.Seals.{strand_hash}
 use Rattle.ledger_model.specs.Whole.{IsWhole}
 use Rattle.ledger_model.specs.Follows.{follows}
 use Rattle.ledger_model.specs.Damages.{UndamagedBehind, damage_behind, strand_of, last_block, has_address, has_id, has_time, has_previous, has_hashes}
-use Rattle.ledger_claims.specs.Attempts.{mask_of}
+use Rattle.ledger_claims.specs.Fits.{mask_of}
 
 -- ---- tests in a row, of which the first that fails is told
 

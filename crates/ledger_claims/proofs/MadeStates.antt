@@ -16,8 +16,7 @@ use Rattle.ledger_model.specs.State.{State, Table, Recorded, dropped, changed, a
 use Rattle.ledger_model.specs.Whole.{IsWhole, id_fits, table_fits, schema_fits, header_fits, hashes_fit, info_fits, place_fits, revision_fits}
 use Rattle.ledger_model.specs.Follows.{latest_of, is_new, is_made_by, made_ids, created_ids, document_ids, ids_follow, schema_follows, revision_follows, all_differ, follows}
 use Rattle.ledger_model.specs.Damages.{UndamagedBehind, Undamaged, strand_of}
-use Rattle.ledger_claims.specs.Attempts.{mask_of}
-use Rattle.ledger_claims.specs.Fits.{greatest}
+use Rattle.ledger_claims.specs.Fits.{greatest, mask_of}
 use Rattle.ledger_claims.proofs.MadeLists.{all_append, passing}
 use Rattle.ledger_claims.proofs.MadeParts.{ShallowContent, parts_of}
 use Rattle.ledger_claims.proofs.MadeJournals.{passes_all, state_push, strand_is}

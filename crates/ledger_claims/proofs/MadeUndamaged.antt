@@ -23,8 +23,8 @@ use Rattle.ledger_model.specs.Script.{Placed}
 use Rattle.ledger_model.specs.Whole.{IsWhole, id_fits, schema_fits, hash_fits, entry_fits, header_fits, hashes_fit, info_fits, revision_fits}
 use Rattle.ledger_model.specs.Follows.{created_ids, follows}
 use Rattle.ledger_model.specs.Damages.{Undamaged, strand_of, last_block, has_address, has_id, has_previous}
-use Rattle.ledger_claims.specs.Attempts.{Standing, IsStanding, IsNextBlock, mask_of, next, ran_next}
-use Rattle.ledger_claims.specs.Fits.{greatest}
+use Rattle.ledger_claims.specs.Attempts.{Standing, IsStanding, IsNextBlock, next, ran_next}
+use Rattle.ledger_claims.specs.Fits.{greatest, mask_of}
 use Rattle.ledger_claims.specs.Makes.{CanMake, IsWithinAll, change_within, draft_within, said_within}
 use Rattle.ledger_claims.proofs.MadeLists.{all_both, all_like, all_mapped, all_unmapped, differ_rest, passing}
 use Rattle.ledger_claims.proofs.MadeIds.{transaction_of, thing_of, raw_id_fits}

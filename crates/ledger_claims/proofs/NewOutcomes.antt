@@ -1,5 +1,6 @@
 -- The outcome of the job that was done last holds, and the run is one job further, by cases of the outcome.
 use Rattle.std.proofs.Common.{◌≡◌, ℕ, ◌+◌, ◌-◌, ◌^◌, ◌<◌, ◌≤◌, List, [], ◌∷◌, ◌++◌, length, take, drop, slice_get, Some, refl, sym, ap, subst, ◌∙◌, arith, append-nil, take_all}
+use Rattle.std.specs.Prelude.{IfSome}
 use Rattle.std.specs.List.{AllByRecursion}
 use Rattle.ql_types.specs.Ids.{raw_id}
 use Rattle.ql_types.specs.declared.TxId.{TxId}
@@ -11,14 +12,14 @@ use Rattle.ledger_model.specs.declared.outcome.Refusal.{Refusal}
 use Rattle.ledger_model.specs.State.{state}
 use Rattle.ledger_model.specs.Run.{run}
 use Rattle.ledger_model.specs.Script.{Placed}
-use Rattle.ledger_claims.specs.Fits.{RunRecord, made, FitsBlocks, HasNumber, IsBelow, IsFresh, ran_on, HasNoBlock, Holds, greatest, attempts, told_id, told_count}
-use Rattle.ledger_claims.specs.Attempts.{Standing, IsNext, Draws, ran_next, Attempted}
+use Rattle.ledger_claims.specs.Fits.{RunRecord, made, FitsBlocks, HasNumber, IsFresh, ran_on, stood_before, HasNoBlock, Holds, greatest, attempts, told_id, told_count}
+use Rattle.ledger_claims.specs.Attempts.{Standing, IsNext, Draws, ran_next, Attempted, TellsFaults}
 use Rattle.ledger_claims.specs.SoFar.{IsBehind, SoFar, standing, extended}
 use Rattle.ledger_claims.proofs.Lists.{all_mapped, slice_get_seam, reaches}
 use Rattle.ledger_claims.proofs.Places.{behind_differs}
 use Rattle.ledger_claims.proofs.NextBlocks.{next-id, next-place}
-use Rattle.ledger_claims.proofs.Numbers.{TellsNext, TellsRise}
-use Rattle.ledger_claims.proofs.Growing.{Grows, grown, all_below}
+use Rattle.ledger_claims.proofs.Numbers.{TellsNext, CountsOn, attempts-least}
+use Rattle.ledger_claims.proofs.Growing.{Grows, grown, as_many}
 use Rattle.ledger_claims.proofs.BlocksFit.{FitsBlocks-kept, FitsBlocks-next, each_behind}
 use Rattle.ledger_claims.proofs.OneMore.{attempts_one, SoFar-more}
 
@@ -30,7 +31,8 @@ module _ (t : RunRecord) (done : List Placed) (p : Placed) (rest : List Placed) 
   next_within : last + 1 ≤ greatest t.mask t.before + attempts t.jobs
   next_within =
       let all : attempts t.jobs ≡ attempts done + (p.job.retries + 1) + attempts rest = ap attempts so.jobs ∙ attempts_one done p rest in
-      omega (arith, so.not_past)
+      let few : length t.outcomes ≡ length done = as_many t [] done t.outcomes so.outcomes in
+      omega (arith, so.not_past, attempts-least done)
 
   found_front : length t.before ≤ length t.after
   found_front = reaches t.before t.after [] so.blocks.begins
@@ -39,8 +41,8 @@ module _ (t : RunRecord) (done : List Placed) (p : Placed) (rest : List Placed) 
     abbrev u : RunRecord
     u = grown t blocks outcomes closed
 
-    next-HasNumber : (tx : TxId) → tx.raw ≡ raw_id t.mask (last + 1) 0 → HasNumber u tx (last + 1)
-    next-HasNumber tx id = record { id = id; above = omega (arith, so.from_greatest); within = next_within }
+    next-HasNumber : (tx : TxId) → tx.raw ≡ raw_id t.mask (last + 1) 0 → last + 1 < 2 ^ 64 → HasNumber u tx (last + 1)
+    next-HasNumber tx id counted = record { id = id; above = omega (arith, so.from_greatest); within = next_within; counted = counted }
 
     -- ---- where there is no block more
 
@@ -51,14 +53,8 @@ module _ (t : RunRecord) (done : List Placed) (p : Placed) (rest : List Placed) 
           (all_mapped (λ (b : Block). IsBehind b.info.place p) (λ b. b.info.place ≡ p.place → ⊥)
           (λ b behind. behind_differs b.info.place p behind) (made t) (each_behind p rest (made t) so.behind))
 
-      next-IsFresh : (since : ℕ) → since ≡ length t.after → IsFresh u t.outcomes since
-      next-IsFresh since is = record {
-        from_before = omega (arith, found_front);
-        not_past = omega (arith, ap length same);
-        above =
-            subst (λ (n : ℕ). AllByRecursion (λ (o : PlacedOutcome). IsBelow n o.outcome) t.outcomes) (sym is)
-            (all_below t [] done t.outcomes so.outcomes);
-      }
+      next-IsFresh : (since : ℕ) → since ≡ length t.after → IsFresh u since
+      next-IsFresh since is = record { from_before = omega (arith, found_front); not_past = omega (arith, ap length same) }
 
       next-ran : (since : ℕ) → since ≡ length t.after → ran_on u p (last + 1) since ≡ ran_next s p
       next-ran since is =
@@ -72,19 +68,21 @@ module _ (t : RunRecord) (done : List Placed) (p : Placed) (rest : List Placed) 
 
   -- no block more
   kept : (o : Outcome) (now : Standing) (closed : ℕ) → now.blocks ≡ t.after → t.closed ≤ closed → last ≤ now.last → now.last ≤ last + 1
-      → Holds (extended t now.blocks p o closed) t.outcomes p o → TellsNext t.mask last now.last (told_id o) → TellsRise t.closed closed (told_count o)
+      → Holds (extended t now.blocks p o closed) t.outcomes p o → IfSome (stood_before o) (λ n. length t.after ≤ n)
+      → TellsNext t.mask last now.last (told_id o) → CountsOn t.closed closed (told_count o)
       → SoFar (extended t now.blocks p o closed) (done ++ p ∷ []) rest now.last
-  kept o now closed same later from most holds tells rises =
+  kept o now closed same later from most holds stood tells counts =
       SoFar-more t done p rest last so o now.blocks [] closed now.last (kept-Grows now.blocks closed same later) tt
-      (FitsBlocks-kept t now.blocks _ closed same so.blocks) from most holds tells rises
+      (FitsBlocks-kept t now.blocks _ closed same so.blocks) from most holds stood tells counts
 
   -- a number was drawn, and no block is there more
   drew : (o : Outcome) (tx : TxId) (now : Standing) (closed : ℕ) → IsNext s tx → Draws s now → t.closed ≤ closed
-      → Holds (extended t now.blocks p o closed) t.outcomes p o → told_id o ≡ tx.raw ∷ [] → TellsRise t.closed closed (told_count o)
+      → Holds (extended t now.blocks p o closed) t.outcomes p o → IfSome (stood_before o) (λ n. length t.after ≤ n)
+      → told_id o ≡ tx.raw ∷ [] → CountsOn t.closed closed (told_count o)
       → SoFar (extended t now.blocks p o closed) (done ++ p ∷ []) rest now.last
-  drew o tx now closed next draws later holds tells rises =
-      kept o now closed draws.blocks later (omega (arith, draws.last)) (omega (arith, draws.last)) holds
-      (subst (λ (x : List ℕ). TellsNext t.mask last now.last x) (sym tells) (next.id, omega (arith, draws.last))) rises
+  drew o tx now closed next draws later holds stood tells counts =
+      kept o now closed draws.blocks later (omega (arith, draws.last)) (omega (arith, draws.last)) holds stood
+      (subst (λ (x : List ℕ). TellsNext t.mask last now.last x) (sym tells) (next.id, omega (arith, draws.last))) counts
 
   module _ (now : Standing) (closed : ℕ) (later : t.closed ≤ closed) where
     abbrev with_outcome : Outcome → RunRecord
@@ -93,88 +91,89 @@ module _ (t : RunRecord) (done : List Placed) (p : Placed) (rest : List Placed) 
     abbrev Further : Outcome → Type 0
     Further o = SoFar (with_outcome o) (done ++ p ∷ []) rest now.last
 
-    numbered : (o : Outcome) (tx : TxId) → tx.raw ≡ raw_id t.mask (last + 1) 0 → HasNumber (with_outcome o) tx (last + 1)
-    numbered o tx id = next-HasNumber now.blocks (with_outcome o).outcomes closed tx id
+    numbered : (o : Outcome) (tx : TxId) → tx.raw ≡ raw_id t.mask (last + 1) 0 → last + 1 < 2 ^ 64 → HasNumber (with_outcome o) tx (last + 1)
+    numbered o tx id counted = next-HasNumber now.blocks (with_outcome o).outcomes closed tx id counted
 
     blockless : (o : Outcome) → now.blocks ≡ t.after → HasNoBlock (with_outcome o) p
     blockless o same = next-HasNoBlock now.blocks (with_outcome o).outcomes closed same
 
-    fresh : (o : Outcome) → now.blocks ≡ t.after → (since : ℕ) → since ≡ length t.after → IsFresh (with_outcome o) t.outcomes since
+    fresh : (o : Outcome) → now.blocks ≡ t.after → (since : ℕ) → since ≡ length t.after → IsFresh (with_outcome o) since
     fresh o same since is = next-IsFresh now.blocks (with_outcome o).outcomes closed same since is
 
     ran_there : (o : Outcome) → now.blocks ≡ t.after → (since : ℕ) → since ≡ length t.after → ran_on (with_outcome o) p (last + 1) since ≡ ran_next s p
     ran_there o same since is = next-ran now.blocks (with_outcome o).outcomes closed same since is
 
-    after_Refused : (tx : TxId) (since statement : ℕ) (cause : Refusal) → Attempted s t.time p t.closed (Refused tx since statement cause) now closed
+    after_Refused : (tx : TxId) (since statement : ℕ) (cause : Refusal) → Attempted s t.time p (Refused tx since statement cause) now → closed ≡ t.closed
         → Further (Refused tx since statement cause)
-    after_Refused tx since statement cause h =
+    after_Refused tx since statement cause h fine =
         let o : Outcome = Refused tx since statement cause in
         drew o tx now closed h.0 h.1 later
         (record {
           number = last + 1;
-          numbered = numbered o tx h.0.id;
+          numbered = numbered o tx h.0.id h.0.counted;
           fresh = fresh o h.1.blocks since h.2;
           ends = ran_there o h.1.blocks since h.2 ∙ h.3;
           blockless = blockless o h.1.blocks;
         })
-        refl tt
+        (omega (arith, h.2)) refl fine
 
-    after_Aborted : (tx : TxId) (since : ℕ) → Attempted s t.time p t.closed (Aborted tx since) now closed → Further (Aborted tx since)
-    after_Aborted tx since h =
+    after_Aborted : (tx : TxId) (since : ℕ) → Attempted s t.time p (Aborted tx since) now → closed ≡ t.closed → Further (Aborted tx since)
+    after_Aborted tx since h fine =
         let o : Outcome = Aborted tx since in
         drew o tx now closed h.0 h.1 later
         (record {
           number = last + 1;
-          numbered = numbered o tx h.0.id;
+          numbered = numbered o tx h.0.id h.0.counted;
           fresh = fresh o h.1.blocks since h.2;
           progress = h.4.0;
           ends = ran_there o h.1.blocks since h.2 ∙ h.4.1;
           aborts = h.3;
           blockless = blockless o h.1.blocks;
         })
-        refl tt
+        (omega (arith, h.2)) refl fine
 
-    after_StoreFault : (tx : TxId) (count : ℕ) → Attempted s t.time p t.closed (StoreFault tx count) now closed → Further (StoreFault tx count)
-    after_StoreFault tx count h =
+    after_StoreFault : (tx : TxId) (count : ℕ) → Attempted s t.time p (StoreFault tx count) now → (t.closed < closed) × (count ≡ closed) → Further (StoreFault tx count)
+    after_StoreFault tx count h rose =
         let o : Outcome = StoreFault tx count in
         drew o tx now closed h.0 h.1 later
         (record {
           number = last + 1;
-          numbered = numbered o tx h.0.id;
+          numbered = numbered o tx h.0.id h.0.counted;
           commits = h.2;
-          rose = omega (arith, so.from_opened, h.3);
-          not_past = h.4;
+          rose = omega (arith, so.from_opened, rose.0, rose.1);
+          not_past = omega (arith, rose.1);
           blockless = blockless o h.1.blocks;
         })
-        refl (h.3, h.4)
+        tt refl rose
 
-    after_JournalFull : (tx : TxId) (blocks : ℕ) → Attempted s t.time p t.closed (JournalFull tx blocks) now closed → Further (JournalFull tx blocks)
-    after_JournalFull tx blocks h =
+    after_JournalFull : (tx : TxId) (blocks : ℕ) → Attempted s t.time p (JournalFull tx blocks) now → closed ≡ t.closed → Further (JournalFull tx blocks)
+    after_JournalFull tx blocks h fine =
         let o : Outcome = JournalFull tx blocks in
         drew o tx now closed h.0 h.1 later
         (record {
           number = last + 1;
-          numbered = numbered o tx h.0.id;
+          numbered = numbered o tx h.0.id h.0.counted;
           commits = h.2;
           full = ap length h.1.blocks ∙ h.3;
           told = h.4;
           blockless = blockless o h.1.blocks;
         })
-        refl tt
+        tt refl fine
 
-    after_IdsSpent : (spent : ℕ) → Attempted s t.time p t.closed (IdsSpent spent) now closed → Further (IdsSpent spent)
-    after_IdsSpent spent h =
+    after_IdsSpent : (spent : ℕ) → Attempted s t.time p (IdsSpent spent) now → closed ≡ t.closed → Further (IdsSpent spent)
+    after_IdsSpent spent h fine =
         let o : Outcome = IdsSpent spent in
         let same : now.blocks ≡ t.after = ap (λ (x : Standing). x.blocks) h.0 in
         let still : now.last ≡ last = ap (λ (x : Standing). x.last) h.0 in
         kept o now closed same later (omega arith) (omega arith)
-        (record { greatest_last = h.2; reached = omega (arith, next_within, h.1); blockless = blockless o same }) tt tt
+        (record { greatest_last = h.2; used = omega (arith, so.not_past, h.1); blockless = blockless o same }) tt tt fine
 
-    after_OutOfMemory : Attempted s t.time p t.closed OutOfMemory now closed → Further OutOfMemory
-    after_OutOfMemory h = kept OutOfMemory now closed h.blocks later h.not_before h.not_past (blockless OutOfMemory h.blocks) tt tt
+    after_OutOfMemory : Attempted s t.time p OutOfMemory now → closed ≡ t.closed → Further OutOfMemory
+    after_OutOfMemory h fine =
+        kept OutOfMemory now closed h.0.blocks later (omega (arith, h.0.last)) (omega (arith, h.0.last)) (blockless OutOfMemory h.0.blocks) tt tt fine
 
-    after_Committed : (tx : TxId) (block : ℕ) → Attempted s t.time p t.closed (Committed tx block) now closed → Further (Committed tx block)
-    after_Committed tx block h =
+    after_Committed : (tx : TxId) (block : ℕ) → Attempted s t.time p (Committed tx block) now → closed ≡ t.closed → Further (Committed tx block)
+    after_Committed tx block h fine =
         let o : Outcome = Committed tx block in
         let b : Block = h.sealed in
         let id : tx.raw ≡ raw_id t.mask (last + 1) 0 = ap (λ (x : TxId). x.raw) h.id ∙ next-id s t.time p b h.is_next in
@@ -195,23 +194,23 @@ module _ (t : RunRecord) (done : List Placed) (p : Placed) (rest : List Placed) 
           place = place;
           id = sym h.id;
           number = last + 1;
-          numbered = numbered o tx id;
+          numbered = numbered o tx id h.is_next.counted;
         })
-        (id, omega (arith, h.last)) tt
+        (omega (arith, h.place)) (id, omega (arith, h.last)) fine
 
-    further : (o : Outcome) → Attempted s t.time p t.closed o now closed → Further o
-    further (Committed tx block) h = after_Committed tx block h
-    further (Conflict tx since named) h = absurd h
-    further (Refused tx since statement cause) h = after_Refused tx since statement cause h
-    further (DigestDiffers tx since mine given) h = absurd h
-    further (StoreFault tx count) h = after_StoreFault tx count h
-    further (JournalFull tx blocks) h = after_JournalFull tx blocks h
-    further (IdsSpent spent) h = after_IdsSpent spent h
-    further (Aborted tx since) h = after_Aborted tx since h
-    further OutOfMemory h = after_OutOfMemory h
+    further : (o : Outcome) → Attempted s t.time p o now → TellsFaults t.closed o closed → Further o
+    further (Committed tx block) h faults = after_Committed tx block h faults
+    further (Conflict tx since named) h faults = absurd h
+    further (Refused tx since statement cause) h faults = after_Refused tx since statement cause h faults
+    further (DigestDiffers tx since mine given) h faults = absurd h
+    further (StoreFault tx count) h faults = after_StoreFault tx count h faults
+    further (JournalFull tx blocks) h faults = after_JournalFull tx blocks h faults
+    further (IdsSpent spent) h faults = after_IdsSpent spent h faults
+    further (Aborted tx since) h faults = after_Aborted tx since h faults
+    further OutOfMemory h faults = after_OutOfMemory h faults
 
 -- A transaction of the next job takes the run one job further.
 pub extends : (t : RunRecord) (done : List Placed) (p : Placed) (rest : List Placed) (last : ℕ) (o : Outcome) (now : Standing) (closed : ℕ)
-    → SoFar t done (p ∷ rest) last → t.closed ≤ closed → Attempted (standing t last) t.time p t.closed o now closed
-    → SoFar (extended t now.blocks p o closed) (done ++ p ∷ []) rest now.last
-extends t done p rest last o now closed so later attempted = further t done p rest last so now closed later o attempted
+    → SoFar t done (p ∷ rest) last → t.closed ≤ closed → Attempted (standing t last) t.time p o now
+    → TellsFaults t.closed o closed → SoFar (extended t now.blocks p o closed) (done ++ p ∷ []) rest now.last
+extends t done p rest last o now closed so later attempted faults = further t done p rest last so now closed later o attempted faults

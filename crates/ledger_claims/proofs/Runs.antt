@@ -8,7 +8,7 @@ use Rattle.ledger_model.specs.Legal.{LegalFrom, last_hash}
 use Rattle.ledger_model.specs.State.{state}
 use Rattle.ledger_model.specs.Script.{Placed}
 use Rattle.ledger_claims.specs.Fits.{RunRecord, Fits, FitsBlocks, HaveTimes, IsOfSomeJob, InSessionOrder, EachHolds, greatest}
-use Rattle.ledger_claims.specs.Attempts.{Standing, IsStanding, Attempted}
+use Rattle.ledger_claims.specs.Attempts.{Standing, IsStanding, Attempted, TellsFaults}
 use Rattle.ledger_claims.specs.SoFar.{InOrder, AreBehind, SoFar, standing, extended}
 use Rattle.ledger_claims.proofs.NewOutcomes.{extends}
 use Rattle.ledger_claims.proofs.Standings.{Attempted-IsStanding, Attempted-mask}
@@ -34,7 +34,7 @@ found-FitsBlocks t undamaged =
       once = subst (λ (x : List Block). InSessionOrder x) (none_made t.before) tt;
     }
 
-found-SoFar : (t : RunRecord) (last : ℕ) → InOrder t.jobs → Undamaged t.before → t.opened ≤ t.closed → last ≡ greatest t.mask t.before
+found-SoFar : (t : RunRecord) (last : ℕ) → InOrder t.jobs → Undamaged t.before → t.closed ≡ t.opened → last ≡ greatest t.mask t.before
     → SoFar (found t) [] t.jobs last
 found-SoFar t last order undamaged opens is = record {
   jobs = refl;
@@ -46,13 +46,14 @@ found-SoFar t last order undamaged opens is = record {
   drawn = tt;
   counts = refl;
   risen = tt;
-  from_opened = opens;
+  from_opened = omega (arith, opens);
+  faults = opens;
   from_greatest = omega arith;
   not_past = omega arith;
 }
 
 -- The ledger stands for the blocks that the run found, and no job is done.
-pub starts : (t : RunRecord) (s : Standing) → InOrder t.jobs → t.after ≡ t.before → t.outcomes ≡ [] → t.opened ≤ t.closed
+pub starts : (t : RunRecord) (s : Standing) → InOrder t.jobs → t.after ≡ t.before → t.outcomes ≡ [] → t.closed ≡ t.opened
     → IsStanding s → s.blocks ≡ t.before → s.mask ≡ t.mask → s.last ≡ greatest t.mask t.before → SoFar t [] t.jobs s.last
 starts t s order same none opens is blocks masks last =
     let undamaged : Undamaged t.before = subst (λ (x : List Block). Undamaged x) blocks is.undamaged in
@@ -63,12 +64,12 @@ starts t s order same none opens is blocks masks last =
 
 -- The run is one job further, what the ledger stands for is sound, and it is what the record says.
 pub goes_on : (t : RunRecord) (done : List Placed) (p : Placed) (rest : List Placed) (last : ℕ) (o : Outcome) (now : Standing) (closed : ℕ)
-    → SoFar t done (p ∷ rest) last → IsStanding (standing t last) → t.closed ≤ closed → Attempted (standing t last) t.time p t.closed o now closed
+    → SoFar t done (p ∷ rest) last → IsStanding (standing t last) → t.closed ≤ closed → Attempted (standing t last) t.time p o now → TellsFaults t.closed o closed
     → SoFar (extended t now.blocks p o closed) (done ++ p ∷ []) rest now.last × IsStanding now × (now ≡ standing (extended t now.blocks p o closed) now.last)
-goes_on t done p rest last o now closed so is later attempted =
-    let masks : now.mask ≡ t.mask = Attempted-mask (standing t last) t.time p t.closed o now closed attempted in (
-      extends t done p rest last o now closed so later attempted,
-      Attempted-IsStanding (standing t last) t.time p t.closed o now closed is attempted,
+goes_on t done p rest last o now closed so is later attempted faults =
+    let masks : now.mask ≡ t.mask = Attempted-mask (standing t last) t.time p o now attempted in (
+      extends t done p rest last o now closed so later attempted faults,
+      Attempted-IsStanding (standing t last) t.time p o now is attempted,
       λ i. record { mask = masks i; last = now.last; blocks = now.blocks },
     )
 
@@ -82,4 +83,5 @@ ends t done last so =
       outcomes = subst (λ (x : List Placed). EachHolds t [] x t.outcomes) all so.outcomes;
       numbers = so.numbers;
       counts = so.counts;
+      faults = so.faults;
     }

@@ -8,8 +8,8 @@ use Rattle.ledger_model.specs.declared.outcome.Outcome.{Outcome}
 use Rattle.ledger_model.specs.declared.outcome.Outcome.TheVariants.{Committed, Conflict, Refused, DigestDiffers, StoreFault, JournalFull, IdsSpent, Aborted, OutOfMemory}
 use Rattle.ledger_model.specs.Damages.{Undamaged}
 use Rattle.ledger_model.specs.Script.{Placed}
-use Rattle.ledger_claims.specs.Fits.{greatest}
-use Rattle.ledger_claims.specs.Attempts.{Standing, mask_of, IsStanding, IsNext, IsNextBlock, Seals, Draws, Attempted}
+use Rattle.ledger_claims.specs.Fits.{greatest, mask_of}
+use Rattle.ledger_claims.specs.Attempts.{Standing, IsStanding, IsNext, IsNextBlock, Seals, Draws, Attempted}
 use Rattle.ledger_claims.proofs.NextBlocks.{next-id, next-strand}
 use Rattle.ledger_claims.proofs.Numbers.{greatest-append, transaction_of_id}
 
@@ -53,27 +53,28 @@ seals-IsStanding s now time p tx block is seals =
 draws-IsStanding : (s now : Standing) (tx : TxId) → IsStanding s → IsNext s tx → Draws s now → IsStanding now
 draws-IsStanding s now tx is next draws = kept-IsStanding s now is draws.mask draws.blocks (omega (arith, draws.last)) (omega (arith, draws.last, next.counted))
 
-pub Attempted-IsStanding : (s : Standing) (time : TimeParts) (p : Placed) (before : ℕ) (o : Outcome) (now : Standing) (after : ℕ) → IsStanding s
-    → Attempted s time p before o now after → IsStanding now
-Attempted-IsStanding s time p before (Committed tx block) now after is h = seals-IsStanding s now time p tx block is h
-Attempted-IsStanding s time p before (Conflict tx since named) now after is h = absurd h
-Attempted-IsStanding s time p before (Refused tx since statement cause) now after is h = draws-IsStanding s now tx is h.0 h.1
-Attempted-IsStanding s time p before (DigestDiffers tx since mine given) now after is h = absurd h
-Attempted-IsStanding s time p before (StoreFault tx count) now after is h = draws-IsStanding s now tx is h.0 h.1
-Attempted-IsStanding s time p before (JournalFull tx blocks) now after is h = draws-IsStanding s now tx is h.0 h.1
-Attempted-IsStanding s time p before (IdsSpent last) now after is h = subst (λ (x : Standing). IsStanding x) (sym h.0) is
-Attempted-IsStanding s time p before (Aborted tx since) now after is h = draws-IsStanding s now tx is h.0 h.1
-Attempted-IsStanding s time p before OutOfMemory now after is h = kept-IsStanding s now is h.mask h.blocks h.not_before h.counted
+pub Attempted-IsStanding : (s : Standing) (time : TimeParts) (p : Placed) (o : Outcome) (now : Standing) → IsStanding s
+    → Attempted s time p o now → IsStanding now
+Attempted-IsStanding s time p (Committed tx block) now is h = seals-IsStanding s now time p tx block is h
+Attempted-IsStanding s time p (Conflict tx since named) now is h = absurd h
+Attempted-IsStanding s time p (Refused tx since statement cause) now is h = draws-IsStanding s now tx is h.0 h.1
+Attempted-IsStanding s time p (DigestDiffers tx since mine given) now is h = absurd h
+Attempted-IsStanding s time p (StoreFault tx count) now is h = draws-IsStanding s now tx is h.0 h.1
+Attempted-IsStanding s time p (JournalFull tx blocks) now is h = draws-IsStanding s now tx is h.0 h.1
+Attempted-IsStanding s time p (IdsSpent last) now is h = subst (λ (x : Standing). IsStanding x) (sym h.0) is
+Attempted-IsStanding s time p (Aborted tx since) now is h = draws-IsStanding s now tx is h.0 h.1
+Attempted-IsStanding s time p OutOfMemory now is h =
+    kept-IsStanding s now is h.0.mask h.0.blocks (omega (arith, h.0.last)) (omega (arith, h.0.last, h.1))
 
 -- the mask stays
-pub Attempted-mask : (s : Standing) (time : TimeParts) (p : Placed) (before : ℕ) (o : Outcome) (now : Standing) (after : ℕ)
-    → Attempted s time p before o now after → now.mask ≡ s.mask
-Attempted-mask s time p before (Committed tx block) now after h = h.mask
-Attempted-mask s time p before (Conflict tx since named) now after h = absurd h
-Attempted-mask s time p before (Refused tx since statement cause) now after h = h.1.mask
-Attempted-mask s time p before (DigestDiffers tx since mine given) now after h = absurd h
-Attempted-mask s time p before (StoreFault tx count) now after h = h.1.mask
-Attempted-mask s time p before (JournalFull tx blocks) now after h = h.1.mask
-Attempted-mask s time p before (IdsSpent last) now after h = ap (λ (x : Standing). x.mask) h.0
-Attempted-mask s time p before (Aborted tx since) now after h = h.1.mask
-Attempted-mask s time p before OutOfMemory now after h = h.mask
+pub Attempted-mask : (s : Standing) (time : TimeParts) (p : Placed) (o : Outcome) (now : Standing)
+    → Attempted s time p o now → now.mask ≡ s.mask
+Attempted-mask s time p (Committed tx block) now h = h.mask
+Attempted-mask s time p (Conflict tx since named) now h = absurd h
+Attempted-mask s time p (Refused tx since statement cause) now h = h.1.mask
+Attempted-mask s time p (DigestDiffers tx since mine given) now h = absurd h
+Attempted-mask s time p (StoreFault tx count) now h = h.1.mask
+Attempted-mask s time p (JournalFull tx blocks) now h = h.1.mask
+Attempted-mask s time p (IdsSpent last) now h = ap (λ (x : Standing). x.mask) h.0
+Attempted-mask s time p (Aborted tx since) now h = h.1.mask
+Attempted-mask s time p OutOfMemory now h = h.0.mask

@@ -13,18 +13,13 @@ use Rattle.ledger_model.specs.Run.{Begun, Progress, Ran, run, ran, refused}
 use Rattle.ledger_model.specs.Damages.{Undamaged}
 use Rattle.ledger_model.specs.Making.{IsMadeOf}
 use Rattle.ledger_model.specs.Script.{Placed}
-use Rattle.ledger_claims.specs.Fits.{greatest}
+use Rattle.ledger_claims.specs.Fits.{greatest, mask_of}
 
 -- the mask of the ids, the last number that was drawn or found, and the blocks
 pub record Standing : Type 0 where
   pub mask : ℕ
   pub last : ℕ
   pub blocks : List Block
-
--- the mask is what the first block's strand shows, or this one where there is no block
-abbrev pub mask_of : ℕ → List Block → ℕ
-mask_of given [] = given
-mask_of given (b ∷ bs) = b.header.address.strand.raw
 
 -- the blocks are undamaged, of one strand, and no number in them is above the last one
 pub record IsStanding (s : Standing) : Type 0 where
@@ -52,14 +47,6 @@ pub record Draws (s now : Standing) : Type 0 where
   pub last : now.last ≡ s.last + 1
   pub blocks : now.blocks ≡ s.blocks
 
--- the number was drawn or not, and nothing else happened
-pub record MayDraw (s now : Standing) : Type 0 where
-  pub mask : now.mask ≡ s.mask
-  pub not_before : s.last ≤ now.last
-  pub not_past : now.last ≤ s.last + 1
-  pub counted : now.last < 2 ^ 64
-  pub blocks : now.blocks ≡ s.blocks
-
 -- the block that the job becomes as the next transaction, behind the blocks so far
 pub record IsNextBlock (s : Standing) (time : TimeParts) (p : Placed) (b : Block) : Type 0 where
   pub made : IsMadeOf (next s) s.blocks p.place time p.job.statements b
@@ -78,24 +65,28 @@ pub record Seals (s : Standing) (time : TimeParts) (p : Placed) (tx : TxId) (blo
   pub last : now.last ≡ s.last + 1
   pub blocks : now.blocks ≡ s.blocks ++ sealed ∷ []
 
--- What a transaction of the job does, by its outcome; the store had failed `before` times and then `after` times.
-abbrev pub Attempted : Standing → TimeParts → Placed → ℕ → Outcome → Standing → ℕ → Type 0
-Attempted s time p before (Committed tx block) now after = Seals s time p tx block now
-Attempted s time p before (Conflict tx since named) now after = ⊥
-Attempted s time p before (Refused tx since statement cause) now after =
+-- What a transaction of the job does, by its outcome. Each one but where no number is left uses a number.
+abbrev pub Attempted : Standing → TimeParts → Placed → Outcome → Standing → Type 0
+Attempted s time p (Committed tx block) now = Seals s time p tx block now
+Attempted s time p (Conflict tx since named) now = ⊥
+Attempted s time p (Refused tx since statement cause) now =
     IsNext s tx × Draws s now × (since ≡ length s.blocks) × (ran_next s p ≡ refused statement cause)
-Attempted s time p before (DigestDiffers tx since mine given) now after = ⊥
-Attempted s time p before (StoreFault tx count) now after =
-    IsNext s tx × Draws s now × (p.job.abort ≡ false) × (before < count) × (count ≤ after)
-Attempted s time p before (JournalFull tx blocks) now after =
+Attempted s time p (DigestDiffers tx since mine given) now = ⊥
+Attempted s time p (StoreFault tx count) now = IsNext s tx × Draws s now × (p.job.abort ≡ false)
+Attempted s time p (JournalFull tx blocks) now =
     IsNext s tx × Draws s now × (p.job.abort ≡ false) × (length s.blocks ≡ 2 ^ 32 - 1) × (blocks ≡ 2 ^ 32 - 1)
-Attempted s time p before (IdsSpent last) now after = (now ≡ s) × (s.last ≡ 2 ^ 64 - 1) × (last ≡ 2 ^ 64 - 1)
-Attempted s time p before (Aborted tx since) now after =
-    IsNext s tx × Draws s now × (since ≡ length s.blocks) × (p.job.abort ≡ true)
-    × ((progress : Progress) × (ran_next s p ≡ ran progress))
-Attempted s time p before OutOfMemory now after = MayDraw s now
+Attempted s time p (IdsSpent last) now = (now ≡ s) × (s.last ≡ 2 ^ 64 - 1) × (last ≡ 2 ^ 64 - 1)
+Attempted s time p (Aborted tx since) now =
+    IsNext s tx × Draws s now × (since ≡ length s.blocks) × (p.job.abort ≡ true) × ((progress : Progress) × (ran_next s p ≡ ran progress))
+Attempted s time p OutOfMemory now = Draws s now × (s.last + 1 < 2 ^ 64)
 
 -- ---- the store
+
+-- The count of the store's faults rose where the outcome says so, to the count that it tells, and nowhere else: no failure is
+-- told as want of memory, and none stands behind a block that is told as committed.
+abbrev pub TellsFaults : ℕ → Outcome → ℕ → Type 0
+TellsFaults before (StoreFault tx count) after = (before < after) × (count ≡ after)
+TellsFaults before other after = after ≡ before
 
 -- the store holds the lines of these blocks, and behind them these bytes
 abbrev pub HoldsBehind : List Block → List ℕ → Option (List ℕ) → Type 0

@@ -1,6 +1,6 @@
 -- What a run claims of the blocks that it leaves and of the outcomes that it tells: the blocks are one serial history,
 -- and each outcome is true of it.
-use Rattle.std.specs.Prelude.{◌≡◌, ℕ, ◌+◌, ◌^◌, ◌<◌, ◌≤◌, ◌-◌, max, List, [], ◌∷◌, ◌++◌, length, take, drop, slice_get, Some, Contains, true, false}
+use Rattle.std.specs.Prelude.{◌≡◌, ℕ, ◌+◌, ◌^◌, ◌<◌, ◌≤◌, ◌-◌, max, List, [], ◌∷◌, ◌++◌, length, take, drop, slice_get, Option, Some, None, IfSome, Contains, true, false}
 use Rattle.std.specs.List.{AllByRecursion}
 use Rattle.ion_values.specs.declared.time.TimeParts.{TimeParts}
 use Rattle.ql_types.specs.Ids.{raw_id, transaction_in}
@@ -36,6 +36,11 @@ abbrev pub made : RunRecord → List Block
 made t = drop (length t.before) t.after
 
 -- ---- the blocks
+
+-- the mask is what the first block's strand shows, or this one where there is no block
+abbrev pub mask_of : ℕ → List Block → ℕ
+mask_of given [] = given
+mask_of given (b ∷ bs) = b.header.address.strand.raw
 
 -- each block is as late as the one before it, or has this time where that is later
 abbrev pub HaveTimes : TimeParts → List Block → List Block → Type 0
@@ -88,6 +93,7 @@ pub record HasNumber (t : RunRecord) (tx : TxId) (number : ℕ) : Type 0 where
   pub id : tx.raw ≡ raw_id t.mask number 0
   pub above : greatest t.mask t.before < number
   pub within : number ≤ greatest t.mask t.before + attempts t.jobs
+  pub counted : number < 2 ^ 64
 
 -- the ids of the transactions that the outcomes tell, in order
 abbrev pub told_id : Outcome → List ℕ
@@ -114,19 +120,37 @@ abbrev pub told_counts : List PlacedOutcome → List ℕ
 told_counts [] = []
 told_counts (o ∷ os) = told_count o.outcome ++ told_counts os
 
+-- the greatest of these counts, or this one
+abbrev pub greatest_count : ℕ → List ℕ → ℕ
+greatest_count least [] = least
+greatest_count least (count ∷ counts) = max count (greatest_count least counts)
+
 -- ---- on which blocks a transaction ran
 
--- the block that an outcome tells stands below
-abbrev pub IsBelow : ℕ → Outcome → Type 0
-IsBelow since (Committed tx block) = block < since
-IsBelow since _ = Unit {0}
+-- how many blocks stood before a transaction, where its outcome tells it: those in front of its own, where it has one
+abbrev pub stood_before : Outcome → Option ℕ
+stood_before (Committed tx block) = Some block
+stood_before (Conflict tx since named) = Some since
+stood_before (Refused tx since statement cause) = Some since
+stood_before (DigestDiffers tx since mine given) = Some since
+stood_before (Aborted tx since) = Some since
+stood_before _ = None
 
--- The transaction ran on the first `since` blocks: those before the run, and each one that a job which runs before this one
--- committed. One after another, all jobs in front of it do.
-pub record IsFresh (t : RunRecord) (done : List PlacedOutcome) (since : ℕ) : Type 0 where
+-- how many stood behind it, its own counted
+abbrev pub stood_behind : Outcome → Option ℕ
+stood_behind (Committed tx block) = Some (block + 1)
+stood_behind other = stood_before other
+
+-- Of two transactions the first one was over when the second one began: it has the smaller number, and the second one ran
+-- on all blocks that stood behind the first one.
+pub record RunsBefore (mask : ℕ) (first second : Outcome) : Type 0 where
+  pub numbers : AllByRecursion (λ m. AllByRecursion (λ n. transaction_in mask m < transaction_in mask n) (told_id second)) (told_id first)
+  pub blocks : IfSome (stood_behind first) (λ m. IfSome (stood_before second) (λ n. m ≤ n))
+
+-- the transaction ran on the first `since` blocks, and those before the run are among them
+pub record IsFresh (t : RunRecord) (since : ℕ) : Type 0 where
   pub from_before : length t.before ≤ since
   pub not_past : since ≤ length t.after
-  pub above : AllByRecursion (λ o. IsBelow since o.outcome) done
 
 -- how the job's statements end on the first `since` blocks
 abbrev pub ran_on : RunRecord → Placed → ℕ → ℕ → Ran
@@ -149,18 +173,18 @@ pub record IsCommitted (t : RunRecord) (p : Placed) (tx : TxId) (block : ℕ) : 
   pub numbered : HasNumber t tx number
 
 -- this statement is refused where the transaction ran
-pub record IsRefused (t : RunRecord) (done : List PlacedOutcome) (p : Placed) (tx : TxId) (since statement : ℕ) (cause : Refusal) : Type 0 where
+pub record IsRefused (t : RunRecord) (p : Placed) (tx : TxId) (since statement : ℕ) (cause : Refusal) : Type 0 where
   pub number : ℕ
   pub numbered : HasNumber t tx number
-  pub fresh : IsFresh t done since
+  pub fresh : IsFresh t since
   pub ends : ran_on t p number since ≡ refused statement cause
   pub blockless : HasNoBlock t p
 
 -- the job says so, and none of its statements is refused
-pub record IsAborted (t : RunRecord) (done : List PlacedOutcome) (p : Placed) (tx : TxId) (since : ℕ) : Type 0 where
+pub record IsAborted (t : RunRecord) (p : Placed) (tx : TxId) (since : ℕ) : Type 0 where
   pub number : ℕ
   pub numbered : HasNumber t tx number
-  pub fresh : IsFresh t done since
+  pub fresh : IsFresh t since
   pub progress : Progress
   pub ends : ran_on t p number since ≡ ran progress
   pub aborts : p.job.abort ≡ true
@@ -184,10 +208,10 @@ pub record IsJournalFull (t : RunRecord) (p : Placed) (tx : TxId) (blocks : ℕ)
   pub told : blocks ≡ 2 ^ 32 - 1
   pub blockless : HasNoBlock t p
 
--- no number is left
-pub record IsSpent (t : RunRecord) (p : Placed) (last : ℕ) : Type 0 where
+-- no number is left: the journal and the jobs in front, of which each one uses at most one number, have used all below 2^64
+pub record IsSpent (t : RunRecord) (done : List PlacedOutcome) (p : Placed) (last : ℕ) : Type 0 where
   pub greatest_last : last ≡ 2 ^ 64 - 1
-  pub reached : 2 ^ 64 ≤ greatest t.mask t.before + attempts t.jobs
+  pub used : 2 ^ 64 - 1 ≤ greatest t.mask t.before + length done
   pub blockless : HasNoBlock t p
 
 -- what an outcome says is true, behind the outcomes of the jobs in front; want of memory may come to any transaction. No
@@ -195,23 +219,30 @@ pub record IsSpent (t : RunRecord) (p : Placed) (last : ℕ) : Type 0 where
 abbrev pub Holds : RunRecord → List PlacedOutcome → Placed → Outcome → Type 0
 Holds t done p (Committed tx block) = IsCommitted t p tx block
 Holds t done p (Conflict tx since named) = ⊥
-Holds t done p (Refused tx since statement cause) = IsRefused t done p tx since statement cause
+Holds t done p (Refused tx since statement cause) = IsRefused t p tx since statement cause
 Holds t done p (DigestDiffers tx since mine given) = ⊥
 Holds t done p (StoreFault tx count) = IsStoreFault t p tx count
 Holds t done p (JournalFull tx blocks) = IsJournalFull t p tx blocks
-Holds t done p (IdsSpent last) = IsSpent t p last
-Holds t done p (Aborted tx since) = IsAborted t done p tx since
+Holds t done p (IdsSpent last) = IsSpent t done p last
+Holds t done p (Aborted tx since) = IsAborted t p tx since
 Holds t done p OutOfMemory = HasNoBlock t p
 
--- an outcome for each job, in order, behind those of the jobs in front
+-- the transactions with these outcomes ran before one with this outcome
+abbrev pub AllBefore : ℕ → List PlacedOutcome → Outcome → Type 0
+AllBefore mask done outcome = AllByRecursion (λ o. RunsBefore mask o.outcome outcome) done
+
+-- An outcome for each job, in order, behind those of the jobs in front. One after another, these all ran before it.
 abbrev pub EachHolds : RunRecord → List PlacedOutcome → List Placed → List PlacedOutcome → Type 0
 EachHolds t done [] [] = Unit {0}
-EachHolds t done (p ∷ ps) (o ∷ os) = (o.place ≡ p.place) × Holds t done p o.outcome × EachHolds t (done ++ o ∷ []) ps os
+EachHolds t done (p ∷ ps) (o ∷ os) =
+    (o.place ≡ p.place) × Holds t done p o.outcome × AllBefore t.mask done o.outcome × EachHolds t (done ++ o ∷ []) ps os
 EachHolds t done [] (o ∷ os) = ⊥
 EachHolds t done (p ∷ ps) [] = ⊥
 
+-- the run's blocks and outcomes fit; no two transactions have one id, and each failure of the store was told by one outcome alone
 pub record Fits (t : RunRecord) : Type 0 where
   pub blocks : FitsBlocks t
   pub outcomes : EachHolds t [] t.jobs t.outcomes
   pub numbers : all_differ (told_ids t.outcomes) ≡ true
   pub counts : all_differ (told_counts t.outcomes) ≡ true
+  pub faults : t.closed ≡ greatest_count t.opened (told_counts t.outcomes)

@@ -13,6 +13,10 @@ use Rattle.ledger_model.specs.declared.script.ScriptKind.TheVariants as script
 abbrev pub words_line : List ℕ
 words_line = codes "{status:1}" ++ 10 ∷ []
 
+-- where memory was wanted
+abbrev pub memory_line : List ℕ
+memory_line = codes "{status:8}" ++ 10 ∷ []
+
 -- ---- why an input is refused, with the status 2
 
 pub data BadInput : Type 0 where

@@ -1,6 +1,6 @@
 -- A run of which some jobs are done and others are to come: what holds of its record between two jobs, so that the claim of
 -- the whole run follows when none is left.
-use Rattle.std.specs.Prelude.{◌≡◌, ℕ, ◌+◌, ◌<◌, ◌≤◌, true, List, [], ◌∷◌, ◌++◌, Option}
+use Rattle.std.specs.Prelude.{◌≡◌, ℕ, ◌+◌, ◌<◌, ◌≤◌, true, List, [], ◌∷◌, ◌++◌, length, Option}
 use Rattle.std.specs.List.{AllByRecursion}
 use Rattle.ql_types.specs.Ids.{raw_id}
 use Rattle.ql_types.specs.declared.Place.{Place}
@@ -8,7 +8,7 @@ use Rattle.ledger_model.specs.declared.block.Block.{Block}
 use Rattle.ledger_model.specs.declared.outcome.Outcome.{Outcome}
 use Rattle.ledger_model.specs.Follows.{all_differ}
 use Rattle.ledger_model.specs.Script.{Placed}
-use Rattle.ledger_claims.specs.Fits.{RunRecord, made, FitsBlocks, EachHolds, greatest, attempts, told_ids, told_counts}
+use Rattle.ledger_claims.specs.Fits.{RunRecord, made, FitsBlocks, EachHolds, greatest, greatest_count, told_ids, told_counts}
 use Rattle.ledger_claims.specs.Attempts.{Standing}
 use Rattle.ledger_claims.specs.Stores.{HoldingWithRest}
 
@@ -58,8 +58,9 @@ pub record SoFar (t : RunRecord) (done rest : List Placed) (last : ℕ) : Type 0
   pub counts : all_differ (told_counts t.outcomes) ≡ true
   pub risen : AllByRecursion (HasRisen t.opened t.closed) (told_counts t.outcomes)
   pub from_opened : t.opened ≤ t.closed
+  pub faults : t.closed ≡ greatest_count t.opened (told_counts t.outcomes)
   pub from_greatest : greatest t.mask t.before ≤ last
-  pub not_past : last ≤ greatest t.mask t.before + attempts done
+  pub not_past : last ≤ greatest t.mask t.before + length t.outcomes
 
 -- the record with one job more: the blocks and the count of failures after it, and its outcome
 abbrev pub extended : RunRecord → List Block → Placed → Outcome → ℕ → RunRecord

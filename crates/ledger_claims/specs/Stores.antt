@@ -1,9 +1,8 @@
 -- What a run finds and leaves in its store, where the store tells it.
-use Rattle.std.specs.Prelude.{◌≡◌, ℕ, ◌⊎◌, true, List, ◌++◌, length, Option, Some, IfSome}
+use Rattle.std.specs.Prelude.{◌≡◌, ℕ, true, List, ◌++◌, length, Option, Some, IfSome}
 use Rattle.ledger_model.specs.declared.block.Block.{Block}
 use Rattle.ledger_model.specs.Journal.{journal_bytes}
 use Rattle.ledger_model.specs.Recovered.{has_no_line_feed, IsJournal}
-use Rattle.ledger_claims.specs.Fits.{RunRecord, FitsBlocks}
 
 -- the store holds the journal of these blocks, which are undamaged, and behind it perhaps a rest that is no whole line
 abbrev pub HasJournal : List Block → Option (List ℕ) → Type 0
@@ -20,7 +19,3 @@ IsSynced held synced = IfSome held (λ bytes. synced ≡ Some (length bytes))
 -- the store holds the journal of these blocks, and behind it perhaps a rest that is no whole line
 abbrev pub HoldingWithRest : List Block → Option (List ℕ) → Type 0
 HoldingWithRest blocks held = IfSome held (λ bytes. (rest : List ℕ) × (bytes ≡ journal_bytes blocks ++ rest) × (has_no_line_feed rest ≡ true))
-
--- The store is as at entry, or it holds the journal of blocks that fit, and perhaps a rest.
-abbrev pub IsLeft : RunRecord → Option (List ℕ) → Option (List ℕ) → Type 0
-IsLeft t before after = (after ≡ before) ⊎ (FitsBlocks t × HoldingWithRest t.after after)

@@ -24,6 +24,10 @@ pub record WasRead (before after : Option (List ℕ)) (input : List ℕ) : Type 
 abbrev pub AppendsPart : Option (List ℕ) → Option (List ℕ) → List ℕ → Type 0
 AppendsPart before after text = (n : ℕ) × Appends before after (take n text)
 
+-- a front part of the text was written, and not all of it
+abbrev pub BreaksOff : Option (List ℕ) → Option (List ℕ) → List ℕ → Type 0
+BreaksOff before after text = (n : ℕ) × (n < length text) × Appends before after (take n text)
+
 -- the whole text was written, or where the sink failed a front part of it
 abbrev pub WritesLine : Option (List ℕ) → Option (List ℕ) → ℕ → ℕ → List ℕ → Type 0
 WritesLine before after faults_before faults_after text =

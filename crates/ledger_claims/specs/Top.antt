@@ -1,5 +1,5 @@
 -- What the program does with its words, its input, its output and its store, by the status with which it ends.
-use Rattle.std.specs.Prelude.{◌≡◌, ℕ, ◌⊎◌, List, String, Option, IfSome}
+use Rattle.std.specs.Prelude.{◌≡◌, ℕ, ◌⊎◌, List, codes, String, Option, IfSome}
 use Rattle.std.specs.declared.alloc.Global.{Global}
 use Rattle.std.specs.Io.KnownBytes.{Appends}
 use Rattle.ion_values.specs.declared.time.TimeParts.{TimeParts}
@@ -9,12 +9,11 @@ use Rattle.ledger_model.specs.Script.{all_placed}
 use Rattle.ledger_model.specs.Recovered.{IsDamaged}
 use Rattle.ledger_model.specs.Unbuilt.{Judged, too_long, faulty, misspelt, unbuilt, served, judged}
 use Rattle.ledger_model.specs.Report.{report}
-use Rattle.ledger_claims.specs.Fits.{RunRecord, Fits, FitsBlocks}
-use Rattle.ledger_claims.specs.Attempts.{mask_of}
+use Rattle.ledger_claims.specs.Fits.{RunRecord, Fits, FitsBlocks, mask_of}
 use Rattle.ledger_claims.specs.Words.{IsRun}
-use Rattle.ledger_claims.specs.Lines.{BadInput, input_line, damaged_line}
+use Rattle.ledger_claims.specs.Lines.{BadInput, input_line, damaged_line, faults_line, memory_line}
 use Rattle.ledger_claims.specs.Lines as bad
-use Rattle.ledger_claims.specs.Streams.{Taken, WasRead, AppendsPart, WritesLine}
+use Rattle.ledger_claims.specs.Streams.{Taken, WasRead, AppendsPart, BreaksOff, WritesLine}
 use Rattle.ledger_claims.specs.Stores.{HasJournal, Holding, IsSynced, HoldingWithRest}
 
 -- ---- what the source, the sink and the store told at entry and at the end
@@ -86,6 +85,13 @@ pub record IsReportOf (time : TimeParts) (script : List (List Job)) (s : Stored)
   pub done : IsDone time script s told
   pub text_is : text ≡ report told.after told.outcomes
 
+-- the words ask for a run, the whole input was read, and it is a script that is served
+pub record ServesScript (words : List (String Global)) (left_before left_after : Option (List ℕ)) : Type 0 where
+  pub time : TimeParts
+  pub asked : IsRun words time
+  pub script : List (List Job)
+  pub has : HasScript left_before left_after script
+
 -- The words ask for a run with a time, the whole input was read, it is a script that is served, and this is the report of
 -- its run.
 pub record HasReport (words : List (String Global)) (left_before left_after : Option (List ℕ)) (s : Stored) (text : List ℕ) : Type 0 where
@@ -154,9 +160,38 @@ pub record IsDamagedAt (left_before left_after : Option (List ℕ)) (held : Opti
   pub has : HasScript left_before left_after script
   pub damaged : IfSome held (λ bytes. IsDamaged bytes sequence kind)
 
+-- what the store held and had synced is as before, and it didn't fail
+pub record IsOnlyRead (s : Stored) : Type 0 where
+  pub bytes : s.held_after ≡ s.held_before
+  pub synced : s.synced_after ≡ s.synced_before
+  pub faults : s.faults_after ≡ s.faults_before
+
 -- and the line that says so was written
 pub record RefusesJournal (io : Streams) (held : Option (List ℕ)) (sink_before sink_after : ℕ) : Type 0 where
   pub sequence : ℕ
   pub kind : Damage
   pub why : IsDamagedAt io.left_before io.left_after held sequence kind
   pub line : WritesLine io.written_before io.written_after sink_before sink_after (damaged_line sequence kind)
+
+-- ---- want of memory
+
+-- how often the source and the sink had failed, before and after
+pub record Failures : Type 0 where
+  pub source_before : ℕ
+  pub source_after : ℕ
+  pub sink_before : ℕ
+  pub sink_after : ℕ
+
+abbrev pub failures : ℕ → ℕ → ℕ → ℕ → Failures
+failures source_before source_after sink_before sink_after = record {
+  source_before = source_before;
+  source_after = source_after;
+  sink_before = sink_before;
+  sink_after = sink_after;
+}
+
+-- Want of memory hides no failure: the source failed only where the line that says so was begun, whose rest the sink had no
+-- memory for, and the sink failed only at the line that says that memory was wanted.
+pub record HidesNone (io : Streams) (f : Failures) : Type 0 where
+  pub source : (f.source_after ≡ f.source_before) ⊎ BreaksOff io.written_before io.written_after (faults_line (codes "4") f.source_after)
+  pub sink : (f.sink_after ≡ f.sink_before) ⊎ AppendsPart io.written_before io.written_after memory_line

@@ -1,15 +1,14 @@
 -- The run on a journal that was loaded, from its report to what is told of the whole.
-use Rattle.std.proofs.Common.{◌≡◌, ℕ, ◌≤◌, Bool, List, [], refl, sym, subst, arith, Option, Result, Ok, Err, ◌⊎◌, inr}
+use Rattle.std.proofs.Common.{◌≡◌, ℕ, Bool, List, [], refl, sym, subst, arith, Option, Result, Ok, Err, ◌⊎◌, inr}
 use Rattle.std.specs.Prelude.{IfOk, IfErr, OnOk, OnErr}
 use Rattle.ion_values.specs.declared.time.TimeParts.{TimeParts}
 use Rattle.ledger_model.specs.declared.script.Job.{Job}
 use Rattle.ledger_model.specs.Script.{all_placed}
-use Rattle.ledger_claims.specs.Fits.{RunRecord, greatest}
-use Rattle.ledger_claims.specs.Attempts.{IsStanding, mask_of}
+use Rattle.ledger_claims.specs.Fits.{RunRecord, greatest, mask_of}
+use Rattle.ledger_claims.specs.Attempts.{IsStanding}
 use Rattle.ledger_claims.specs.SoFar.{LeavesRun}
 use Rattle.ledger_claims.specs.Stores.{IsSynced}
 use Rattle.ledger_claims.specs.Top.{Stored, IsReportOf, HoldsRun}
-use Rattle.ledger_core.specs.Faults.{IsSettleFault}
 use Rattle.ledger_core.specs.Loads.{IsLoaded, IsCause}
 use Rattle.ledger_core.specs.declared.keeping.SettleFault.{SettleFault}
 use Rattle.ledger_core.specs.declared.keeping.SettleFault.TheVariants as settle
@@ -17,7 +16,7 @@ use Rattle.ledger_core.specs.declared.reload.LoadCause.{LoadCause}
 use Rattle.ledger_core.specs.declared.reload.LoadCause.TheVariants as load
 use Rattle.ledger_cli.specs.declared.run.RunFault.{RunFault}
 use Rattle.ledger_cli.specs.declared.run.RunFault.TheVariants as fault
-use Rattle.ledger_cli.specs.Runs.{Come, IsRunning, IsKept, IsReported, IsSettled, IsRunFault, cause_of, told}
+use Rattle.ledger_cli.specs.Runs.{Come, IsRunning, IsKept, IsReported, IsSettled, IsStop, IsRunFault, cause_of, told}
 use Rattle.ledger_cli.proofs.Running.{kept_begun, loaded, loaded_begun, loaded_reported, loaded_left}
 
 -- ---- what a report stands for
@@ -37,19 +36,19 @@ told_left Q (Ok text) h = tt
 told_left Q (Err (settle.StoreFault count)) h = h
 told_left Q (Err settle.OutOfMemory) h = h
 
-pub told_fault : (before after : ℕ) (last_failed : Bool) (r : Result (List ℕ) SettleFault) → IfErr r (λ why. IsSettleFault why before after last_failed)
+pub told_fault : (before after : ℕ) (last_failed : Bool) (r : Result (List ℕ) SettleFault) → IfErr r (λ why. IsStop why before after last_failed)
     → IfErr (told r) (λ why. IsSettled why before after last_failed)
 told_fault before after last_failed (Ok text) h = tt
-told_fault before after last_failed (Err (settle.StoreFault count)) h = (omega (arith, h.0, h.1), h.2)
+told_fault before after last_failed (Err (settle.StoreFault count)) h = h
 told_fault before after last_failed (Err settle.OutOfMemory) h = tt
 
 -- ---- a journal that was not loaded
 
-unloaded_cause : (cause : LoadCause) (held kept : Option (List ℕ)) (before after : ℕ) (last_failed : Bool) → kept ≡ held → IsCause cause held before after last_failed
-    → IsRunFault (cause_of cause) held kept before after last_failed
-unloaded_cause (load.Damaged sequence kind) held kept before after last_failed same h = (h, same)
-unloaded_cause (load.StoreFault count) held kept before after last_failed same h = (omega (arith, h.0, h.1), h.2)
-unloaded_cause load.OutOfMemory held kept before after last_failed same h = tt
+unloaded_cause : (cause : LoadCause) (s : Stored) (last_failed : Bool) → s.held_after ≡ s.held_before → s.synced_after ≡ s.synced_before
+    → IsCause cause s.held_before s.faults_before s.faults_after last_failed → IsRunFault (cause_of cause) s last_failed
+unloaded_cause (load.Damaged sequence kind) s last_failed bytes synced h = (h.0, record { bytes = bytes; synced = synced; faults = h.1 })
+unloaded_cause (load.StoreFault count) s last_failed bytes synced h = (omega (arith, h.0, h.1), h.2)
+unloaded_cause load.OutOfMemory s last_failed bytes synced h = tt
 
 pub unloaded_done : (P : List ℕ → Type 0) (r : Result (List ℕ) RunFault) (why : RunFault) → r ≡ Err why → IfOk r P
 unloaded_done P r why is = subst (λ (x : Result (List ℕ) RunFault). IfOk x P) (sym is) tt
@@ -57,19 +56,20 @@ unloaded_done P r why is = subst (λ (x : Result (List ℕ) RunFault). IfOk x P)
 pub unloaded_left : (Q : Type 0) (r : Result (List ℕ) RunFault) (why : RunFault) → r ≡ Err why → Q → OnErr r Q
 unloaded_left Q r why is h = subst (λ (x : Result (List ℕ) RunFault). OnErr x Q) (sym is) h
 
-pub unloaded_fault : (r : Result (List ℕ) RunFault) (cause : LoadCause) (held kept : Option (List ℕ)) (before after : ℕ) (last_failed : Bool) → r ≡ Err (cause_of cause)
-    → kept ≡ held → IsCause cause held before after last_failed → IfErr r (λ why. IsRunFault why held kept before after last_failed)
-unloaded_fault r cause held kept before after last_failed is same h =
-    subst (λ (x : Result (List ℕ) RunFault). IfErr x (λ why. IsRunFault why held kept before after last_failed)) (sym is)
-    (unloaded_cause cause held kept before after last_failed same h)
+pub unloaded_fault : (r : Result (List ℕ) RunFault) (cause : LoadCause) (s : Stored) (last_failed : Bool) → r ≡ Err (cause_of cause)
+    → s.held_after ≡ s.held_before → s.synced_after ≡ s.synced_before → IsCause cause s.held_before s.faults_before s.faults_after last_failed
+    → IfErr r (λ why. IsRunFault why s last_failed)
+unloaded_fault r cause s last_failed is bytes synced h =
+    subst (λ (x : Result (List ℕ) RunFault). IfErr x (λ why. IsRunFault why s last_failed)) (sym is)
+    (unloaded_cause cause s last_failed bytes synced h)
 
 -- ---- a journal that was loaded
 
-settled_run : (why : RunFault) (held kept : Option (List ℕ)) (before opened after : ℕ) (last_failed : Bool) → before ≤ opened → IsSettled why opened after last_failed
-    → IsRunFault why held kept before after last_failed
-settled_run (fault.Damaged sequence kind) held kept before opened after last_failed later h = absurd h
-settled_run fault.StoreFailed held kept before opened after last_failed later h = (omega (arith, later, h.0), h.1)
-settled_run fault.OutOfMemory held kept before opened after last_failed later h = tt
+settled_run : (why : RunFault) (s : Stored) (opened : ℕ) (last_failed : Bool) → opened ≡ s.faults_before → IsSettled why opened s.faults_after last_failed
+    → IsRunFault why s last_failed
+settled_run (fault.Damaged sequence kind) s opened last_failed same h = absurd h
+settled_run fault.StoreFailed s opened last_failed same h = (omega (arith, same, h.0), h.1)
+settled_run fault.OutOfMemory s opened last_failed same h = tt
 
 -- what was loaded
 pub record HasLoaded (s : Stored) (c : Come) : Type 0 where
@@ -77,7 +77,7 @@ pub record HasLoaded (s : Stored) (c : Come) : Type 0 where
   pub sound : IsStanding c.stands
   pub mask : c.stands.mask ≡ mask_of 0 c.stands.blocks
   pub last : c.stands.last ≡ greatest c.stands.mask c.stands.blocks
-  pub store : (c.held ≡ s.held_before) × (c.synced ≡ s.synced_before) × (s.faults_before ≤ c.faults)
+  pub store : (c.held ≡ s.held_before) × (c.synced ≡ s.synced_before) × (c.faults ≡ s.faults_before)
   pub none : c.outcomes ≡ []
 
 module _ (time : TimeParts) (script : List (List Job)) (s : Stored) (c : Come) (has : HasLoaded s c) where
@@ -107,7 +107,7 @@ module _ (time : TimeParts) (script : List (List Job)) (s : Stored) (c : Come) (
   loaded_stopped (Err why) left = inr (loaded_left time script s c.stands c.marked has.journal has.mask (left t begun))
 
   pub loaded_fault : (last_failed : Bool) (r : Result (List ℕ) RunFault) → IfErr r (λ why. IsSettled why c.faults s.faults_after last_failed)
-      → IfErr r (λ why. IsRunFault why s.held_before s.held_after s.faults_before s.faults_after last_failed)
+      → IfErr r (λ why. IsRunFault why s last_failed)
   loaded_fault last_failed (Ok text) h = tt
   loaded_fault last_failed (Err why) h =
-      settled_run why s.held_before s.held_after s.faults_before c.faults s.faults_after last_failed has.store.2 h
+      settled_run why s c.faults last_failed has.store.2 h

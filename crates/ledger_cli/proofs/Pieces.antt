@@ -1,9 +1,13 @@
 -- What was written so far, and the part of the rest that a call took.
-use Rattle.std.proofs.Common.{◌≡◌, ℕ, ◌+◌, ◌-◌, List, ◌++◌, length, take, drop, subst, arith, Option, ◌≤◌}
+use Rattle.std.proofs.Common.{◌≡◌, ℕ, ◌+◌, ◌-◌, ◌<◌, ◌≤◌, List, [], ◌∷◌, ◌++◌, length, length-append, take, drop, sym, subst, ◌∙◌, arith, append_assoc, Option}
 use Rattle.std.proofs.lemmas.Grind.{common_steps}
-use Rattle.std.proofs.Math.Seq.{take-add}
+use Rattle.std.proofs.lemmas.List.{take-append-le}
+use Rattle.std.proofs.Math.Seq.{take-add, take-append-add}
 use Rattle.std.specs.Io.KnownBytes.{Appends}
 use Rattle.std.proofs.KnownBytes.{Appends-trans}
+use Rattle.ledger_claims.specs.Streams.{BreaksOff}
+use Rattle.ledger_cli.specs.Ends.{count_line}
+use Rattle.std.specs.Fmt.{decimal}
 
 taken : (p : List ℕ) (at n : ℕ) → take at p ++ take n (take (length p - at) (drop at p)) ≡ take (at + n) p
 taken p at n = grind (arith, common_steps, take-add)
@@ -14,3 +18,37 @@ appended a b c p at n before now = subst (λ (bs : List ℕ). Appends a c bs) (t
 
 pub length-taken : (p : List ℕ) (n : ℕ) → length (take n p) ≤ n
 length-taken p n = grind (arith, common_steps)
+
+-- a piece that broke off behind another one is a text that broke off
+pub breaks_behind : (a b c : Option (List ℕ)) (p q : List ℕ) → Appends a b p → BreaksOff b c q → BreaksOff a c (p ++ q)
+breaks_behind a b c p q before off = (
+  length p + off.0,
+  omega (arith, length-append p q, off.1),
+  subst (λ (bs : List ℕ). Appends a c bs) (sym (take-append-add p q off.0)) (Appends-trans a b c p (take off.0 q) before off.2),
+)
+
+-- a piece in front of another one, too
+pub breaks_before : (a b : Option (List ℕ)) (p q : List ℕ) → BreaksOff a b p → BreaksOff a b (p ++ q)
+breaks_before a b p q off = (
+  off.0,
+  omega (arith, length-append p q, off.1),
+  subst (λ (bs : List ℕ). Appends a b bs) (sym (take-append-le off.0 p q (omega (arith, off.1)))) off.2,
+)
+
+-- a text, a count, and a bracket with a line feed
+line_of : (front : List ℕ) (count : ℕ) → (front ++ decimal count) ++ (125 ∷ 10 ∷ []) ≡ count_line front count
+line_of front count = sym (append_assoc (front ++ decimal count) (125 ∷ []) (10 ∷ []))
+
+module _ (a b c d : Option (List ℕ)) (front begun digits : List ℕ) (count : ℕ) (same : begun ≡ front) (is : digits ≡ decimal count) where
+  line_is : (begun ++ digits) ++ (125 ∷ 10 ∷ []) ≡ count_line front count
+  line_is = (λ i. (same i ++ is i) ++ (125 ∷ 10 ∷ [])) ∙ line_of front count
+
+  pub count_broken_second : Appends a b begun → BreaksOff b c digits → BreaksOff a c (count_line front count)
+  count_broken_second one off =
+      subst (λ (x : List ℕ). BreaksOff a c x) line_is
+      (breaks_before a c (begun ++ digits) (125 ∷ 10 ∷ []) (breaks_behind a b c begun digits one off))
+
+  pub count_broken_last : Appends a b begun → Appends b c digits → BreaksOff c d (125 ∷ 10 ∷ []) → BreaksOff a d (count_line front count)
+  count_broken_last one two off =
+      subst (λ (x : List ℕ). BreaksOff a d x) line_is
+      (breaks_behind a c d (begun ++ digits) (125 ∷ 10 ∷ []) (Appends-trans a b c begun digits one two) off)

@@ -15,13 +15,12 @@ use Rattle.ledger_model.specs.declared.script.Job.{Job}
 use Rattle.ledger_model.specs.Journal.{line, journal_bytes}
 use Rattle.ledger_model.specs.Recovered.{has_no_line_feed}
 use Rattle.ledger_model.specs.Script.{Placed, placed_from, all_placed, all_placed_from}
-use Rattle.ledger_claims.specs.Fits.{RunRecord, Fits, greatest}
-use Rattle.ledger_claims.specs.Attempts.{Standing, IsStanding, Attempted, HoldsBehind, LeavesPart, LeavesStore, mask_of}
+use Rattle.ledger_claims.specs.Fits.{RunRecord, Fits, greatest, mask_of}
+use Rattle.ledger_claims.specs.Attempts.{Standing, IsStanding, Attempted, TellsFaults, HoldsBehind, LeavesPart, LeavesStore}
 use Rattle.ledger_claims.specs.SoFar.{InOrder, SoFar, LeavesRun, standing, extended}
 use Rattle.ledger_claims.specs.Stores.{HasJournal, Holding, HoldingWithRest, IsSynced}
 use Rattle.ledger_claims.specs.Top.{Stored, IsReportOf, HoldsRun}
 use Rattle.ledger_claims.proofs.BlocksFit.{FitsBlocks-same}
-use Rattle.ledger_claims.proofs.Growing.{IsNotOf, EachHolds-on}
 use Rattle.ledger_claims.proofs.Left.{journal-HoldingWithRest, all-HoldingWithRest, LeavesRun-here, LeavesRun-on, HoldsRun-left}
 use Rattle.ledger_claims.proofs.Places.{InOrder-all_placed}
 use Rattle.ledger_claims.proofs.Runs.{starts, goes_on, ends}
@@ -30,7 +29,7 @@ use Rattle.ledger_core.specs.Loads.{IsLoaded}
 use Rattle.ledger_core.specs.Tails.{AllSynced, MayBeCut, TellsSynced}
 use Rattle.ledger_core.specs.declared.keeping.SettleFault.{SettleFault}
 use Rattle.ledger_core.specs.declared.keeping.SettleFault.TheVariants as settle
-use Rattle.ledger_cli.specs.Runs.{Come, IsRunning, IsStopped, IsKept, IsReported, BeginsWith, record_of}
+use Rattle.ledger_cli.specs.Runs.{Come, IsRunning, IsStopped, IsKept, IsReported, IsStop, BeginsWith, record_of}
 
 -- ---- the bytes begin with the journal's lines
 
@@ -50,16 +49,16 @@ module _ (s : Standing) (time : TimeParts) (p : Placed) (now : Standing) (held k
   begins_part same (inl stays) = begins_same same stays
   begins_part same (inr part) = subst (λ (x : List Block). BeginsWith x kept) (sym same) (begins_here s.blocks (take part.kept (line part.stopped)) kept part.holds)
 
-  begins_on : (before after : ℕ) (o : Outcome) → Attempted s time p before o now after → LeavesStore s time p o now held kept → BeginsWith now.blocks kept
-  begins_on before after (Committed tx block) h leaves = begins_here now.blocks [] kept leaves
-  begins_on before after (Conflict tx since named) h leaves = absurd h
-  begins_on before after (Refused tx since statement cause) h leaves = begins_same h.1.blocks leaves
-  begins_on before after (DigestDiffers tx since mine given) h leaves = absurd h
-  begins_on before after (StoreFault tx count) h leaves = begins_part h.1.blocks leaves
-  begins_on before after (JournalFull tx blocks) h leaves = begins_same h.1.blocks leaves
-  begins_on before after (IdsSpent last) h leaves = begins_same (ap (λ (x : Standing). x.blocks) h.0) leaves
-  begins_on before after (Aborted tx since) h leaves = begins_same h.1.blocks leaves
-  begins_on before after OutOfMemory h leaves = begins_part h.blocks leaves
+  begins_on : (o : Outcome) → Attempted s time p o now → LeavesStore s time p o now held kept → BeginsWith now.blocks kept
+  begins_on (Committed tx block) h leaves = begins_here now.blocks [] kept leaves
+  begins_on (Conflict tx since named) h leaves = absurd h
+  begins_on (Refused tx since statement cause) h leaves = begins_same h.1.blocks leaves
+  begins_on (DigestDiffers tx since mine given) h leaves = absurd h
+  begins_on (StoreFault tx count) h leaves = begins_part h.1.blocks leaves
+  begins_on (JournalFull tx blocks) h leaves = begins_same h.1.blocks leaves
+  begins_on (IdsSpent last) h leaves = begins_same (ap (λ (x : Standing). x.blocks) h.0) leaves
+  begins_on (Aborted tx since) h leaves = begins_same h.1.blocks leaves
+  begins_on OutOfMemory h leaves = begins_part h.0.blocks leaves
 
 -- ---- from one transaction to the next
 
@@ -68,7 +67,7 @@ told p o = record { place = p.place; outcome = o }
 
 module _ (t : RunRecord) (time : TimeParts) (p : Placed) (rest : List Placed) (c d : Come) (o : Outcome)
     (law : (v : Value) → has_no_line_feed (value_text v) ≡ true)
-    (attempted : Attempted c.stands time p c.faults o d.stands d.faults) (leaves : LeavesStore c.stands time p o d.stands c.held d.held)
+    (attempted : Attempted c.stands time p o d.stands) (faults : TellsFaults c.faults o d.faults) (leaves : LeavesStore c.stands time p o d.stands c.held d.held)
     (later : c.faults ≤ d.faults) (outcomes : d.outcomes ≡ c.outcomes ++ told p o ∷ []) (runs : IsRunning t time (p ∷ rest) c) where
   abbrev u : RunRecord
   u = record_of t c
@@ -76,10 +75,10 @@ module _ (t : RunRecord) (time : TimeParts) (p : Placed) (rest : List Placed) (c
   abbrev v : RunRecord
   v = extended u d.stands.blocks p o d.faults
 
-  as_told : Attempted (standing u c.stands.last) t.time p c.faults o d.stands d.faults
+  as_told : Attempted (standing u c.stands.last) t.time p o d.stands
   as_told =
-      subst (λ (x : TimeParts). Attempted (standing u c.stands.last) x p c.faults o d.stands d.faults) (sym runs.timed)
-      (subst (λ (x : Standing). Attempted x time p c.faults o d.stands d.faults) runs.stands_so attempted)
+      subst (λ (x : TimeParts). Attempted (standing u c.stands.last) x p o d.stands) (sym runs.timed)
+      (subst (λ (x : Standing). Attempted x time p o d.stands) runs.stands_so attempted)
 
   as_left : LeavesStore (standing u c.stands.last) t.time p o d.stands c.held d.held
   as_left =
@@ -92,7 +91,7 @@ module _ (t : RunRecord) (time : TimeParts) (p : Placed) (rest : List Placed) (c
   one_further : SoFar v (runs.done ++ p ∷ []) rest d.stands.last × IsStanding d.stands × (d.stands ≡ standing v d.stands.last)
   one_further =
       goes_on u runs.done p rest c.stands.last o d.stands d.faults runs.so_far
-      (subst (λ (x : Standing). IsStanding x) runs.stands_so runs.sound) later as_told
+      (subst (λ (x : Standing). IsStanding x) runs.stands_so runs.sound) later as_told faults
 
   pub runs_on : IsRunning t time rest d
   runs_on = record {
@@ -103,7 +102,7 @@ module _ (t : RunRecord) (time : TimeParts) (p : Placed) (rest : List Placed) (c
     sound = one_further.1;
     left = subst (λ (x : RunRecord). LeavesRun x d.faults d.held) same_record
         (LeavesRun-on u runs.done p rest c.stands.last o d.stands d.faults c.faults d.faults c.held d.held law runs.so_far as_told as_left runs.left);
-    begins = begins_on c.stands time p d.stands c.held d.held runs.begins c.faults d.faults o attempted leaves;
+    begins = begins_on c.stands time p d.stands c.held d.held runs.begins o attempted leaves;
   }
 
 -- ---- the jobs of a session, and the sessions
@@ -160,7 +159,7 @@ all_at P (x ∷ xs) (suc k) d h within = all_at P xs k d h.1 (omega (arith, with
 
 -- no job is done
 pub runs_begun : (t : RunRecord) (time : TimeParts) (script : List (List Job)) (c : Come) → t.before ≡ c.stands.blocks → t.mask ≡ c.stands.mask → t.time ≡ time
-    → t.jobs ≡ all_placed script → t.opened ≤ c.faults → c.outcomes ≡ [] → IsStanding c.stands → c.stands.last ≡ greatest c.stands.mask c.stands.blocks
+    → t.jobs ≡ all_placed script → c.faults ≡ t.opened → c.outcomes ≡ [] → IsStanding c.stands → c.stands.last ≡ greatest c.stands.mask c.stands.blocks
     → HasJournal c.stands.blocks c.held → IsRunning t time (all_placed script) c
 runs_begun t time script c before masks times jobs opens none sound last has =
     let u : RunRecord = record_of t c in
@@ -179,29 +178,13 @@ runs_begun t time script c before masks times jobs opens none sound last has =
 
 -- ---- the end
 
--- of no blocks none is a job's
-none_of : (qs : List Placed) → AllByRecursion (λ q. AllByRecursion (IsNotOf q) []) qs
-none_of [] = tt
-none_of (q ∷ qs) = (tt, none_of qs)
-
--- that the store fails more often changes nothing
-Fits-later : (t : RunRecord) (closed : ℕ) → t.closed ≤ closed → Fits t → Fits (record t { closed = closed })
-Fits-later t closed later fits = record {
-  blocks = FitsBlocks-same t t.outcomes closed fits.blocks;
-  outcomes =
-      EachHolds-on t t.after [] t.outcomes closed
-      (record { begins = fits.blocks.begins; behind = sym (append-nil t.after); later = later; room = λ _. refl })
-      [] t.jobs t.outcomes (none_of t.jobs) fits.outcomes;
-  numbers = fits.numbers;
-  counts = fits.counts;
-}
-
 -- the whole run was told
-pub runs_ended : (t : RunRecord) (time : TimeParts) (c : Come) (now : Standing) (closed : ℕ) → IsRunning t time [] c → now ≡ c.stands → c.faults ≤ closed
+pub runs_ended : (t : RunRecord) (time : TimeParts) (c : Come) (now : Standing) (closed : ℕ) → IsRunning t time [] c → now ≡ c.stands → closed ≡ c.faults
     → Fits (record t { after = now.blocks; outcomes = c.outcomes; closed = closed })
-runs_ended t time c now closed runs same later =
+runs_ended t time c now closed runs same fine =
     subst (λ (x : Standing). Fits (record t { after = x.blocks; outcomes = c.outcomes; closed = closed })) (sym same)
-    (Fits-later (record_of t c) closed later (ends (record_of t c) runs.done c.stands.last runs.so_far))
+    (subst (λ (n : ℕ). Fits (record t { after = c.stands.blocks; outcomes = c.outcomes; closed = n })) (sym fine)
+    (ends (record_of t c) runs.done c.stands.last runs.so_far))
 
 -- what a run leaves that stopped
 pub stopped_leaves : (t : RunRecord) (time : TimeParts) (rest : List Placed) (c : Come) → IsRunning t time rest c → LeavesRun t c.faults c.held
@@ -284,8 +267,8 @@ runs_same t time script given c d same come runs =
 
 -- a failure after a later time is one after an earlier time
 pub fault_later : (why : SettleFault) (before between after : ℕ) (last_failed : Bool) → before ≤ between → IsSettleFault why between after last_failed
-    → IsSettleFault why before after last_failed
-fault_later (settle.StoreFault count) before between after last_failed later h = (omega (arith, later, h.0), h.1, h.2)
+    → IsStop why before after last_failed
+fault_later (settle.StoreFault count) before between after last_failed later h = (omega (arith, later, h.0, h.1), h.2)
 fault_later settle.OutOfMemory before between after last_failed later h = tt
 
 -- ---- the whole run
@@ -313,7 +296,7 @@ module _ (time : TimeParts) (script : List (List Job)) (s : Stored) (found : Sta
   t = loaded time script s.faults_before found
 
   -- the run begins
-  pub loaded_begun : (c : Come) → c.stands ≡ found → c.outcomes ≡ [] → s.faults_before ≤ c.faults → c.held ≡ s.held_before → IsStanding found
+  pub loaded_begun : (c : Come) → c.stands ≡ found → c.outcomes ≡ [] → c.faults ≡ s.faults_before → c.held ≡ s.held_before → IsStanding found
       → found.last ≡ greatest found.mask found.blocks → IsRunning t time (all_placed script) c
   loaded_begun c same none opens held sound last =
       runs_begun t time script c (ap (λ (x : Standing). x.blocks) (sym same)) (ap (λ (x : Standing). x.mask) (sym same)) refl refl opens none

@@ -11,6 +11,7 @@ use Rattle.ledger_claims.specs.Attempts.{Standing, IsStanding}
 use Rattle.ledger_claims.specs.Fits.{RunRecord, Fits}
 use Rattle.ledger_claims.specs.SoFar.{SoFar, LeavesRun, standing}
 use Rattle.ledger_claims.specs.Stores.{Holding, IsSynced}
+use Rattle.ledger_claims.specs.Top.{Stored, IsOnlyRead}
 use Rattle.ledger_core.specs.Tails.{TellsSynced}
 use Rattle.ledger_core.specs.declared.keeping.SettleFault.{SettleFault}
 use Rattle.ledger_core.specs.declared.keeping.SettleFault.TheVariants as settle
@@ -89,16 +90,19 @@ told (Ok text) = Ok text
 told (Err (settle.StoreFault count)) = Err fault.StoreFailed
 told (Err settle.OutOfMemory) = Err fault.OutOfMemory
 
--- the store failed in its last call; want of memory says nothing, and no line is damaged
+-- the store failed in its last call; want of memory may come behind transactions that the store failed at, and no line is damaged
 abbrev pub IsSettled : RunFault → ℕ → ℕ → Bool → Type 0
 IsSettled (fault.Damaged sequence kind) before after last_failed = ⊥
 IsSettled fault.StoreFailed before after last_failed = (before < after) × (last_failed ≡ true)
 IsSettled fault.OutOfMemory before after last_failed = Unit {0}
 
--- The store's journal is damaged there, and it was left as it was; or the store failed in its last call. Want of memory says
--- nothing.
-abbrev pub IsRunFault : RunFault → Option (List ℕ) → Option (List ℕ) → ℕ → ℕ → Bool → Type 0
-IsRunFault (fault.Damaged sequence kind) before after faults_before faults_after last_failed =
-    IfSome before (λ bytes. IsDamaged bytes sequence kind) × (after ≡ before)
-IsRunFault fault.StoreFailed before after faults_before faults_after last_failed = (faults_before < faults_after) × (last_failed ≡ true)
-IsRunFault fault.OutOfMemory before after faults_before faults_after last_failed = Unit {0}
+-- the same of what stopped the run
+abbrev pub IsStop : SettleFault → ℕ → ℕ → Bool → Type 0
+IsStop (settle.StoreFault count) before after last_failed = (before < after) × (last_failed ≡ true)
+IsStop settle.OutOfMemory before after last_failed = Unit {0}
+
+-- The store's journal is damaged there, and it was only read; or the store failed in its last call. Want of memory says nothing.
+abbrev pub IsRunFault : RunFault → Stored → Bool → Type 0
+IsRunFault (fault.Damaged sequence kind) s last_failed = IfSome s.held_before (λ bytes. IsDamaged bytes sequence kind) × IsOnlyRead s
+IsRunFault fault.StoreFailed s last_failed = (s.faults_before < s.faults_after) × (last_failed ≡ true)
+IsRunFault fault.OutOfMemory s last_failed = Unit {0}

@@ -1,6 +1,7 @@
 //! Reading the input to its end.
 ghost use Rattle.std.specs.Prelude.{◌<◌, ◌≤◌, ℕ, List, length, IfOk, IsErrOf};
 ghost use Rattle.ledger_claims.specs.Streams.{Taken, TakesFew, WasRead};
+ghost use Rattle.ledger_cli.specs.Inputs.{CountsReads};
 
 use outside::{OutFault, Source};
 use std::alloc::Global;
@@ -24,7 +25,7 @@ pub fn read_all<So: Source>(alloc: Global, source: &mut So) -> Result<Vec<u8>, I
     ensures read { IfOk result (λ all. WasRead (So.left source.old) (So.left source.new) all.items) }
     ensures short { IfOk result (λ all. length all.items ≤ 16777216) }
     ensures few { TakesFew (So.left source.old) (So.left source.new) }
-    ensures failed { IsErrOf result InputFault.Failed → So.fault_count source.old < So.fault_count source.new }
+    ensures count { CountsReads result (So.fault_count source.old) (So.fault_count source.new) }
     ensures too_long { IsErrOf result InputFault.TooLong → (input : List ℕ) × Taken (So.left source.old) (So.left source.new) input × (16777216 < length input) }
 {
     let mut all = Vec::new(alloc);

@@ -1,6 +1,6 @@
 //! The lines that are written in place of a report.
 ghost use Rattle.std.specs.Prelude.{◌≡◌, ◌++◌, IfOk, OnOk};
-ghost use Rattle.ledger_claims.specs.Lines.{damage_name, damaged_line, fault_text, faults_line, faulty, input_line, kind_name, script_fault_text, script_kind_name};
+ghost use Rattle.ledger_claims.specs.Lines.{damage_name, damaged_line, fault_text, faulty, input_line, kind_name, script_fault_text, script_kind_name};
 ghost use Rattle.ledger_cli.specs.Judgements.{cause_of};
 
 use ion_values::{IonFault, IonKind, OutOfMemory, Text};
@@ -133,18 +133,4 @@ fn damage_name(kind: Damage) -> &'static str
         Damage::WrongHash => "WrongHash",
         Damage::WrongState => "WrongState",
     }
-}
-
-/// The error line of the status of this digit, of a source or a store that has failed so often.
-pub fn faults_line(alloc: Global, digit: &str, faults: u64) -> Result<Text, OutOfMemory>
-    ensures { IfOk result (λ line. line ≡ faults_line digit.now faults) }
-{
-    let count = faults.to_string(alloc)?;
-    let mut line = Text::new(alloc);
-    line.push_str("{status:")?;
-    line.push_str(digit)?;
-    line.push_str(",faults:")?;
-    line.push_str(count.as_str())?;
-    line.push_str("}\n")?;
-    Ok(line)
 }

@@ -5,9 +5,8 @@ ghost use Rattle.ledger_claims.specs.Fits.{RunRecord};
 ghost use Rattle.ledger_claims.specs.SoFar.{LeavesRun};
 ghost use Rattle.ledger_claims.specs.Stores.{IsSynced};
 ghost use Rattle.ledger_claims.specs.Top.{IsReportOf, HoldsRun, stored};
-ghost use Rattle.ledger_core.specs.Faults.{IsSettleFault};
 ghost use Rattle.ledger_cli.specs.Judgements.{IsRunnable, AreRunnable};
-ghost use Rattle.ledger_cli.specs.Runs.{IsRunning, IsStopped, IsKept, IsReported, IsSettled, IsRunFault, cause_of, come, told};
+ghost use Rattle.ledger_cli.specs.Runs.{IsRunning, IsStopped, IsKept, IsReported, IsSettled, IsStop, IsRunFault, cause_of, come, told};
 
 use ion_values::{IonTime, OutOfMemory, Text};
 use journal_text::written_on_one_line;
@@ -125,7 +124,7 @@ fn run_and_report<S: JournalStore, C>(
     ensures done { IfOk result (λ text. (t : RunRecord) → IsRunning t time (all_placed script.now) (come tail.old.standing tail.old.marked (S.bytes tail.old.store) (S.synced tail.old.store) (S.fault_count tail.old.store) []) → IsReported t (S.bytes tail.new.store) (S.fault_count tail.new.store) text) }
     ensures kept { OnOk result (IsKept (come tail.old.standing tail.old.marked (S.bytes tail.old.store) (S.synced tail.old.store) (S.fault_count tail.old.store) []) → IsSynced (S.bytes tail.new.store) (S.synced tail.new.store)) }
     ensures left { OnErr result ((t : RunRecord) → IsRunning t time (all_placed script.now) (come tail.old.standing tail.old.marked (S.bytes tail.old.store) (S.synced tail.old.store) (S.fault_count tail.old.store) []) → LeavesRun t (S.fault_count tail.new.store) (S.bytes tail.new.store)) }
-    ensures fault { IfErr result (λ fault. IsSettleFault fault (S.fault_count tail.old.store) (S.fault_count tail.new.store) (S.last_failed tail.new.store)) }
+    ensures fault { IfErr result (λ fault. IsStop fault (S.fault_count tail.old.store) (S.fault_count tail.new.store) (S.last_failed tail.new.store)) }
     ensures later { S.fault_count tail.old.store ≤ S.fault_count tail.new.store }
     ensures clock { tail.new.clock ≡ tail.old.clock }
 {
@@ -210,7 +209,7 @@ pub fn run_script<S: JournalStore, C>(
     requires { AreRunnable script.now }
     ensures done { IfOk result.report (λ text. IsReportOf time script.now (stored (S.bytes store) (S.bytes result.store) (S.synced store) (S.synced result.store) (S.fault_count store) (S.fault_count result.store)) text) }
     ensures left { OnErr result.report ((S.bytes result.store ≡ S.bytes store) ⊎ HoldsRun time script.now (stored (S.bytes store) (S.bytes result.store) (S.synced store) (S.synced result.store) (S.fault_count store) (S.fault_count result.store))) }
-    ensures fault { IfErr result.report (λ fault. IsRunFault fault (S.bytes store) (S.bytes result.store) (S.fault_count store) (S.fault_count result.store) (S.last_failed result.store)) }
+    ensures fault { IfErr result.report (λ fault. IsRunFault fault (stored (S.bytes store) (S.bytes result.store) (S.synced store) (S.synced result.store) (S.fault_count store) (S.fault_count result.store)) (S.last_failed result.store)) }
     ensures clock { result.clock ≡ clock }
 {
     match Tail::reload(alloc, store, clock, IdMask { bits: 0 }) {

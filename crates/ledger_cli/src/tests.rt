@@ -1,5 +1,9 @@
+ghost use Rattle.std.specs.Prelude.{None};
+
 use crate::ledger_top;
-use outside::{Failing, FreeGate, MemorySink, MemorySource, MemoryStore, SetClock, Sink, Source};
+use outside::{
+    Failing, FreeGate, MemorySink, MemorySource, MemoryStore, OutFault, SetClock, Sink, Source,
+};
 use std::alloc::Global;
 use std::sync::Wait;
 use std::test::Fail;
@@ -557,6 +561,46 @@ fn failing_store(rt: HostRuntime) -> Result<(), Fail> {
             LINE.as_bytes().get(..held as usize).unwrap_or_default()
         );
     }
+    Ok(())
+}
+
+/// A source that wants memory.
+#[derive(Drop)]
+struct Wanting;
+
+impl Source for Wanting {
+    ghost left = { λ _. None };
+
+    ghost fault_count = { λ _. 0 };
+
+    fn faults(&self) -> u64 {
+        0
+    }
+
+    fn read(&mut self, _out: &mut [u8]) -> Result<usize, OutFault> {
+        Err(OutFault::OutOfMemory)
+    }
+}
+
+#[test]
+fn want_of_memory(rt: HostRuntime) -> Result<(), Fail> {
+    let alloc = rt.alloc();
+    let given = to_run(alloc, RUN, FIRST)?;
+    let mut sink = MemorySink::new(alloc, given.writes);
+    let store = MemoryStore::new(alloc, given.held, given.fails);
+    let clock = SetClock::new(vec![in alloc; 0]?);
+    let ended = ledger_top(
+        &rt,
+        alloc,
+        &given.words,
+        &mut Wanting,
+        &mut sink,
+        store,
+        clock,
+        &FreeGate,
+    );
+    assert_eq!(rt; ended.status, 8);
+    assert_eq!(rt; sink.written(), b"{status:8}\n".as_slice());
     Ok(())
 }
 

@@ -3,15 +3,15 @@ ghost use Rattle.std.specs.Prelude.{◌≡◌, ◌<◌, ◌⊎◌, [], ◌∷◌
 ghost use Rattle.std.specs.Io.KnownBytes.{Appends};
 ghost use Rattle.ledger_claims.specs.Streams.{TakesFew, AppendsPart, WritesLine};
 ghost use Rattle.ledger_claims.specs.Words.{IsRun};
-ghost use Rattle.ledger_claims.specs.Top.{Reports, ReportsPart, RefusesInput, RefusesJournal, Leaves, streams, stored};
+ghost use Rattle.ledger_claims.specs.Top.{Reports, ReportsPart, ServesScript, RefusesInput, RefusesJournal, IsOnlyRead, Leaves, HidesNone, failures, streams, stored};
 ghost use Rattle.ledger_claims.specs.Lines.{words_line, input_line, damaged_line, faults_line};
 ghost use Rattle.ion_values.specs.declared.time.TimeParts.{TimeParts};
-ghost use Rattle.ledger_cli.specs.Ends.{Ends, EndsBy, IsOrdered, ReadsScript, Works, number_of, stop_of};
+ghost use Rattle.ledger_cli.specs.Ends.{Ends, EndsBy, IsLine, IsOwnLine, IsOrdered, IsWanted, ReadsScript, Works, count_line, number_of, stop_of, to_sink};
 ghost use Rattle.ledger_cli.specs.Judgements.{cause_of};
 
 use crate::input::{InputFault, read_all};
-use crate::lines::{BadInput, damaged_line, faults_line, input_line};
-use crate::output::write_all;
+use crate::lines::{BadInput, damaged_line, input_line};
+use crate::output::{write_all, write_count};
 use crate::run::{Ran, RunFault, run_script};
 use crate::served::{Judgement, judge};
 use crate::words::time_in;
@@ -101,7 +101,7 @@ pub fn ledger_top<
     // what was written is the report of the run, and the store holds the journal that the run left, synced where it was.
     ensures done { result.status ≡ 0 → Reports words.now (streams (So.left source.old) (So.left source.new) (Si.written sink.old) (Si.written sink.new)) (stored (St.bytes store) (St.bytes result.store) (St.synced store) (St.synced result.store) (St.fault_count store) (St.fault_count result.store)) }
 
-    // The words are refused, and only those, but where there is no memory for the error line.
+    // The words are refused, and only those, but where the sink has no memory for the error line.
     ensures words { result.status ≡ 1 → (time : TimeParts) → ¬ IsRun words.now time }
     ensures all_bad_words { ((time : TimeParts) → ¬ IsRun words.now time) → (result.status ≡ 1) ⊎ (result.status ≡ 8) }
     ensures words_line { result.status ≡ 1 → WritesLine (Si.written sink.old) (Si.written sink.new) (Si.fault_count sink.old) (Si.fault_count sink.new) words_line }
@@ -116,8 +116,10 @@ pub fn ledger_top<
     ensures source_failed { result.status ≡ 4 → So.fault_count source.old < So.fault_count source.new }
     ensures source_line { result.status ≡ 4 → WritesLine (Si.written sink.old) (Si.written sink.new) (Si.fault_count sink.old) (Si.fault_count sink.new) (faults_line (codes "4") (So.fault_count source.new)) }
 
-    // The store failed in its last call, when the journal was read or when the store was to be cut at the end.
+    // The script was read and is served, and the store failed in its last call, when the journal was read or when the store
+    // was to be cut at the end.
     ensures store_failed { result.status ≡ 5 → St.fault_count store < St.fault_count result.store }
+    ensures store_input { result.status ≡ 5 → ServesScript words.now (So.left source.old) (So.left source.new) }
     ensures store_last { result.status ≡ 5 → St.last_failed result.store ≡ true }
     ensures store_line { result.status ≡ 5 → WritesLine (Si.written sink.old) (Si.written sink.new) (Si.fault_count sink.old) (Si.fault_count sink.new) (faults_line (codes "5") (St.fault_count result.store)) }
 
@@ -127,7 +129,13 @@ pub fn ledger_top<
 
     // A run that was stopped leaves the store as it was, or with the journal of a part of the run.
     ensures stopped { (result.status ≡ 5) ⊎ (result.status ≡ 8) → Leaves words.now (So.left source.old) (So.left source.new) (stored (St.bytes store) (St.bytes result.store) (St.synced store) (St.synced result.store) (St.fault_count store) (St.fault_count result.store)) }
-    ensures untouched { (result.status ≡ 1) ⊎ (result.status ≡ 2) ⊎ (result.status ≡ 3) ⊎ (result.status ≡ 4) → St.bytes result.store ≡ St.bytes store }
+
+    // A journal that is damaged was only read, and before that the store isn't called.
+    ensures only_read { result.status ≡ 3 → IsOnlyRead (stored (St.bytes store) (St.bytes result.store) (St.synced store) (St.synced result.store) (St.fault_count store) (St.fault_count result.store)) }
+    ensures uncalled { (result.status ≡ 1) ⊎ (result.status ≡ 2) ⊎ (result.status ≡ 4) → result.store ≡ store }
+
+    // Where memory was wanted, nothing is claimed of the output but that no failure is hidden.
+    ensures wanted { result.status ≡ 8 → HidesNone (streams (So.left source.old) (So.left source.new) (Si.written sink.old) (Si.written sink.new)) (failures (So.fault_count source.old) (So.fault_count source.new) (Si.fault_count sink.old) (Si.fault_count sink.new)) }
 
     ensures known { Contains (0 ∷ 1 ∷ 2 ∷ 3 ∷ 4 ∷ 5 ∷ 6 ∷ 8 ∷ []) result.status }
     ensures few { TakesFew (So.left source.old) (So.left source.new) }
@@ -161,7 +169,7 @@ fn command<So: Source, Si: Sink, St: JournalStore, C>(
     store: St,
     clock: C,
 ) -> Closed<St, C>
-    ensures ends { Ends result.status (record { words = words.now; io = streams (So.left source.old) (So.left source.new) (Si.written sink.old) (Si.written sink.new); store = stored (St.bytes store) (St.bytes result.store) (St.synced store) (St.synced result.store) (St.fault_count store) (St.fault_count result.store); last_failed = St.last_failed result.store; source_before = So.fault_count source.old; source_after = So.fault_count source.new; sink_before = Si.fault_count sink.old; sink_after = Si.fault_count sink.new }) }
+    ensures ends { Ends (result.store ≡ store) result.status (record { words = words.now; io = streams (So.left source.old) (So.left source.new) (Si.written sink.old) (Si.written sink.new); store = stored (St.bytes store) (St.bytes result.store) (St.synced store) (St.synced result.store) (St.fault_count store) (St.fault_count result.store); last_failed = St.last_failed result.store; source_before = So.fault_count source.old; source_after = So.fault_count source.new; sink_before = Si.fault_count sink.old; sink_after = Si.fault_count sink.new }) }
     ensures few { TakesFew (So.left source.old) (So.left source.new) }
     ensures clock { result.clock ≡ clock }
 {
@@ -186,7 +194,7 @@ fn work<So: Source, St: JournalStore, C>(
     store: St,
     clock: C,
 ) -> Worked<St, C>
-    ensures works { Works result.report words.now (So.left source.old) (So.left source.new) (stored (St.bytes store) (St.bytes result.store) (St.synced store) (St.synced result.store) (St.fault_count store) (St.fault_count result.store)) (St.last_failed result.store) (So.fault_count source.old) (So.fault_count source.new) }
+    ensures works { Works (result.store ≡ store) result.report words.now (So.left source.old) (So.left source.new) (stored (St.bytes store) (St.bytes result.store) (St.synced store) (St.synced result.store) (St.fault_count store) (St.fault_count result.store)) (St.last_failed result.store) (So.fault_count source.old) (So.fault_count source.new) }
     ensures few { TakesFew (So.left source.old) (So.left source.new) }
     ensures clock { result.clock ≡ clock }
 {
@@ -286,10 +294,22 @@ fn end_by_stop<So: Source, Si: Sink, St: JournalStore>(
         Stop::BadInput(cause) => end_by_input(alloc, sink, cause),
         Stop::Damaged { sequence, kind } => end_by_damage(alloc, sink, sequence, kind),
         Stop::SourceFailed => {
-            end_by_faults(alloc, sink, "4", source.faults(), Status::SourceFailed)
+            end_by_count(
+                sink,
+                "{status:4,faults:",
+                source.faults(),
+                Status::SourceFailed,
+            )
         }
-        Stop::StoreFailed => end_by_faults(alloc, sink, "5", store.faults(), Status::StoreFailed),
-        Stop::OutOfMemory => Status::OutOfMemory,
+        Stop::StoreFailed => {
+            end_by_count(
+                sink,
+                "{status:5,faults:",
+                store.faults(),
+                Status::StoreFailed,
+            )
+        }
+        Stop::OutOfMemory => end_by_want(sink),
     }
 }
 
@@ -299,6 +319,7 @@ fn end_by_report<Si: Sink>(sink: &mut Si, text: Text) -> Status
     ensures done { result ≡ Status.Done → Appends (Si.written sink.old) (Si.written sink.new) text }
     ensures part { AppendsPart (Si.written sink.old) (Si.written sink.new) text }
     ensures failed { result ≡ Status.SinkFailed → Si.fault_count sink.old < Si.fault_count sink.new }
+    ensures wanted { result ≡ Status.OutOfMemory → Si.fault_count sink.new ≡ Si.fault_count sink.old }
 {
     match write_all(sink, text.as_str().as_bytes()) {
         Ok(()) => Status::Done,
@@ -307,9 +328,9 @@ fn end_by_report<Si: Sink>(sink: &mut Si, text: Text) -> Status
     }
 }
 
-/// Ends with an error line, whether the sink takes it or fails, but where it finds no memory.
+/// Ends with an error line, whether the sink takes it or fails, but where the sink finds no memory: it is not asked again.
 fn end_by_line<Si: Sink>(sink: &mut Si, line: &str, status: Status) -> Status
-    ensures { ((result ≡ status) × WritesLine (Si.written sink.old) (Si.written sink.new) (Si.fault_count sink.old) (Si.fault_count sink.new) line.now) ⊎ (result ≡ Status.OutOfMemory) }
+    ensures { IsOwnLine result status (to_sink (Si.written sink.old) (Si.written sink.new) (Si.fault_count sink.old) (Si.fault_count sink.new)) line.now }
 {
     match write_all(sink, line.as_bytes()) {
         Ok(()) => status,
@@ -318,38 +339,41 @@ fn end_by_line<Si: Sink>(sink: &mut Si, line: &str, status: Status) -> Status
     }
 }
 
+/// Ends with the error line of a source or a store that has failed so often, which takes no memory but the sink's.
+fn end_by_count<Si: Sink>(sink: &mut Si, front: &str, count: u64, status: Status) -> Status
+    ensures { IsOwnLine result status (to_sink (Si.written sink.old) (Si.written sink.new) (Si.fault_count sink.old) (Si.fault_count sink.new)) (count_line front.now count) }
+{
+    match write_count(sink, front, count) {
+        Ok(()) => status,
+        Err(OutFault::Failed) => status,
+        Err(OutFault::OutOfMemory) => Status::OutOfMemory,
+    }
+}
+
+/// Ends with the error line of want of memory, whether the sink takes it or not.
+fn end_by_want<Si: Sink>(sink: &mut Si) -> Status
+    ensures wanted { result ≡ Status.OutOfMemory }
+    ensures line { IsWanted (to_sink (Si.written sink.old) (Si.written sink.new) (Si.fault_count sink.old) (Si.fault_count sink.new)) }
+{
+    end_by_line(sink, "{status:8}\n", Status::OutOfMemory)
+}
+
 /// Ends with the error line of an input that is refused.
 fn end_by_input<Si: Sink>(alloc: Global, sink: &mut Si, cause: BadInput) -> Status
-    ensures { ((result ≡ Status.BadInput) × WritesLine (Si.written sink.old) (Si.written sink.new) (Si.fault_count sink.old) (Si.fault_count sink.new) (input_line (cause_of cause))) ⊎ (result ≡ Status.OutOfMemory) }
+    ensures { IsLine result Status.BadInput (to_sink (Si.written sink.old) (Si.written sink.new) (Si.fault_count sink.old) (Si.fault_count sink.new)) (input_line (cause_of cause)) }
 {
     match input_line(alloc, cause) {
         Ok(line) => end_by_line(sink, line.as_str(), Status::BadInput),
-        Err(_) => Status::OutOfMemory,
+        Err(_) => end_by_want(sink),
     }
 }
 
 /// Ends with the error line of a damaged journal.
 fn end_by_damage<Si: Sink>(alloc: Global, sink: &mut Si, sequence: u64, kind: Damage) -> Status
-    ensures { ((result ≡ Status.Damaged) × WritesLine (Si.written sink.old) (Si.written sink.new) (Si.fault_count sink.old) (Si.fault_count sink.new) (damaged_line sequence kind)) ⊎ (result ≡ Status.OutOfMemory) }
+    ensures { IsLine result Status.Damaged (to_sink (Si.written sink.old) (Si.written sink.new) (Si.fault_count sink.old) (Si.fault_count sink.new)) (damaged_line sequence kind) }
 {
     match damaged_line(alloc, sequence, kind) {
         Ok(line) => end_by_line(sink, line.as_str(), Status::Damaged),
-        Err(_) => Status::OutOfMemory,
-    }
-}
-
-/// Ends with the error line of a source or a store that has failed so often.
-fn end_by_faults<Si: Sink>(
-    alloc: Global,
-    sink: &mut Si,
-    digit: &str,
-    faults: u64,
-    status: Status,
-) -> Status
-    ensures { ((result ≡ status) × WritesLine (Si.written sink.old) (Si.written sink.new) (Si.fault_count sink.old) (Si.fault_count sink.new) (faults_line digit.now faults)) ⊎ (result ≡ Status.OutOfMemory) }
-{
-    match faults_line(alloc, digit, faults) {
-        Ok(line) => end_by_line(sink, line.as_str(), status),
-        Err(_) => Status::OutOfMemory,
+        Err(_) => end_by_want(sink),
     }
 }

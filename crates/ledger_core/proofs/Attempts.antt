@@ -17,7 +17,7 @@ use Rattle.ledger_model.specs.Damages.{Undamaged, UndamagedBehind, strand_of}
 use Rattle.ledger_model.specs.Journal.{journal_bytes}
 use Rattle.ledger_model.specs.Script.{Placed}
 use Rattle.ledger_model.specs.Whole.{place_fits}
-use Rattle.ledger_claims.specs.Attempts.{Standing, IsStanding, IsNext, IsNextBlock, Seals, Draws, MayDraw, Attempted, LeavesStore, HoldsBehind, LeavesPart, next, ran_next}
+use Rattle.ledger_claims.specs.Attempts.{Standing, IsStanding, IsNext, IsNextBlock, Seals, Draws, Attempted, LeavesStore, HoldsBehind, LeavesPart, next, ran_next}
 use Rattle.ledger_claims.specs.Makes.{CanMake, IsWithinAll}
 use Rattle.ledger_claims.specs.Stores.{Holding}
 use Rattle.ledger_claims.proofs.MadeJournals.{passes_all}
@@ -48,11 +48,6 @@ bound s is = let h = bound_behind s.blocks [] is.undamaged (omega arith) in omeg
 
 pub draws : (s now : Standing) → now ≡ drawn s → Draws s now
 draws s now e = subst (λ (x : Standing). Draws s x) (sym e) (record { mask = refl; last = refl; blocks = refl })
-
-pub may_draw : (s now : Standing) → s.last + 1 < 2 ^ 64 → now ≡ drawn s → MayDraw s now
-may_draw s now counted e =
-    subst (λ (x : Standing). MayDraw s x) (sym e)
-    (record { mask = refl; not_before = omega arith; not_past = omega arith; counted = counted; blocks = refl })
 
 -- ---- what a commit does and leaves
 
@@ -90,7 +85,7 @@ module _ (s : Standing) (time : TimeParts) (p : Placed) (progress : Progress) (i
 
   pub next_stands : (id : TxId) → IsNext s id → HasRoom s → IsStanding (joined (drawn s) b)
   next_stands id is_next room =
-      Attempted-IsStanding s time p 0 (Committed id (length s.blocks)) (joined (drawn s) b) 0 is (sealed_next id is_next room)
+      Attempted-IsStanding s time p (Committed id (length s.blocks)) (joined (drawn s) b) is (sealed_next id is_next room)
 
   same_id : (id tx : TxId) → id ≡ tx → IsNext s tx → IsNext s id
   same_id id tx e is_next = subst (λ (x : TxId). IsNext s x) (sym e) is_next
@@ -100,33 +95,33 @@ module _ (s : Standing) (time : TimeParts) (p : Placed) (progress : Progress) (i
       subst (λ (n : Standing). Seals s time p id at n) (sym e_now)
       (subst (λ (k : ℕ). Seals s time p id k (joined (drawn s) b)) (sym place) (sealed_next id (same_id id tx e is_next) room))
 
-  pub commit_is : (tx : TxId) (before : ℕ) (o : Outcome) (now : Standing) (after : ℕ) → IsNext s tx → Commits tx (drawn s) b before o now after → Attempted s time p before o now after
-  commit_is tx before (Committed id at) now after n c = seals id tx at now c.0 c.1 c.2 c.3 n
-  commit_is tx before (Conflict id since named) now after n c = absurd c
-  commit_is tx before (Refused id since statement cause) now after n c = absurd c
-  commit_is tx before (DigestDiffers id since mine given) now after n c = absurd c
-  commit_is tx before (StoreFault id count) now after n c = (same_id id tx c.0 n, draws s now c.2, commits, c.3, c.4)
-  commit_is tx before (JournalFull id blocks) now after n c = (same_id id tx c.0 n, draws s now c.3, commits, c.1, c.2)
-  commit_is tx before (IdsSpent last) now after n c = absurd c
-  commit_is tx before (Aborted id since) now after n c = absurd c
-  commit_is tx before OutOfMemory now after n c = may_draw s now counted c.1
+  pub commit_is : (tx : TxId) (o : Outcome) (now : Standing) → IsNext s tx → Commits tx (drawn s) b o now → Attempted s time p o now
+  commit_is tx (Committed id at) now n c = seals id tx at now c.0 c.1 c.2 c.3 n
+  commit_is tx (Conflict id since named) now n c = absurd c
+  commit_is tx (Refused id since statement cause) now n c = absurd c
+  commit_is tx (DigestDiffers id since mine given) now n c = absurd c
+  commit_is tx (StoreFault id count) now n c = (same_id id tx c.0 n, draws s now c.2, commits)
+  commit_is tx (JournalFull id blocks) now n c = (same_id id tx c.0 n, draws s now c.3, commits, c.1, c.2)
+  commit_is tx (IdsSpent last) now n c = absurd c
+  commit_is tx (Aborted id since) now n c = absurd c
+  commit_is tx OutOfMemory now n c = (draws s now c.1, counted)
 
   left_part : (held after : Option (List ℕ)) → HasRoom s → MayHoldPart s.blocks b held after → (after ≡ held) ⊎ LeavesPart s time p after
   left_part held after room (inl same) = inl same
   left_part held after room (inr part) = inr (record { stopped = b; is_next = next_made room; kept = part.0; holds = part.1 })
 
-  pub commit_leaves : (tx : TxId) (before : ℕ) (o : Outcome) (now : Standing) (after : ℕ) (held held_after : Option (List ℕ))
-      → Commits tx (drawn s) b before o now after → CommitLeaves s.blocks b o held held_after → LeavesStore s time p o now held held_after
-  commit_leaves tx before (Committed id at) now after held held_after c l =
+  pub commit_leaves : (tx : TxId) (o : Outcome) (now : Standing) (held held_after : Option (List ℕ)) → Commits tx (drawn s) b o now → CommitLeaves s.blocks b o held held_after
+      → LeavesStore s time p o now held held_after
+  commit_leaves tx (Committed id at) now held held_after c l =
       holds_alone now.blocks held_after (subst (λ (x : List Block). Holding x held_after) (sym (ap (λ (n : Standing). n.blocks) c.3)) l)
-  commit_leaves tx before (Conflict id since named) now after held held_after c l = l
-  commit_leaves tx before (Refused id since statement cause) now after held held_after c l = l
-  commit_leaves tx before (DigestDiffers id since mine given) now after held held_after c l = l
-  commit_leaves tx before (StoreFault id count) now after held held_after c l = left_part held held_after c.1 l
-  commit_leaves tx before (JournalFull id blocks) now after held held_after c l = l
-  commit_leaves tx before (IdsSpent last) now after held held_after c l = l
-  commit_leaves tx before (Aborted id since) now after held held_after c l = l
-  commit_leaves tx before OutOfMemory now after held held_after c l = left_part held held_after c.0 l
+  commit_leaves tx (Conflict id since named) now held held_after c l = l
+  commit_leaves tx (Refused id since statement cause) now held held_after c l = l
+  commit_leaves tx (DigestDiffers id since mine given) now held held_after c l = l
+  commit_leaves tx (StoreFault id count) now held held_after c l = left_part held held_after c.1 l
+  commit_leaves tx (JournalFull id blocks) now held held_after c l = l
+  commit_leaves tx (IdsSpent last) now held held_after c l = l
+  commit_leaves tx (Aborted id since) now held held_after c l = l
+  commit_leaves tx OutOfMemory now held held_after c l = left_part held held_after c.0 l
 
 -- ---- a transaction whose statements are all done
 
@@ -147,23 +142,21 @@ module _ (s : Standing) (time : TimeParts) (p : Placed) (t : Transaction) (tx : 
   done_stands room =
       next_stands s time p (progress_of t) is can n.counted ranges (sym runs) commits (next_block t s.blocks p.place time) block_is tx n room
 
-  pub done_attempted : (before : ℕ) (o : Outcome) (now : Standing) (after : ℕ)
-      → Commits tx (drawn s) (next_block t s.blocks p.place time) before o now after → Attempted s time p before o now after
-  done_attempted before o now after c =
-      commit_is s time p (progress_of t) is can n.counted ranges (sym runs) commits (next_block t s.blocks p.place time) block_is tx before o now after n c
+  pub done_attempted : (o : Outcome) (now : Standing) → Commits tx (drawn s) (next_block t s.blocks p.place time) o now → Attempted s time p o now
+  done_attempted o now c =
+      commit_is s time p (progress_of t) is can n.counted ranges (sym runs) commits (next_block t s.blocks p.place time) block_is tx o now n c
 
-  pub done_leaves : (before : ℕ) (o : Outcome) (now : Standing) (after : ℕ) (held held_after : Option (List ℕ))
-      → Commits tx (drawn s) (next_block t s.blocks p.place time) before o now after
+  pub done_leaves : (o : Outcome) (now : Standing) (held held_after : Option (List ℕ)) → Commits tx (drawn s) (next_block t s.blocks p.place time) o now
       → CommitLeaves s.blocks (next_block t s.blocks p.place time) o held held_after → LeavesStore s time p o now held held_after
-  done_leaves before o now after held held_after c l =
-      commit_leaves s time p (progress_of t) is can n.counted ranges (sym runs) commits (next_block t s.blocks p.place time) block_is tx before o now after held held_after c l
+  done_leaves o now held held_after c l =
+      commit_leaves s time p (progress_of t) is can n.counted ranges (sym runs) commits (next_block t s.blocks p.place time) block_is tx o now held held_after c l
 
 -- ---- a transaction that isn't committed
 
-pub aborted : (s now : Standing) (time : TimeParts) (p : Placed) (t : Transaction) (tx : TxId) (since before after : ℕ) → IsNext s tx → now ≡ drawn s
-    → since ≡ length s.blocks → p.job.abort ≡ true → ran (progress_of t) ≡ ran_next s p → Attempted s time p before (Aborted tx since) now after
-aborted s now time p t tx since before after n e place aborts runs = (n, draws s now e, place, aborts, (progress_of t, sym runs))
+pub aborted : (s now : Standing) (time : TimeParts) (p : Placed) (t : Transaction) (tx : TxId) (since : ℕ) → IsNext s tx → now ≡ drawn s
+    → since ≡ length s.blocks → p.job.abort ≡ true → ran (progress_of t) ≡ ran_next s p → Attempted s time p (Aborted tx since) now
+aborted s now time p t tx since n e place aborts runs = (n, draws s now e, place, aborts, (progress_of t, sym runs))
 
-pub refused_at : (s now : Standing) (time : TimeParts) (p : Placed) (tx : TxId) (since statement : ℕ) (cause : Refusal) (before after : ℕ) → IsNext s tx
-    → now ≡ drawn s → since ≡ length s.blocks → refused statement cause ≡ ran_next s p → Attempted s time p before (Refused tx since statement cause) now after
-refused_at s now time p tx since statement cause before after n e place runs = (n, draws s now e, place, sym runs)
+pub refused_at : (s now : Standing) (time : TimeParts) (p : Placed) (tx : TxId) (since statement : ℕ) (cause : Refusal) → IsNext s tx
+    → now ≡ drawn s → since ≡ length s.blocks → refused statement cause ≡ ran_next s p → Attempted s time p (Refused tx since statement cause) now
+refused_at s now time p tx since statement cause n e place runs = (n, draws s now e, place, sym runs)

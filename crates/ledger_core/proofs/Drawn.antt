@@ -7,7 +7,7 @@ use Rattle.ledger_model.specs.declared.script.Request.{Request}
 use Rattle.ledger_model.specs.Script.{Placed}
 use Rattle.ledger_model.specs.State.{state}
 use Rattle.ledger_model.specs.Run.{ran, run}
-use Rattle.ledger_claims.specs.Attempts.{Standing, IsStanding, IsNext, Attempted, LeavesStore, next, ran_next}
+use Rattle.ledger_claims.specs.Attempts.{Standing, IsStanding, IsNext, Attempted, TellsFaults, LeavesStore, next, ran_next}
 use Rattle.ledger_claims.specs.Makes.{CanMake, IsWithinAll}
 use Rattle.ledger_claims.specs.Stores.{Holding, IsSynced}
 use Rattle.ledger_core.specs.declared.transaction.Ran as held
@@ -97,19 +97,20 @@ commit_stands {S} {C} h m time p t tx e d =
     subst (λ (x : TailHeld S C). length x.standing.blocks < 2 ^ 32 - 1 → IsStanding (joined x.standing (next_block t x.standing.blocks p.place time))) (sym e)
     (λ room. done_stands h.standing time p t tx d.stands d.can d.drawn_id d.ranges d.runs d.begun d.commits room)
 
-pub commit_attempted : {S C : Type 0} (count : S → ℕ) (h m n : TailHeld S C) (time : TimeParts) (p : Placed) (t : Transaction) (tx : TxId) (o : Outcome) → m ≡ drawn_tail h
-    → IsDone h.standing time p t tx → Commits tx m.standing (next_block t m.standing.blocks p.place time) (count m.store) o n.standing (count n.store)
-    → Attempted h.standing time p (count h.store) o n.standing (count n.store)
-commit_attempted {S} {C} count h m n time p t tx o e d commits =
-    done_attempted h.standing time p t tx d.stands d.can d.drawn_id d.ranges d.runs d.begun d.commits (count h.store) o n.standing (count n.store)
-    (subst (λ (x : TailHeld S C). Commits tx x.standing (next_block t x.standing.blocks p.place time) (count x.store) o n.standing (count n.store)) e commits)
+pub commit_attempted : {S C : Type 0} (h m : TailHeld S C) (now : Standing) (time : TimeParts) (p : Placed) (t : Transaction) (tx : TxId) (o : Outcome) → m ≡ drawn_tail h
+    → IsDone h.standing time p t tx → Commits tx m.standing (next_block t m.standing.blocks p.place time) o now → Attempted h.standing time p o now
+commit_attempted {S} {C} h m now time p t tx o e d commits =
+    done_attempted h.standing time p t tx d.stands d.can d.drawn_id d.ranges d.runs d.begun d.commits o now
+    (subst (λ (x : TailHeld S C). Commits tx x.standing (next_block t x.standing.blocks p.place time) o now) e commits)
 
-pub commit_leaves_store : {S C : Type 0} (bytes : S → Option (List ℕ)) (count : S → ℕ) (h m n : TailHeld S C) (time : TimeParts) (p : Placed) (t : Transaction) (tx : TxId) (o : Outcome)
-    → m ≡ drawn_tail h → IsDone h.standing time p t tx
-    → Commits tx m.standing (next_block t m.standing.blocks p.place time) (count m.store) o n.standing (count n.store)
-    → CommitLeaves m.standing.blocks (next_block t m.standing.blocks p.place time) o (bytes m.store) (bytes n.store)
-    → LeavesStore h.standing time p o n.standing (bytes h.store) (bytes n.store)
-commit_leaves_store {S} {C} bytes count h m n time p t tx o e d commits leaves =
-    done_leaves h.standing time p t tx d.stands d.can d.drawn_id d.ranges d.runs d.begun d.commits (count h.store) o n.standing (count n.store) (bytes h.store) (bytes n.store)
-    (subst (λ (x : TailHeld S C). Commits tx x.standing (next_block t x.standing.blocks p.place time) (count x.store) o n.standing (count n.store)) e commits)
-    (subst (λ (x : TailHeld S C). CommitLeaves x.standing.blocks (next_block t x.standing.blocks p.place time) o (bytes x.store) (bytes n.store)) e leaves)
+pub commit_faults : {S C : Type 0} (count : S → ℕ) (h m : TailHeld S C) (o : Outcome) (after : ℕ) → m ≡ drawn_tail h → TellsFaults (count m.store) o after
+    → TellsFaults (count h.store) o after
+commit_faults {S} {C} count h m o after e tells = subst (λ (x : TailHeld S C). TellsFaults (count x.store) o after) e tells
+
+pub commit_leaves_store : {S C : Type 0} (bytes : S → Option (List ℕ)) (h m : TailHeld S C) (now : Standing) (kept : Option (List ℕ)) (time : TimeParts) (p : Placed) (t : Transaction) (tx : TxId)
+    (o : Outcome) → m ≡ drawn_tail h → IsDone h.standing time p t tx → Commits tx m.standing (next_block t m.standing.blocks p.place time) o now
+    → CommitLeaves m.standing.blocks (next_block t m.standing.blocks p.place time) o (bytes m.store) kept → LeavesStore h.standing time p o now (bytes h.store) kept
+commit_leaves_store {S} {C} bytes h m now kept time p t tx o e d commits leaves =
+    done_leaves h.standing time p t tx d.stands d.can d.drawn_id d.ranges d.runs d.begun d.commits o now (bytes h.store) kept
+    (subst (λ (x : TailHeld S C). Commits tx x.standing (next_block t x.standing.blocks p.place time) o now) e commits)
+    (subst (λ (x : TailHeld S C). CommitLeaves x.standing.blocks (next_block t x.standing.blocks p.place time) o (bytes x.store) kept) e leaves)

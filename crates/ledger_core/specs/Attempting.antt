@@ -1,5 +1,5 @@
 -- How one transaction is committed: the number that is drawn for it, the block that it becomes, and what the commit does.
-use Rattle.std.specs.Prelude.{◌≡◌, ℕ, ◌+◌, ◌-◌, ◌^◌, ◌<◌, ◌≤◌, List, [], ◌∷◌, ◌++◌, length, Option}
+use Rattle.std.specs.Prelude.{◌≡◌, ℕ, ◌+◌, ◌-◌, ◌^◌, ◌<◌, List, [], ◌∷◌, ◌++◌, length, Option}
 use Rattle.ion_values.specs.declared.time.TimeParts.{TimeParts}
 use Rattle.ql_types.specs.declared.Place.{Place}
 use Rattle.ql_types.specs.declared.TxId.{TxId}
@@ -30,13 +30,13 @@ next_block t before place time = block_of (begun_of t) before place time (progre
 abbrev pub HasRoom : Standing → Type 0
 HasRoom s = length s.blocks < 2 ^ 32 - 1
 
--- What the commit of a block does, by its outcome; the store had failed `before` times and then `after` times.
-abbrev pub Commits : TxId → Standing → Block → ℕ → Outcome → Standing → ℕ → Type 0
-Commits tx s b before (Committed id block) now after = (id ≡ tx) × (block ≡ length s.blocks) × HasRoom s × (now ≡ joined s b)
-Commits tx s b before (StoreFault id count) now after = (id ≡ tx) × HasRoom s × (now ≡ s) × (before < count) × (count ≤ after)
-Commits tx s b before (JournalFull id blocks) now after = (id ≡ tx) × (length s.blocks ≡ 2 ^ 32 - 1) × (blocks ≡ 2 ^ 32 - 1) × (now ≡ s)
-Commits tx s b before OutOfMemory now after = HasRoom s × (now ≡ s)
-Commits tx s b before other now after = ⊥
+-- what the commit of a block does, by its outcome
+abbrev pub Commits : TxId → Standing → Block → Outcome → Standing → Type 0
+Commits tx s b (Committed id block) now = (id ≡ tx) × (block ≡ length s.blocks) × HasRoom s × (now ≡ joined s b)
+Commits tx s b (StoreFault id count) now = (id ≡ tx) × HasRoom s × (now ≡ s)
+Commits tx s b (JournalFull id blocks) now = (id ≡ tx) × (length s.blocks ≡ 2 ^ 32 - 1) × (blocks ≡ 2 ^ 32 - 1) × (now ≡ s)
+Commits tx s b OutOfMemory now = HasRoom s × (now ≡ s)
+Commits tx s b other now = ⊥
 
 -- what the commit leaves in the store
 abbrev pub CommitLeaves : List Block → Block → Outcome → Option (List ℕ) → Option (List ℕ) → Type 0

@@ -9,10 +9,10 @@ use Rattle.ledger_core.specs.declared.keeping.SettleFault.TheVariants as fault
 abbrev pub IsStoreFault : ℕ → ℕ → ℕ → Bool → Type 0
 IsStoreFault count before after last_failed = (before < count) × (count ≡ after) × (last_failed ≡ true)
 
--- want of memory says nothing
+-- or memory was wanted, and it had not failed
 abbrev pub IsSettleFault : SettleFault → ℕ → ℕ → Bool → Type 0
 IsSettleFault (fault.StoreFault count) before after last_failed = IsStoreFault count before after last_failed
-IsSettleFault fault.OutOfMemory before after last_failed = Unit {0}
+IsSettleFault fault.OutOfMemory before after last_failed = after ≡ before
 
 -- the store's fault, with how often it has failed
 abbrev pub told : OutFault → ℕ → SettleFault

@@ -18,12 +18,12 @@ IsRead bytes blocks marked = (rest : List ℕ) × IsJournal bytes blocks rest ×
 abbrev pub IsLoaded : Option (List ℕ) → List Block → Bool → Type 0
 IsLoaded held blocks marked = IfSome held (λ bytes. IsRead bytes blocks marked)
 
--- The first damaged line was read in the store's bytes; or the store failed in its last call and then had failed so often. Want
--- of memory says nothing.
+-- The first damaged line was read in the store's bytes; or the store failed in its last call and then had failed so often; or
+-- memory was wanted. But for the second it had not failed.
 abbrev pub IsCause : LoadCause → Option (List ℕ) → ℕ → ℕ → Bool → Type 0
-IsCause (cause.Damaged sequence kind) held before after last_failed = IfSome held (λ bytes. IsDamaged bytes sequence kind)
+IsCause (cause.Damaged sequence kind) held before after last_failed = IfSome held (λ bytes. IsDamaged bytes sequence kind) × (after ≡ before)
 IsCause (cause.StoreFault count) held before after last_failed = IsStoreFault count before after last_failed
-IsCause cause.OutOfMemory held before after last_failed = Unit {0}
+IsCause cause.OutOfMemory held before after last_failed = after ≡ before
 
 -- the journal's fault as the cause of the load's
 abbrev pub cause_of : JournalFault → LoadCause

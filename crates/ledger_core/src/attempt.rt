@@ -4,7 +4,7 @@ ghost use Rattle.ion_values.specs.Time.{is_time};
 ghost use Rattle.ledger_model.specs.State.{state};
 ghost use Rattle.ledger_model.specs.Run.{run};
 ghost use Rattle.ledger_model.specs.Whole.{place_fits};
-ghost use Rattle.ledger_claims.specs.Attempts.{Attempted, LeavesStore, IsStanding, IsNext};
+ghost use Rattle.ledger_claims.specs.Attempts.{Attempted, TellsFaults, LeavesStore, IsStanding, IsNext};
 ghost use Rattle.ledger_claims.specs.Stores.{Holding, IsSynced};
 ghost use Rattle.ledger_core.specs.Faults.{IsSettleFault};
 ghost use Rattle.ledger_core.specs.Tails.{MayHoldPart, SyncsAll, TellsSynced, joined};
@@ -28,7 +28,8 @@ impl<S: JournalStore, C> Tail<S, C> {
     /// Runs the job's statements as the next transaction, on the blocks so far, and commits it, or gives it up where the job
     /// says so. Its block's time is this one, or the last block's where that is later.
     pub fn attempt(&mut self, alloc: Global, job: &Job, place: Place, time: IonTime) -> Outcome
-        ensures attempted { Attempted self.old.standing time (record { place = place; job = job.now }) (S.fault_count self.old.store) result self.new.standing (S.fault_count self.new.store) }
+        ensures attempted { Attempted self.old.standing time (record { place = place; job = job.now }) result self.new.standing }
+        ensures faults { TellsFaults (S.fault_count self.old.store) result (S.fault_count self.new.store) }
         ensures store { LeavesStore self.old.standing time (record { place = place; job = job.now }) result self.new.standing (S.bytes self.old.store) (S.bytes self.new.store) }
         ensures stands { IsStanding self.new.standing }
         ensures clean { (self.new.marked ≡ true) ⊎ Holding self.new.standing.blocks (S.bytes self.new.store) }
@@ -100,7 +101,8 @@ impl<S: JournalStore, C> Tail<S, C> {
         time: IonTime,
     ) -> Outcome
         requires { length self.old.standing.blocks < 2 ^ 32 - 1 → IsStanding (joined self.old.standing (next_block transaction self.old.standing.blocks place time)) }
-        ensures commits { Commits tx self.old.standing (next_block transaction self.old.standing.blocks place time) (S.fault_count self.old.store) result self.new.standing (S.fault_count self.new.store) }
+        ensures commits { Commits tx self.old.standing (next_block transaction self.old.standing.blocks place time) result self.new.standing }
+        ensures faults { TellsFaults (S.fault_count self.old.store) result (S.fault_count self.new.store) }
         ensures leaves { CommitLeaves self.old.standing.blocks (next_block transaction self.old.standing.blocks place time) result (S.bytes self.old.store) (S.bytes self.new.store) }
         ensures ended { (self.new ≡ self.old) ⊎ (self.new.marked ≡ true) ⊎ IsKept self.new.standing.blocks (S.bytes self.old.store) (S.synced self.old.store) (S.bytes self.new.store) (S.synced self.new.store) }
         ensures tells { TellsSynced (S.bytes self.old.store) (S.synced self.old.store) → TellsSynced (S.bytes self.new.store) (S.synced self.new.store) }
@@ -136,6 +138,7 @@ impl<S: JournalStore, C> Tail<S, C> {
         ensures part { OnErr result (MayHoldPart self.old.standing.blocks (next_block transaction self.old.standing.blocks place time) (S.bytes self.old.store) (S.bytes self.new.store)) }
         ensures marked { OnErr result ((self.new ≡ self.old) ⊎ (self.new.marked ≡ true)) }
         ensures later { S.fault_count self.old.store ≤ S.fault_count self.new.store }
+        ensures fine { OnOk result (S.fault_count self.new.store ≡ S.fault_count self.old.store) }
         ensures fault { IfErr result (λ fault. IsSettleFault fault (S.fault_count self.old.store) (S.fault_count self.new.store) (S.last_failed self.new.store)) }
     {
         let block = transaction.into_block(alloc, place, time, self.blocks().as_slice())?;

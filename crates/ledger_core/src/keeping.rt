@@ -1,16 +1,20 @@
 //! Cutting a store and putting lines behind what it holds.
-ghost use Rattle.std.specs.Prelude.{◌≡◌, ◌<◌, ◌≤◌, ◌+◌, ◌++◌, ◌⊎◌, ℕ, true, false, take, length, option_map, IsOk, IfOk, OnOk, OnErr, IfErr, IsErrOf};
+ghost use Rattle.std.specs.Prelude.{◌≡◌, ◌≤◌, ◌+◌, ◌++◌, ◌⊎◌, ℕ, true, false, take, length, option_map, IsOk, IfOk, OnOk, OnErr, IfErr, IsErrOf};
+ghost use Rattle.outside.specs.Causes.{HasCause};
 ghost use Rattle.ledger_core.specs.Tails.{AllSynced, MayBeCut, HoldsPart, TellsSynced, cleared};
 ghost use Rattle.ledger_core.specs.Faults.{IsSettleFault, told};
 
 use ion_values::OutOfMemory;
 use outside::{JournalStore, OutFault};
+use thiserror::Error;
 
 /// Why a store was not cut or took no line.
-#[derive(Clone, Copy, Debug, PartialEq, Eq)]
+#[derive(Clone, Copy, Debug, PartialEq, Eq, Error)]
 pub enum SettleFault {
     /// The store failed in its last call, and had failed so often then.
+    #[error("the store failed, {count} times so far")]
     StoreFault { count: u64 },
+    #[error("out of memory")]
     OutOfMemory,
 }
 
@@ -46,6 +50,7 @@ impl<S: JournalStore> Keeper<S> {
         ensures size { self.new.size ≡ self.old.size }
         ensures tells { TellsSynced (S.bytes self.old.store) (S.synced self.old.store) → TellsSynced (S.bytes self.new.store) (S.synced self.new.store) }
         ensures later { S.fault_count self.old.store ≤ S.fault_count self.new.store }
+        ensures fine { OnOk result (S.fault_count self.new.store ≡ S.fault_count self.old.store) }
         ensures fault { IfErr result (λ fault. IsSettleFault fault (S.fault_count self.old.store) (S.fault_count self.new.store) (S.last_failed self.new.store)) }
     {
         if self.marked {
@@ -67,6 +72,7 @@ impl<S: JournalStore> Keeper<S> {
         ensures marked { IfErr result (λ fault. ((fault ≡ SettleFault.OutOfMemory) × (self.new ≡ self.old)) ⊎ (self.new.marked ≡ true)) }
         ensures tells { TellsSynced (S.bytes self.old.store) (S.synced self.old.store) → TellsSynced (S.bytes self.new.store) (S.synced self.new.store) }
         ensures later { S.fault_count self.old.store ≤ S.fault_count self.new.store }
+        ensures fine { OnOk result (S.fault_count self.new.store ≡ S.fault_count self.old.store) }
         ensures fault { IfErr result (λ fault. IsSettleFault fault (S.fault_count self.old.store) (S.fault_count self.new.store) (S.last_failed self.new.store)) }
     {
         let size = grown(self.size, line)?;
@@ -108,6 +114,7 @@ fn cut_back<S: JournalStore>(store: &mut S, size: u64) -> Result<(), SettleFault
     ensures cut { MayBeCut (S.bytes store.old) (S.bytes store.new) size }
     ensures tells { TellsSynced (S.bytes store.old) (S.synced store.old) → TellsSynced (S.bytes store.new) (S.synced store.new) }
     ensures later { S.fault_count store.old ≤ S.fault_count store.new }
+    ensures fine { OnOk result (S.fault_count store.new ≡ S.fault_count store.old) }
     ensures fault { IfErr result (λ fault. IsSettleFault fault (S.fault_count store.old) (S.fault_count store.new) (S.last_failed store.new)) }
 {
     match cut_and_sync(store, size) {
@@ -121,8 +128,7 @@ fn cut_and_sync<S: JournalStore>(store: &mut S, size: u64) -> Result<(), OutFaul
     ensures synced { OnOk result (AllSynced (S.synced store.old) (S.bytes store.new) (S.synced store.new)) }
     ensures cut { MayBeCut (S.bytes store.old) (S.bytes store.new) size }
     ensures tells { TellsSynced (S.bytes store.old) (S.synced store.old) → TellsSynced (S.bytes store.new) (S.synced store.new) }
-    ensures later { S.fault_count store.old ≤ S.fault_count store.new }
-    ensures failed { IsErrOf result OutFault.Failed → S.fault_count store.old < S.fault_count store.new }
+    ensures cause { HasCause (S.fault_count store.old) (S.fault_count store.new) result }
     ensures last { IsErrOf result OutFault.Failed → S.last_failed store.new ≡ true }
 {
     store.cut(size)?;
@@ -137,6 +143,7 @@ fn put_behind<S: JournalStore>(store: &mut S, line: &[u8]) -> Result<(), SettleF
     ensures part { (kept : ℕ) × (S.bytes store.new ≡ option_map (λ held. held ++ take kept line.now) (S.bytes store.old)) }
     ensures tells { TellsSynced (S.bytes store.old) (S.synced store.old) → TellsSynced (S.bytes store.new) (S.synced store.new) }
     ensures later { S.fault_count store.old ≤ S.fault_count store.new }
+    ensures fine { OnOk result (S.fault_count store.new ≡ S.fault_count store.old) }
     ensures fault { IfErr result (λ fault. IsSettleFault fault (S.fault_count store.old) (S.fault_count store.new) (S.last_failed store.new)) }
 {
     match append_and_sync(store, line) {
@@ -150,8 +157,7 @@ fn append_and_sync<S: JournalStore>(store: &mut S, line: &[u8]) -> Result<(), Ou
     ensures synced { OnOk result (AllSynced (S.synced store.old) (S.bytes store.new) (S.synced store.new)) }
     ensures part { (kept : ℕ) × (S.bytes store.new ≡ option_map (λ held. held ++ take kept line.now) (S.bytes store.old)) }
     ensures tells { TellsSynced (S.bytes store.old) (S.synced store.old) → TellsSynced (S.bytes store.new) (S.synced store.new) }
-    ensures later { S.fault_count store.old ≤ S.fault_count store.new }
-    ensures failed { IsErrOf result OutFault.Failed → S.fault_count store.old < S.fault_count store.new }
+    ensures cause { HasCause (S.fault_count store.old) (S.fault_count store.new) result }
     ensures last { IsErrOf result OutFault.Failed → S.last_failed store.new ≡ true }
 {
     store.append(line)?;

@@ -1,9 +1,10 @@
 //! The tail of what a store holds.
-ghost use Rattle.std.specs.Prelude.{◌≡◌, ◌<◌, ◌≤◌, ◌^◌, true, ℕ, IfOk, IfErr, IfSome, IsErrOf};
+ghost use Rattle.std.specs.Prelude.{◌≡◌, ◌<◌, ◌≤◌, ◌^◌, true, ℕ, IfOk, OnOk, IfErr, IfSome, IsErrOf};
 ghost use Rattle.ql_types.specs.Ids.{transaction_in};
+ghost use Rattle.outside.specs.Causes.{HasCause};
 ghost use Rattle.journal_text.specs.Reading.{IsFault};
-ghost use Rattle.ledger_claims.specs.Attempts.{IsStanding, mask_of};
-ghost use Rattle.ledger_claims.specs.Fits.{greatest};
+ghost use Rattle.ledger_claims.specs.Attempts.{IsStanding};
+ghost use Rattle.ledger_claims.specs.Fits.{greatest, mask_of};
 ghost use Rattle.ledger_core.specs.Loads.{IsRead, IsLoaded, IsCause, cause_told};
 ghost use Rattle.ledger_core.specs.Known.{IsKnown, standing_of};
 
@@ -15,14 +16,18 @@ use ledger_model::{Block, Blocks, Damage};
 use outside::{JournalStore, OutFault};
 use ql_types::{IdMask, id_parts};
 use std::alloc::Global;
+use thiserror::Error;
 
 /// Why no journal was loaded.
-#[derive(Clone, Copy, Debug, PartialEq, Eq)]
+#[derive(Clone, Copy, Debug, PartialEq, Eq, Error)]
 pub enum LoadCause {
     /// The first damaged line, counted from 0, and the check that it fails first.
+    #[error("line {sequence} of the journal is damaged: {kind:?}")]
     Damaged { sequence: u64, kind: Damage },
     /// The store failed in its last call, and had failed so often then.
+    #[error("the store failed, {count} times so far")]
     StoreFault { count: u64 },
+    #[error("out of memory")]
     OutOfMemory,
 }
 
@@ -73,7 +78,7 @@ impl<S: JournalStore, C> Tail<S, C> {
         ensures standing { IfOk result (λ tail. IsStanding tail.standing) }
         ensures mask { IfOk result (λ tail. tail.standing.mask ≡ mask_of mask.bits tail.standing.blocks) }
         ensures last { IfOk result (λ tail. tail.standing.last ≡ greatest tail.standing.mask tail.standing.blocks) }
-        ensures store { IfOk result (λ tail. (S.bytes tail.store ≡ S.bytes store) × (S.synced tail.store ≡ S.synced store) × (S.fault_count store ≤ S.fault_count tail.store)) }
+        ensures store { IfOk result (λ tail. (S.bytes tail.store ≡ S.bytes store) × (S.synced tail.store ≡ S.synced store) × (S.fault_count tail.store ≡ S.fault_count store)) }
         ensures clock { IfOk result (λ tail. tail.clock ≡ clock) }
         ensures cause { IfErr result (λ fault. IsCause fault.cause (S.bytes store) (S.fault_count store) (S.fault_count fault.store) (S.last_failed fault.store)) }
         ensures returned { IfErr result (λ fault. (S.bytes fault.store ≡ S.bytes store) × (S.synced fault.store ≡ S.synced store) × (S.fault_count store ≤ S.fault_count fault.store)) }
@@ -126,6 +131,7 @@ fn load<S: JournalStore>(alloc: Global, store: &mut S, mask: IdMask) -> Result<L
     ensures bytes { S.bytes store.new ≡ S.bytes store.old }
     ensures synced { S.synced store.new ≡ S.synced store.old }
     ensures later { S.fault_count store.old ≤ S.fault_count store.new }
+    ensures fine { OnOk result (S.fault_count store.new ≡ S.fault_count store.old) }
     ensures cause { IfErr result (λ cause. IsCause cause (S.bytes store.old) (S.fault_count store.old) (S.fault_count store.new) (S.last_failed store.new)) }
 {
     let bytes = match read_stored(alloc, store) {
@@ -152,8 +158,7 @@ fn read_stored<S: JournalStore>(alloc: Global, store: &mut S) -> Result<Vec<u8>,
     ensures read { IfOk result (λ all. IfSome (S.bytes store.old) (λ held. all.items ≡ held)) }
     ensures bytes { S.bytes store.new ≡ S.bytes store.old }
     ensures synced { S.synced store.new ≡ S.synced store.old }
-    ensures later { S.fault_count store.old ≤ S.fault_count store.new }
-    ensures failed { IsErrOf result OutFault.Failed → S.fault_count store.old < S.fault_count store.new }
+    ensures cause { HasCause (S.fault_count store.old) (S.fault_count store.new) result }
     ensures last { IsErrOf result OutFault.Failed → S.last_failed store.new ≡ true }
 {
     let size = store.size()?;

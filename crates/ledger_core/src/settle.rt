@@ -21,6 +21,7 @@ impl<S: JournalStore, C> Tail<S, C> {
         ensures standing { self.new.standing ≡ self.old.standing }
         ensures clock { self.new.clock ≡ self.old.clock }
         ensures later { S.fault_count self.old.store ≤ S.fault_count self.new.store }
+        ensures fine { OnOk result (S.fault_count self.new.store ≡ S.fault_count self.old.store) }
         ensures fault { IfErr result (λ fault. IsSettleFault fault (S.fault_count self.old.store) (S.fault_count self.new.store) (S.last_failed self.new.store)) }
     {
         self.keeper.settle()?;

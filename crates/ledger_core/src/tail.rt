@@ -71,6 +71,7 @@ impl<S: JournalStore, C> Tail<S, C> {
         ensures part { OnErr result (MayHoldPart self.old.standing.blocks block (S.bytes self.old.store) (S.bytes self.new.store)) }
         ensures marked { IfErr result (λ fault. ((fault ≡ SettleFault.OutOfMemory) × (self.new ≡ self.old)) ⊎ (self.new.marked ≡ true)) }
         ensures later { S.fault_count self.old.store ≤ S.fault_count self.new.store }
+        ensures fine { OnOk result (S.fault_count self.new.store ≡ S.fault_count self.old.store) }
         ensures fault { IfErr result (λ fault. IsSettleFault fault (S.fault_count self.old.store) (S.fault_count self.new.store) (S.last_failed self.new.store)) }
     {
         let text = line(alloc, &block)?;

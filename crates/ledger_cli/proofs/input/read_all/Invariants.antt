@@ -1,4 +1,4 @@
-use Rattle.std.proofs.Common.{◌≤◌, ◌-◌, length}
+use Rattle.std.proofs.Common.{◌≡◌, ◌≤◌, ◌-◌, length}
 use Rattle.std.specs.Io.KnownBytes.{Consumes}
 use Rattle.ledger_cli.proofs.input.read_all.Given as goal
 
@@ -6,7 +6,7 @@ use Rattle.ledger_cli.proofs.input.read_all.Given as goal
 abbrev pub invariant-pieces : goal.invariant-pieces
 invariant-pieces g l = record {
   few : length l.all.items ≤ 16777217;
-  later : g.So.Source.fault_count l.initial.source ≤ g.So.Source.fault_count l.source;
+  fine : g.So.Source.fault_count l.source ≡ g.So.Source.fault_count l.initial.source;
   so_far : Consumes (g.So.Source.left l.initial.source) (g.So.Source.left l.source) l.all.items;
 }
 

@@ -1,10 +1,10 @@
-use Rattle.std.proofs.Common.{arith}
+use Rattle.std.proofs.Common.{◌∙◌, refl, arith}
 use Rattle.ledger_cli.proofs.Pieces.{appended}
 use Rattle.ledger_cli.proofs.output.write_all.Goals as goal
 
 pub pieces-preserved : goal.pieces-preserved
 pieces-preserved g c = record {
   within = omega (arith, c.in_ok-at.ensures.bound);
-  later = omega (arith, c.in_ok-at.ensures.cause.later);
+  fine = c.in_ok-at.ensures.cause.fine refl ∙ c.pieces.invariant.fine;
   so_far = appended (g.Si.Sink.written c.args.sink.now) (g.Si.Sink.written c.pieces.sink) (g.Si.Sink.written c.write.new.self) c.args.text.now c.pieces.at c.in_ok-at.field-0 c.pieces.invariant.so_far c.in_ok-at.ensures.bytes;
 }

@@ -1,4 +1,4 @@
-use Rattle.std.proofs.Common.{length, take, ◌-◌, ◌≤◌}
+use Rattle.std.proofs.Common.{◌≡◌, length, take, ◌-◌, ◌≤◌}
 use Rattle.std.specs.Io.KnownBytes.{Appends}
 use Rattle.ledger_cli.proofs.output.write_all.Given as goal
 
@@ -6,7 +6,7 @@ use Rattle.ledger_cli.proofs.output.write_all.Given as goal
 abbrev pub invariant-pieces : goal.invariant-pieces
 invariant-pieces g l = record {
   within : l.at ≤ length l.text;
-  later : g.Si.Sink.fault_count l.initial.sink ≤ g.Si.Sink.fault_count l.sink;
+  fine : g.Si.Sink.fault_count l.sink ≡ g.Si.Sink.fault_count l.initial.sink;
   so_far : Appends (g.Si.Sink.written l.initial.sink) (g.Si.Sink.written l.sink) (take l.at l.text);
 }
 

@@ -4,9 +4,8 @@ use Rattle.ledger_model.specs.Report.{report}
 use Rattle.ledger_model.specs.Script.{all_placed}
 use Rattle.ledger_claims.specs.Fits.{RunRecord}
 use Rattle.ledger_claims.specs.SoFar.{LeavesRun}
-use Rattle.ledger_core.specs.Faults.{IsSettleFault}
 use Rattle.ledger_core.specs.declared.keeping.SettleFault.{SettleFault}
-use Rattle.ledger_cli.specs.Runs.{Come, IsKept, IsRunning, come}
+use Rattle.ledger_cli.specs.Runs.{Come, IsKept, IsRunning, IsStop, come}
 use Rattle.ledger_cli.proofs.Running.{on_err, runs_same, runs_ended, stopped_leaves, cut_leaves, settled_leaves, kept_settled, fault_later}
 use Rattle.ledger_cli.specs.Judgements.{AreRunnable}
 use Rattle.ledger_model.specs.declared.script.Job.{Job}
@@ -41,7 +40,7 @@ returns-in_err-settle-clause-fault g c =
     let after = g.S.JournalStore.fault_count c.settle.new.self.store in
     let last = g.S.JournalStore.last_failed c.settle.new.self.store in
     let is : c.from_residual-in_err-settle.result ≡ Err c.in_err-settle.field-0.0 = search rules in
-    subst (λ (r : Result (List ℕ) SettleFault). IfErr r (λ why. IsSettleFault why before after last)) (sym is)
+    subst (λ (r : Result (List ℕ) SettleFault). IfErr r (λ why. IsStop why before after last)) (sym is)
     (fault_later c.in_err-settle.field-0.0 before _ after last c.run_sessions.ensures.later c.in_err-settle.ensures.fault)
 
 pub returns-in_err-text-clause-left : goal.returns-in_err-text-clause-left
@@ -63,7 +62,7 @@ returns-clause-done g c t runs =
     record {
       blocks = c.settle.new.self.standing.blocks;
       outcomes = c.run_sessions.new.outcomes.items;
-      fits = runs_ended t c.args.time _ c.settle.new.self.standing (g.S.JournalStore.fault_count c.settle.new.self.store) all c.settle.ensures.standing c.settle.ensures.later;
+      fits = runs_ended t c.args.time _ c.settle.new.self.standing (g.S.JournalStore.fault_count c.settle.new.self.store) all c.settle.ensures.standing c.in_ok-settle.ensures.fine;
       holding = c.in_ok-settle.ensures.holds;
       text_is = c.in_ok-text.ensures ∙ ap₂ (λ bs os. report bs os) c.blocks-2.ensures.blocks c.from_vec.ensures;
     }

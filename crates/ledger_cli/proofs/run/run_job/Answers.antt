@@ -7,7 +7,7 @@ pub returns-clause-runs : goal.returns-clause-runs
 returns-clause-runs g c t rest runs =
     let one : PlacedOutcome = record { place = c.args.place; outcome = c.attempt-outcome.result } in
     runs_on t c.args.time (record { place = c.args.place; job = c.args.job.now }) rest _ _ c.attempt-outcome.result c.written_on_one_line.ensures
-    c.attempt-outcome.ensures.attempted c.attempt-outcome.ensures.store c.attempt-outcome.ensures.later
+    c.attempt-outcome.ensures.attempted c.attempt-outcome.ensures.faults c.attempt-outcome.ensures.store c.attempt-outcome.ensures.later
     (c.keep.ensures ∙ ap (λ (x : List PlacedOutcome). x ++ one ∷ []) c.reserve.ensures.items) runs
 
 pub returns-clause-kept : goal.returns-clause-kept

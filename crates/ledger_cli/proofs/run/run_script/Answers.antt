@@ -44,5 +44,8 @@ returns-in-Err-clause-left g c =
 
 pub returns-in-Err-clause-fault : goal.returns-in-Err-clause-fault
 returns-in-Err-clause-fault g c =
+    let l = c.in-Err.fault.store in
+    let s = stored (g.S.JournalStore.bytes c.args.store) (g.S.JournalStore.bytes l) (g.S.JournalStore.synced c.args.store) (g.S.JournalStore.synced l) (g.S.JournalStore.fault_count c.args.store) (g.S.JournalStore.fault_count l) in
     rw c.unloaded.ensures.store
-    (unloaded_fault c.unloaded.result.report c.in-Err.fault.cause _ _ _ _ _ c.unloaded.ensures.report c.in-Err.ensures.returned.0 c.in-Err.ensures.cause)
+    (unloaded_fault c.unloaded.result.report c.in-Err.fault.cause s (g.S.JournalStore.last_failed l) c.unloaded.ensures.report c.in-Err.ensures.returned.0 c.in-Err.ensures.returned.1
+    c.in-Err.ensures.cause)

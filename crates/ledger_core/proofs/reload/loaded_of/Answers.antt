@@ -1,8 +1,7 @@
 use Rattle.std.proofs.Common.{◌≡◌, ◌∙◌, ◌^◌, ◌<◌, List, ap, subst}
 use Rattle.ledger_model.specs.declared.block.Block.{Block}
 use Rattle.ledger_model.specs.State.{state}
-use Rattle.ledger_claims.specs.Attempts.{mask_of}
-use Rattle.ledger_claims.specs.Fits.{greatest}
+use Rattle.ledger_claims.specs.Fits.{greatest, mask_of}
 use Rattle.ledger_core.specs.Catalogs.{Lists}
 use Rattle.ledger_core.proofs.Standings.{known, lines-end}
 use Rattle.ledger_core.proofs.reload.loaded_of.Goals as goal

@@ -12,5 +12,5 @@ pieces-preserved g c =
       within = search rules;
       bytes = search rules;
       synced = search rules;
-      later = search rules;
+      fine = search rules;
     }

@@ -9,7 +9,7 @@ invariant-pieces g l = record {
   within : length l.all.items ≤ l.size;
   bytes : g.S.JournalStore.bytes l.store ≡ g.S.JournalStore.bytes l.fn.store;
   synced : g.S.JournalStore.synced l.store ≡ g.S.JournalStore.synced l.fn.store;
-  later : g.S.JournalStore.fault_count l.fn.store ≤ g.S.JournalStore.fault_count l.store;
+  fine : g.S.JournalStore.fault_count l.store ≡ g.S.JournalStore.fault_count l.fn.store;
 }
 
 abbrev pub decreases-pieces : goal.decreases-pieces

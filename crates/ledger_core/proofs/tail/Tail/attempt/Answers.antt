@@ -5,7 +5,7 @@ use Rattle.ledger_claims.specs.Attempts.{next, ran_next}
 use Rattle.ledger_core.specs.declared.transaction.Ran.{Ran}
 use Rattle.ledger_core.specs.Transactions.{IsBegun, ran_of}
 use Rattle.ledger_core.proofs.Attempts.{aborted, can_make}
-use Rattle.ledger_core.proofs.Drawn.{IsDone, run_next, begun_next, commit_stands, commit_attempted, commit_leaves_store}
+use Rattle.ledger_core.proofs.Drawn.{IsDone, run_next, begun_next, commit_stands, commit_attempted, commit_faults, commit_leaves_store}
 use Rattle.ledger_core.proofs.tail.Tail.attempt.Goals as goal
 
 pub commit-requires : goal.commit-requires
@@ -31,7 +31,7 @@ returns-then-job-clause-attempted g c =
     let p : Placed = record { place = c.args.place; job = c.args.job.now } in
     let t = c.in-Ok-Done.transaction in
     let e = c.run_last.ensures.same ∙ c.in-Some.ensures.drawn in
-    aborted h.standing c.run_last.new.self.standing c.args.time p t c.in-Some.tx _ 0 0 c.in-Some.ensures.id (ap (λ x. x.standing) e)
+    aborted h.standing c.run_last.new.self.standing c.args.time p t c.in-Some.tx _ c.in-Some.ensures.id (ap (λ x. x.standing) e)
     (c.len-since.ensures ∙ ap length c.blocks-2.ensures.blocks ∙ ap (λ x. length x.standing.blocks) c.in-Some.ensures.drawn) c.if-job.true
     (subst (λ (r : Ran). ran_of r ≡ ran_next h.standing p) c.in-Ok-Done.field-0-is (run_next h _ p c.in-Ok-Done.field-0 _ c.in-Some.ensures.drawn c.as_slice.ensures c.in-Ok-Done.ensures.ran))
 
@@ -50,7 +50,7 @@ returns-else-job-clause-attempted g c =
       begun = subst (λ (r : Ran). IsBegun r (next h.standing)) c.in-Ok-Done.field-0-is (begun_next h _ c.in-Ok-Done.field-0 c.in-Some.ensures.drawn c.in-Ok-Done.ensures.begun);
       commits = c.if-job.false;
     } in
-    commit_attempted g.S.JournalStore.fault_count h c.run_last.new.self c.commit.new.self c.args.time p t c.in-Some.tx c.commit.result e d c.commit.ensures.commits
+    commit_attempted h c.run_last.new.self c.commit.new.self.standing c.args.time p t c.in-Some.tx c.commit.result e d c.commit.ensures.commits
 
 pub returns-else-job-clause-store : goal.returns-else-job-clause-store
 returns-else-job-clause-store g c =
@@ -67,7 +67,13 @@ returns-else-job-clause-store g c =
       begun = subst (λ (r : Ran). IsBegun r (next h.standing)) c.in-Ok-Done.field-0-is (begun_next h _ c.in-Ok-Done.field-0 c.in-Some.ensures.drawn c.in-Ok-Done.ensures.begun);
       commits = c.if-job.false;
     } in
-    commit_leaves_store g.S.JournalStore.bytes g.S.JournalStore.fault_count h c.run_last.new.self c.commit.new.self c.args.time p t c.in-Some.tx c.commit.result e d c.commit.ensures.commits c.commit.ensures.leaves
+    commit_leaves_store g.S.JournalStore.bytes h c.run_last.new.self c.commit.new.self.standing (g.S.JournalStore.bytes c.commit.new.self.store) c.args.time p t c.in-Some.tx c.commit.result e d
+    c.commit.ensures.commits c.commit.ensures.leaves
+
+pub returns-else-job-clause-faults : goal.returns-else-job-clause-faults
+returns-else-job-clause-faults g c =
+    commit_faults g.S.JournalStore.fault_count c.args.self.now c.run_last.new.self c.commit.result (g.S.JournalStore.fault_count c.commit.new.self.store)
+    (c.run_last.ensures.same ∙ c.in-Some.ensures.drawn) c.commit.ensures.faults
 
 pub returns-else-job-clause-stands : goal.returns-else-job-clause-stands
 returns-else-job-clause-stands g c =
@@ -84,5 +90,5 @@ returns-else-job-clause-stands g c =
       begun = subst (λ (r : Ran). IsBegun r (next h.standing)) c.in-Ok-Done.field-0-is (begun_next h _ c.in-Ok-Done.field-0 c.in-Some.ensures.drawn c.in-Ok-Done.ensures.begun);
       commits = c.if-job.false;
     } in
-    Attempted-IsStanding h.standing c.args.time p (g.S.JournalStore.fault_count h.store) c.commit.result c.commit.new.self.standing (g.S.JournalStore.fault_count c.commit.new.self.store) d.stands
-    (commit_attempted g.S.JournalStore.fault_count h c.run_last.new.self c.commit.new.self c.args.time p t c.in-Some.tx c.commit.result e d c.commit.ensures.commits)
+    Attempted-IsStanding h.standing c.args.time p c.commit.result c.commit.new.self.standing d.stands
+    (commit_attempted h c.run_last.new.self c.commit.new.self.standing c.args.time p t c.in-Some.tx c.commit.result e d c.commit.ensures.commits)
