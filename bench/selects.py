@@ -10,6 +10,7 @@ from pathlib import Path
 TOP = Path(__file__).resolve().parent.parent
 WORDS = ["run", "--plain-ids", "--at", "2020-01-01T00:00:00.000Z"]
 RUNS = 3
+REPEATS = 20
 ONE_TABLE = [4_000, 8_000, 16_000]
 TWO_TABLES = [200, 400, 800]
 OVER_ONE = {
@@ -50,10 +51,15 @@ def run(program, journal, text):
 
 def best(program, journal, text):
     runs = [run(program, journal, text) for _ in range(RUNS)]
-    return min(it[0] for it in runs), min(it[1] for it in runs), len(runs[0][2])
+    return min(it[0] for it in runs), min(it[1] for it in runs), runs[0][2]
 
 
-def measure(program, counts, statements):
+def given_up(statement, times):
+    """A transaction that says the statement so many times and is given up, since a block would have the answers."""
+    return f'[{{statements:[{",".join([chr(34) + statement + chr(34)] * times)}],end:abort}}]'.encode()
+
+
+def measure(program, counts, statements, times):
     for name, statement in statements.items():
         told = []
         for count in counts:
@@ -61,17 +67,16 @@ def measure(program, counts, statements):
                 journal = Path(folder) / "journal"
                 run(program, journal, documents(count))
                 loading, held, _ = best(program, journal, b"")
-                # what is selected is part of the block, so the select is given up
-                text = f'[{{statements:["{statement}"],end:abort}}]'.encode()
-                seconds, peak, _ = best(program, journal, text)
-            told.append(f"{count}: {(seconds - loading) * 1000:.0f} ms, {max(peak - held, 0):.1f} MB")
+                _, peak, _ = best(program, journal, given_up(statement, 1))
+                seconds, _, _ = best(program, journal, given_up(statement, times))
+            told.append(f"{count}: {(seconds - loading) / times * 1000:.1f} ms, {max(peak - held, 0):.1f} MB")
         print(f"{name} ({statement}): " + "; ".join(told), flush=True)
 
 
 def main():
     program = sys.argv[1] if len(sys.argv) > 1 else TOP / "crates" / "ledger" / "out" / "ledger"
-    measure(program, ONE_TABLE, OVER_ONE)
-    measure(program, TWO_TABLES, OVER_TWO)
+    measure(program, ONE_TABLE, OVER_ONE, REPEATS)
+    measure(program, TWO_TABLES, OVER_TWO, 1)
     return 0
 
 
