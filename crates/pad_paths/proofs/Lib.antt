@@ -1,0 +1,4 @@
+pub mod Next
+pub mod Pairs
+pub mod Folding
+pub mod Rows

@@ -1,0 +1,4 @@
+pub mod Inverses
+pub mod Chains
+pub mod Accepted
+pub mod Rows

@@ -1,0 +1,103 @@
+//! The parts of which the values of blocks and revisions are made.
+ghost use Rattle.std.specs.Prelude.{◌≡◌, [], ◌∷◌, ◌++◌, IfOk, OnOk};
+ghost use Rattle.ql_types.specs.Ids.{id_text};
+ghost use Rattle.ledger_model.specs.Values.{plain, field};
+ghost use Rattle.ledger_model.specs.Journal.{number, string, id_value, moment, structure, list, hash_value, address_value};
+
+use ion_values::{Body, Field, Fields, IonTime, OutOfMemory, Text, Value, Values};
+use lists::Sequence;
+use ql_types::{BlockAddress, Hash32, id_digits};
+use std::alloc::Global;
+
+/// A value without annotations.
+pub fn plain(alloc: Global, body: Body) -> Value
+    ensures { result ≡ plain body }
+{
+    Value {
+        annotations: Sequence::new(alloc),
+        body,
+    }
+}
+
+pub fn number(alloc: Global, n: u64) -> Value
+    ensures { result ≡ number n }
+{
+    plain(alloc, Body::Int(i128::from(n)))
+}
+
+pub fn string(alloc: Global, text: &Text) -> Result<Value, OutOfMemory>
+    ensures { IfOk result (λ v. v ≡ string text.now) }
+{
+    Ok(plain(alloc, Body::String(text.copy(alloc)?)))
+}
+
+/// The text of an id.
+fn id_text(alloc: Global, raw: u128) -> Result<Text, OutOfMemory>
+    ensures { IfOk result (λ text. text ≡ id_text raw) }
+{
+    let mut text = Text::new(alloc);
+    let digits = id_digits(raw);
+    'digits: for digit in &digits {
+        text.push(char::from(*digit))?;
+    }
+    Ok(text)
+}
+
+/// An id is a string of its text.
+pub fn id_value(alloc: Global, raw: u128) -> Result<Value, OutOfMemory>
+    ensures { IfOk result (λ v. v ≡ id_value raw) }
+{
+    Ok(plain(alloc, Body::String(id_text(alloc, raw)?)))
+}
+
+pub fn moment(alloc: Global, time: &IonTime) -> Value
+    ensures { result ≡ moment time.now }
+{
+    plain(alloc, Body::Timestamp(*time))
+}
+
+pub fn structure(alloc: Global, fields: Fields) -> Value
+    ensures { result ≡ structure fields }
+{
+    plain(alloc, Body::Struct(fields))
+}
+
+/// Puts a field behind the others.
+pub fn put(alloc: Global, fields: &mut Fields, name: &str, value: Value) -> Result<(), OutOfMemory>
+    ensures { OnOk result (fields.new ≡ fields.old ++ field name.now value ∷ []) }
+{
+    let name = Text::from_text(alloc, name)?;
+    fields.push(Field { name, value })
+}
+
+pub fn list(alloc: Global, values: Values) -> Value
+    ensures { result ≡ list values }
+{
+    plain(alloc, Body::List(values))
+}
+
+pub fn hash_value(alloc: Global, hash: &Hash32) -> Result<Value, OutOfMemory>
+    ensures { IfOk result (λ v. v ≡ hash_value hash.now) }
+{
+    let bytes = Sequence::from_slice(alloc, &hash.bytes)?;
+    Ok(plain(alloc, Body::Blob(bytes)))
+}
+
+pub fn address_value(alloc: Global, address: &BlockAddress) -> Result<Value, OutOfMemory>
+    ensures { IfOk result (λ v. v ≡ address_value address.now) }
+{
+    let mut fields = Sequence::new(alloc);
+    put(
+        alloc,
+        &mut fields,
+        "strandId",
+        id_value(alloc, address.strand.raw)?,
+    )?;
+    put(
+        alloc,
+        &mut fields,
+        "sequenceNo",
+        number(alloc, address.sequence),
+    )?;
+    Ok(structure(alloc, fields))
+}

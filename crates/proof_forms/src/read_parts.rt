@@ -1,0 +1,152 @@
+//! The parts of blocks that values spell.
+ghost use Rattle.std.specs.Prelude.{◌≡◌, ◌^◌};
+ghost use Rattle.std.specs.Option.{option_copied};
+ghost use Rattle.ledger_model.specs.Values.{string_in, list_in, fields_in};
+ghost use Rattle.block_form.specs.ReadBack as spec;
+
+use ion_values::{Body, Bytes, Field, Fields, IonTime, Text, Value, Values};
+use ql_types::{BlockAddress, Hash32, StrandId, id_read};
+
+/// The text of an unannotated string.
+pub fn string_in(v: &Value) -> Option<&Text>
+    ensures { option_copied result ≡ string_in v.now }
+{
+    if !v.annotations.is_empty() {
+        return None;
+    }
+    match &v.body {
+        Body::String(text) => Some(text),
+        _ => None,
+    }
+}
+
+/// The members of an unannotated list.
+pub fn list_in(v: &Value) -> Option<&Values>
+    ensures { option_copied result ≡ list_in v.now }
+{
+    if !v.annotations.is_empty() {
+        return None;
+    }
+    match &v.body {
+        Body::List(members) => Some(members),
+        _ => None,
+    }
+}
+
+/// The fields of an unannotated struct.
+pub fn fields_in(v: &Value) -> Option<&Fields>
+    ensures { option_copied result ≡ fields_in v.now }
+{
+    if !v.annotations.is_empty() {
+        return None;
+    }
+    match &v.body {
+        Body::Struct(fields) => Some(fields),
+        _ => None,
+    }
+}
+
+/// The bytes of an unannotated blob.
+fn blob_in(v: &Value) -> Option<&Bytes>
+    ensures { option_copied result ≡ spec.blob_in v.now }
+{
+    if !v.annotations.is_empty() {
+        return None;
+    }
+    match &v.body {
+        Body::Blob(bytes) => Some(bytes),
+        _ => None,
+    }
+}
+
+/// The number of an unannotated int of at most 64 bits without a sign.
+pub fn number_in(v: &Value) -> Option<u64>
+    ensures { result ≡ spec.number_in (2 ^ 64) v.now }
+{
+    if !v.annotations.is_empty() {
+        return None;
+    }
+    match &v.body {
+        Body::Int(number) => u64::try_from(*number).ok(),
+        _ => None,
+    }
+}
+
+/// The number of an unannotated int of at most 32 bits without a sign.
+pub fn small_number_in(v: &Value) -> Option<u32>
+    ensures { result ≡ spec.number_in (2 ^ 32) v.now }
+{
+    if !v.annotations.is_empty() {
+        return None;
+    }
+    match &v.body {
+        Body::Int(number) => u32::try_from(*number).ok(),
+        _ => None,
+    }
+}
+
+/// The moment of an unannotated timestamp.
+pub fn moment_in(v: &Value) -> Option<IonTime>
+    ensures { result ≡ spec.moment_in v.now }
+{
+    if !v.annotations.is_empty() {
+        return None;
+    }
+    match &v.body {
+        Body::Timestamp(time) => Some(*time),
+        _ => None,
+    }
+}
+
+/// The number of an id.
+pub fn id_in(v: &Value) -> Option<u128>
+    ensures { result ≡ spec.id_in v.now }
+{
+    let text = string_in(v)?;
+    id_read(text.as_str().as_bytes()).ok()
+}
+
+/// The hash of these bytes.
+fn hash_of_bytes(bytes: &[u8]) -> Option<Hash32>
+    ensures { result ≡ spec.hash_of_bytes bytes.now }
+{
+    if bytes.len() != 32 {
+        return None;
+    }
+    let mut hash = Hash32 { bytes: [0; 32] };
+    hash.bytes.copy_from_slice(bytes);
+    Some(hash)
+}
+
+#[tactic(auto, unfolding(block_form::specs::ReadBack::hash_in))]
+pub fn hash_in(v: &Value) -> Option<Hash32>
+    ensures { result ≡ spec.hash_in v.now }
+{
+    let bytes = blob_in(v)?;
+    hash_of_bytes(bytes.as_slice())
+}
+
+/// The value of a field of this name.
+pub fn named<'a>(field: &'a Field, name: &str) -> Option<&'a Value>
+    ensures { option_copied result ≡ spec.named name.now field.now }
+{
+    if field.name.as_str() == name {
+        Some(&field.value)
+    } else {
+        None
+    }
+}
+
+pub fn address_in(v: &Value) -> Option<BlockAddress>
+    ensures { result ≡ spec.address_in v.now }
+{
+    let [strand, sequence] = fields_in(v)?.as_slice() else {
+        return None;
+    };
+    let strand = id_in(named(strand, "strandId")?)?;
+    let sequence = number_in(named(sequence, "sequenceNo")?)?;
+    Some(BlockAddress {
+        strand: StrandId { raw: strand },
+        sequence,
+    })
+}

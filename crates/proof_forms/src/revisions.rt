@@ -1,0 +1,67 @@
+//! Revisions as values.
+ghost use Rattle.std.specs.Prelude.{◌≡◌, ◌++◌, IfOk, OnOk};
+ghost use Rattle.ledger_model.specs.Journal.{metadata_value, data_fields, revision_value};
+
+use crate::parts::{address_value, hash_value, id_value, moment, number, put, structure};
+use ion_values::{Fields, OutOfMemory, Value, copy};
+use ledger_model::{Content, Metadata, Revision};
+use lists::Sequence;
+use std::alloc::Global;
+
+fn metadata_value(alloc: Global, metadata: &Metadata) -> Result<Value, OutOfMemory>
+    ensures { IfOk result (λ v. v ≡ metadata_value metadata.now) }
+{
+    let mut fields = Sequence::new(alloc);
+    put(alloc, &mut fields, "id", id_value(alloc, metadata.id.raw)?)?;
+    put(
+        alloc,
+        &mut fields,
+        "version",
+        number(alloc, metadata.version),
+    )?;
+    put(alloc, &mut fields, "txTime", moment(alloc, &metadata.time))?;
+    put(
+        alloc,
+        &mut fields,
+        "txId",
+        id_value(alloc, metadata.tx.raw)?,
+    )?;
+    Ok(structure(alloc, fields))
+}
+
+/// Puts the field `data`, which a delete has not.
+fn put_data(alloc: Global, fields: &mut Fields, content: &Content) -> Result<(), OutOfMemory>
+    ensures { OnOk result (fields.new ≡ fields.old ++ data_fields content.now) }
+{
+    match content {
+        Content::Deleted => Ok(()),
+        Content::Kept(value) => put(alloc, fields, "data", copy(alloc, value)?),
+    }
+}
+
+/// The revision as a value.
+pub fn revision_value(alloc: Global, revision: &Revision) -> Result<Value, OutOfMemory>
+    ensures { IfOk result (λ v. v ≡ revision_value revision.now) }
+{
+    let mut fields = Sequence::new(alloc);
+    put(
+        alloc,
+        &mut fields,
+        "blockAddress",
+        address_value(alloc, &revision.address)?,
+    )?;
+    put(
+        alloc,
+        &mut fields,
+        "hash",
+        hash_value(alloc, &revision.hash)?,
+    )?;
+    put_data(alloc, &mut fields, &revision.content)?;
+    put(
+        alloc,
+        &mut fields,
+        "metadata",
+        metadata_value(alloc, &revision.metadata)?,
+    )?;
+    Ok(structure(alloc, fields))
+}

@@ -1,0 +1,17 @@
+//! Paths, seeds, digests and proofs, against rows that a separate program computed.
+#![tactic(auto)]
+
+#[cfg(test)]
+mod forged;
+#[cfg(test)]
+mod issued;
+#[cfg(test)]
+mod journals;
+#[cfg(test)]
+mod malformed;
+#[cfg(test)]
+mod seeds;
+#[cfg(test)]
+mod trees;
+#[cfg(test)]
+mod verdicts;
