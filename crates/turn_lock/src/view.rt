@@ -1,0 +1,36 @@
+//! What a pass knows. No value of these types is made.
+use std::collections::LinkedList;
+
+/// An entry of an own list, with its place in the history.
+pub struct Placed<E> {
+    pub place: u64,
+    pub entry: E,
+}
+
+/// A pass's name, how many passes were split from it, the beginning of the history that it has seen, and the entries that
+/// were made with it.
+pub struct Known<E> {
+    pub name: LinkedList<u64>,
+    pub splits: u64,
+    pub seen: LinkedList<E>,
+    pub own: LinkedList<Placed<E>>,
+}
+
+/// Whether a pass holds the turn.
+pub enum Turn<E> {
+    Away,
+    /// It got the turn, with a state that has these entries, and hasn't looked at the count yet.
+    Got(LinkedList<E>),
+    Held,
+    /// It holds the turn for good, and the state stands in the slot again.
+    Shut,
+}
+
+/// The view of a seat at the lock's table. Where it shows no opening, the seat is spent: nothing is known with it.
+pub struct View<E, O> {
+    pub opening: Option<O>,
+    pub me: Known<E>,
+    /// What it keeps from seats that were joined into it.
+    pub kept: LinkedList<Known<E>>,
+    pub turn: Turn<E>,
+}
