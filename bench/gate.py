@@ -184,7 +184,8 @@ def functions(crate, words):
     for line in run.stdout:
         if line.startswith("checked "):
             seconds = prover_below(run.pid)
-            rows.append((seconds - before, line.split()[1].rstrip(",")))
+            name = line.split()[1].rstrip(",")
+            rows.append((seconds - before, name if rows else f"the beginning, and {name}"))
             before = seconds
         elif not re.match(r"(fn|struct|enum|impl|statements) ", line):
             print(line, end="")
