@@ -73,7 +73,7 @@ pub fn work<R: Wait>(rt: &R, lock: &Turns<Tally>, pass: &mut Pass<Tally>, rounds
     }
 }
 
-// The lock with two passes of it.
+// The lock with two passes of it, which have met.
 fn two_passes(alloc: Global) -> Result<(Turns<Tally>, Vec<Pass<Tally>>), OutOfMemory>
     ensures { IfOk result (λ made. All (Rests IsRun made.0.table.shared.table_id tt) made.1.items × (vec_len made.1 ≡ 2)) }
 {
@@ -81,7 +81,8 @@ fn two_passes(alloc: Global) -> Result<(Turns<Tally>, Vec<Pass<Tally>>), OutOfMe
         return Err(OutOfMemory);
     };
     let mut passes = Vec::with_capacity(alloc, 2)?;
-    let second = lock.split(&mut first)?;
+    let mut second = lock.split(&mut first)?;
+    lock.meet(&mut first, &mut second)?;
     passes.push(first)?;
     passes.push(second)?;
     Ok((lock, passes))
