@@ -1,21 +1,8 @@
-pub mod DecimalDigits
 pub mod Firsts
 pub mod ItemTurns
 pub mod Known
-pub mod LayerTurns
-pub mod LexTurns
-pub mod Onward
-pub mod OpenedBrackets
-pub mod OpenedCalls
-pub mod OpenedPaths
-pub mod OpenedPredicates
-pub mod OpenedRelations
 pub mod OpenedSources
 pub mod OpenedStatements
-pub mod QuotedBytes
-pub mod Rank
 pub mod SourceTables
 pub mod SourceTurns
-pub mod StepTurns
-pub mod Steps
 mod ResolvedNames

@@ -12,14 +12,11 @@ use Rattle.pql_model.specs.Productions as productions
 use Rattle.pql_model.specs.Expressions.{constant_of, expression, free_path}
 use Rattle.pql_model.specs.Grammar as spec
 use Rattle.pql_model.specs.Grammar.{begins_history, conditioned, constant_or_not, source_of, table_or_path}
-use Rattle.pql_parse.specs.ClosedStatements.{alias, another, bounds, conditioned_source, const, end_bound, filter_of, from_clause, history_of, id_name, inner_joined, joined, name, plain_id_name, rooted_path, source, source_kind, source_there, sources}
-use Rattle.pql_parse.proofs.Onward.{same_cond, optional_opens, marked_opens}
+use Rattle.pql_parse.specs.ClosedStatements.{alias, another, bounds, conditioned_source, const, end_bound, filter_of, from_clause, history_of, id_name, inner_joined, joined, plain_id_name, rooted_path, source, source_kind, source_there, sources}
+use Rattle.pql_grammar.specs.Closed.{name}
+use Rattle.pql_grammar.proofs.Onward.{same_cond, optional_opens, marked_opens}
 
--- ---- names, constants and what may be left out
-
-pub name_opens : (r : Reader) → name r ≡ by_name (λ text. past (give text)) (name_of (token_of r)) r
-unfolding name
-name_opens r = refl
+-- ---- constants and what may be left out
 
 pub const_opens : (r : Reader) → const r ≡ constant_or_not (constant_of (token_of r)) r
 unfolding const

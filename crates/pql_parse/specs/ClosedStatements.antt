@@ -11,16 +11,12 @@ use Rattle.pql_model.specs.declared.statement.Setting.{Setting}
 use Rattle.pql_model.specs.declared.statement.Source.{Source}
 use Rattle.pql_model.specs.declared.statement.SourceKind.{SourceKind}
 use Rattle.pql_model.specs.declared.statement.Statement.{Statement}
-use Rattle.pql_model.specs.Productions as productions
 use Rattle.pql_model.specs.Productions.{Production, within}
 use Rattle.pql_model.specs.Expressions.{expression}
 use Rattle.pql_model.specs.Grammar as spec
 use Rattle.pql_parse.specs.Parts as parts
 
--- ---- names, constants and what may be left out
-
-unfoldable pub name : Production (List ℕ)
-name = productions.name
+-- ---- constants and what may be left out
 
 unfoldable pub const : Production Expr
 const = spec.const

@@ -1,9 +1,4 @@
-pub mod Closed
 pub mod ClosedStatements
-pub mod Fronts
-pub mod Gives
-pub mod Layers
-pub mod Lexing
 pub mod Parts
 pub mod Ruled
 pub mod Scoped

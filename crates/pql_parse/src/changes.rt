@@ -1,12 +1,12 @@
 //! What a writing statement does to documents.
 ghost use Rattle.pql_parse.specs.ClosedStatements as closed;
-ghost use Rattle.pql_parse.specs.Gives.{seen, Gives};
+ghost use Rattle.pql_grammar.specs.Gives.{seen, Gives};
 
-use crate::answer::ParseAnswer;
-use crate::expressions::expression;
-use crate::parser::Parser;
-use crate::paths::free_path;
 use lists::{Boxed, Sequence};
+use pql_grammar::answer::ParseAnswer;
+use pql_grammar::expressions::expression;
+use pql_grammar::parser::Parser;
+use pql_grammar::paths::free_path;
 use pql_model::{Change, Expr, ParseKind, Path, Role, Setting, Settings};
 
 /// SET, INSERT or REMOVE.

@@ -1,14 +1,14 @@
 ghost use Rattle.std.specs.Prelude.{◌≤◌, length};
 ghost use Rattle.pql_model.specs.Parse as spec;
-ghost use Rattle.pql_parse.specs.Gives.{GivesWhole};
+ghost use Rattle.pql_grammar.specs.Gives.{GivesWhole};
 
-use crate::answer::ParseAnswer;
-use crate::parser::Parser;
 use crate::rules::{broken, sources_of};
 use crate::statements::whole_statement;
-use crate::tokens::tokens;
 use lists::Sequence;
+use pql_grammar::answer::ParseAnswer;
+use pql_grammar::parser::Parser;
 use pql_model::{ParseKind, Place, Statement};
+use pql_tokens::tokens;
 use std::alloc::Global;
 
 /// How many bytes a text may have.

@@ -1,0 +1,11 @@
+pub mod LayerTurns
+pub mod Onward
+pub mod OpenedBrackets
+pub mod OpenedCalls
+pub mod OpenedNames
+pub mod OpenedPaths
+pub mod OpenedPredicates
+pub mod OpenedRelations
+pub mod Rank
+pub mod StepTurns
+pub mod Steps

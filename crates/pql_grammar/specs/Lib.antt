@@ -1,0 +1,5 @@
+pub mod Closed
+pub mod Fronts
+pub mod Gives
+pub mod Layers
+pub mod Parts
