@@ -22,7 +22,7 @@ abbrev pub magnitude : ℕ → List ℕ
 magnitude n = if n == 0 then [] else digits_of 256 256 0 n
 
 -- Int: the magnitude with the top bit of the first byte as sign, in front of which a zero byte goes where the bit is
--- taken. A positive zero has no bytes
+-- taken. That a positive zero has no bytes is the ledger's own rule
 abbrev pub int_field : Bool → ℕ → List ℕ
 int_field negative n =
     if (n == 0) && not negative then [] else digits_of 256 128 (if negative then 128 else 0) n

@@ -57,7 +57,7 @@ int_qualifier n = if is_below_zero n then 0x30 else 0x20
 abbrev pub is_negative_decimal : DecimalParts → Bool
 is_negative_decimal d = d.negative_zero || is_below_zero d.coefficient
 
--- the exponent and the coefficient; the positive zero with the exponent 0 has no bytes
+-- the exponent and the coefficient; that the positive zero with the exponent 0 has no bytes is the rule of Ion 1.0 ("5: Decimal")
 abbrev pub decimal_bytes : DecimalParts → List ℕ
 decimal_bytes d =
     if (unsigned_abs d.exponent == 0) && (unsigned_abs d.coefficient == 0) && not d.negative_zero then []
@@ -84,6 +84,10 @@ joined pieces = flat_map (λ piece. piece) pieces
 unfoldable pub field_digest : List ℕ → List ℕ → List ℕ
 field_digest name value = sha256 (symbol_bytes name ++ value)
 
+-- a struct, from the hashes of its fields
+abbrev pub struct_bytes : List (List ℕ) → List ℕ
+struct_bytes hashes = framed 0xD0 (escape (joined (in_order hashes)))
+
 -- one level, with each value inside already serialized, and each field hashed
 abbrev pub body_step : Body-F (List ℕ) (List ℕ) (List ℕ) → List ℕ
 body_step (Body-F.Null kind) = framed (null_qualifier kind) []
@@ -97,7 +101,7 @@ body_step (Body-F.Clob bytes) = scalar 0x90 bytes
 body_step (Body-F.Blob bytes) = scalar 0xA0 bytes
 body_step (Body-F.List values) = framed 0xB0 (joined values)
 body_step (Body-F.Sexp values) = framed 0xC0 (joined values)
-body_step (Body-F.Struct hashes) = framed 0xD0 (escape (joined (in_order hashes)))
+body_step (Body-F.Struct hashes) = struct_bytes hashes
 
 abbrev pub field_step : Field-F (List ℕ) (List ℕ) (List ℕ) → List ℕ
 field_step f = field_digest f.name f.value

@@ -7,10 +7,11 @@ use Rattle.ql_types.specs.declared.Hash.{Hash}
 use Rattle.ql_types.specs.declared.Hash.TheVariants.{Empty, Full}
 use Rattle.ql_types.specs.declared.Hash32.{Hash32}
 use Rattle.hash_forms.specs.PairHash.{dot32}
+use Rattle.hash_forms.specs.Serialize.{symbol_bytes}
 
--- the symbol pad as Ion Hash serializes it: its text between the type of symbols and the end mark
+-- the symbol `pad` as Ion Hash serializes it
 abbrev pub pad_form : List ℕ
-pad_form = 0x0B ∷ 0x70 ∷ codes "pad" ++ 0x0E ∷ []
+pad_form = symbol_bytes (codes "pad")
 
 -- what stands at each place that has no leaf
 unfoldable pub pad_hash : Hash32

@@ -1,2 +1,7 @@
-//! The definitions of pair hashes and padded hash trees, which the contracts of what hashes cite.
+//! The definitions of pair hashes, of the serialization of values and of padded hash trees, which the contracts of what
+//! hashes cite, and what holds of them.
 #![tactic(auto)]
+
+mod laws;
+
+pub use laws::{days_are_numbered, digits_tell_numbers, utc_dates_tell_instants};

@@ -1,6 +1,6 @@
 -- The numbers of ids and their texts, by the ledger's own rule: an id is a number that is written in
 -- 22 digits of base 62.
-use Rattle.std.specs.Prelude.{ℕ, zero, suc, ◌+◌, ◌-◌, ◌*◌, ◌/◌, ◌%◌, ◌^◌, bit_xor, Bool, nat_le, nat_lt, ◌==◌, ◌&&◌, ◌||◌, List, [], ◌∷◌, ◌++◌, slice_index, codes, length, Option, Some, None, if◌then◌else◌}
+use Rattle.std.specs.Prelude.{ℕ, zero, suc, ◌+◌, ◌-◌, ◌*◌, ◌/◌, ◌%◌, ◌^◌, bit_xor, Bool, nat_le, nat_lt, ◌==◌, ◌&&◌, ◌||◌, List, [], ◌∷◌, ◌++◌, slice_index, codes, fold, length, Option, Some, None, option_map, option_and_then, if◌then◌else◌}
 
 -- the number of the thing i that transaction n makes, 0 being the transaction itself, mixed with the mask
 abbrev pub raw_id : ℕ → ℕ → ℕ → ℕ
@@ -39,19 +39,23 @@ value_of byte =
     else if nat_le 97 byte && nat_le byte 122 then Some (byte - 61)
     else None
 
--- what digits spell whose number is `number`, where it fits 128 bits, and then the digits behind them
-abbrev pub fitting : ℕ → (ℕ → Option ℕ) → Option ℕ
-fitting number rest = if nat_lt number (2 ^ 128) then rest number else None
+-- the values of digits; None where a byte isn't a digit
+unfoldable pub values_of : List ℕ → Option (List ℕ)
+values_of [] = Some []
+values_of (byte ∷ bytes) = option_and_then (λ value. option_map (λ values. value ∷ values) (values_of bytes)) (value_of byte)
 
-abbrev pub behind : ℕ → Option ℕ → (ℕ → Option ℕ) → Option ℕ
-behind number None rest = None
-behind number (Some digit) rest = fitting (number * 62 + digit) rest
+-- the number of digits with these values, most significant first
+abbrev pub number_of : List ℕ → ℕ
+number_of values = fold (λ number value. number * 62 + value) 0 values
 
--- the number that digits spell behind others that spell `number`, most significant first
-unfoldable pub spelled : ℕ → List ℕ → Option ℕ
-spelled number [] = Some number
-spelled number (byte ∷ bytes) = behind number (value_of byte) (λ more. spelled more bytes)
+-- a number that fits 128 bits
+abbrev pub fitting : ℕ → Option ℕ
+fitting number = if nat_lt number (2 ^ 128) then Some number else None
 
--- the number of the id with this text: 22 digits whose number fits 128 bits
+-- the number that a text of digits spells, where it fits
+unfoldable pub spelled : List ℕ → Option ℕ
+spelled text = option_and_then (λ values. fitting (number_of values)) (values_of text)
+
+-- the number of the id with this text, which is 22 digits
 abbrev pub id_in : List ℕ → Option ℕ
-id_in text = if length text == 22 then spelled 0 text else None
+id_in text = if length text == 22 then spelled text else None

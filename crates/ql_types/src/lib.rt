@@ -133,7 +133,7 @@ fn with_digit(number: u128, value: u8) -> Option<u128>
 }
 
 /// The number of the id with this text, if there is one.
-#[tactic(auto, unfolding(crate::specs::Ids::spelled))]
+#[tactic(auto, unfolding(crate::proofs::Spelled::spelled_behind))]
 fn id_in(text: &[u8]) -> Option<u128>
     ensures { result ≡ id_in text.now }
 {

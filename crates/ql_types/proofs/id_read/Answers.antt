@@ -1,5 +1,5 @@
-use Rattle.std.proofs.Common.{◌≡◌, ◌≢◌, ℕ, ◌<◌, ◌^◌, Option, Some, None, Ok, Err, MatchResult, MatchOption, List, ok_or}
-use Rattle.ql_types.specs.Ids.{id_in, id_text}
+use Rattle.std.proofs.Common.{ℕ, Option, Some, None, MatchResult, MatchOption, ok_or}
+use Rattle.ql_types.specs.Ids.{id_in}
 use Rattle.ql_types.specs.declared.NotAnId.{NotAnId}
 use Rattle.ql_types.proofs.Spelled.{id_in-exact}
 use Rattle.ql_types.proofs.id_read.Goals as goal
