@@ -51,6 +51,10 @@ signs : read_utf8 1 (codes "(+-1 +info)") ≡ Ok (plain (body.Sexp (symbol (code
 unfolding lex lex_number is_spelled
 signs = refl
 
+sign_of_a_word : read_utf8 1 (codes "(+inf+1)") ≡ Ok (plain (body.Sexp (symbol (codes "+") ∷ symbol (codes "inf") ∷ symbol (codes "+") ∷ plain (body.Int (pos 1)) ∷ [])) ∷ [])
+unfolding lex lex_number is_spelled
+sign_of_a_word = refl
+
 operator_annotates : read_utf8 1 (codes "(+::-::a b)") ≡ Ok (plain (body.Sexp (noted (codes "+" ∷ codes "-" ∷ []) (body.Symbol (codes "a")) ∷ symbol (codes "b") ∷ [])) ∷ [])
 unfolding lex
 operator_annotates = refl
@@ -109,6 +113,14 @@ unclosed = refl
 floats : map (read_utf8 2) (codes "nan" ∷ codes "+inf" ∷ codes "(a-inf)" ∷ codes "null.float" ∷ codes "[a 2e5]" ∷ codes "{nan:a}" ∷ []) ≡ all_refused fault.FloatRefused (0 ∷ 0 ∷ 2 ∷ 0 ∷ 3 ∷ 1 ∷ [])
 unfolding lex lex_number
 floats = refl
+
+infinities : map (read_utf8 2) (codes "-inf" ∷ codes "[+inf,1]" ∷ codes "(-inf)" ∷ []) ≡ all_refused fault.FloatRefused (0 ∷ 1 ∷ 1 ∷ [])
+unfolding lex
+infinities = refl
+
+sign_outside : map (read_utf8 2) (codes "params+inf:" ∷ codes "+inf:" ∷ codes "[-infinite]" ∷ []) ≡ all_refused fault.BadToken (6 ∷ 0 ∷ 1 ∷ [])
+unfolding lex
+sign_outside = refl
 
 symbol_ids : map (read_utf8 0) (codes "$10" ∷ codes "a $1::b" ∷ codes "$ion_symbol_table::{" ∷ codes "a::$ion_symbol_table::b::{}" ∷ []) ≡ all_refused fault.SymbolIdRefused (0 ∷ 2 ∷ 19 ∷ 25 ∷ [])
 unfolding lex

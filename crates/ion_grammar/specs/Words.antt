@@ -1,12 +1,14 @@
 -- Words and operators (Ion 1.0, "Text encoding", null values, booleans, floats and symbols).
-use Rattle.std.specs.Prelude.{ℕ, ◌+◌, ◌==◌, ◌&&◌, ◌||◌, Bool, true, false, nat_le, length, List, [], ◌∷◌, take, drop, codes, Option, Some, None, if◌then◌else◌}
+use Rattle.std.specs.Prelude.{ℕ, ◌+◌, ◌==◌, ◌&&◌, ◌||◌, Bool, true, false, nat_le, length, List, [], ◌∷◌, take, drop, slice_get, codes, Option, Some, None, if◌then◌else◌}
 use Rattle.std.specs.Char.{is_ascii_digit, is_ascii_alphabetic, is_ascii_alphanumeric}
 use Rattle.std.specs.List.{prefix_len, list_any, list_all}
+use Rattle.std.specs.Option.{option_map_or}
 use Rattle.std.specs.Str.{bytes_eq}
 use Rattle.ion_values.specs.declared.fault.IonKind.TheVariants as fault
 use Rattle.ion_values.specs.declared.value.Kind.{Kind}
 use Rattle.ion_values.specs.declared.value.Kind.TheVariants as kind
 use Rattle.ion_grammar.specs.Blanks.{begins}
+use Rattle.ion_grammar.specs.Numbers.{is_stop}
 use Rattle.ion_grammar.specs.declared.Scalar.TheVariants as scalar
 use Rattle.ion_grammar.specs.declared.Token.TheVariants as token
 use Rattle.ion_grammar.specs.declared.Lexed.{Lexed}
@@ -77,9 +79,13 @@ lex_word z =
 abbrev pub is_operator : ℕ → Bool
 is_operator b = list_any (λ o. o == b) (codes "!#%&*+-./;<=>?@^`|~")
 
--- a sign and the word `inf`
+-- the text ends here, or a stop stands here, as behind a number
+abbrev pub is_end_at : ℕ → List ℕ → Bool
+is_end_at n z = option_map_or is_stop (slice_get z n) true
+
+-- a sign and `inf` are a number
 abbrev pub is_infinity : List ℕ → Bool
-is_infinity z = (begins (codes "+inf") z || begins (codes "-inf") z) && prefix_len is_word_char (drop 1 z) == 3
+is_infinity z = (begins (codes "+inf") z || begins (codes "-inf") z) && is_end_at 4 z
 
 abbrev pub lex_operator : List ℕ → Lexed
 lex_operator z =

@@ -41,7 +41,7 @@ fn bytes_before_stop(bytes: &[u8]) -> usize
 }
 
 /// Whether a number ends before this byte.
-fn is_stop(b: u8) -> bool
+pub fn is_stop(b: u8) -> bool
     ensures { result ≡ is_stop b }
 {
     matches!(

@@ -5,6 +5,7 @@ ghost use Rattle.ion_grammar.specs.Words.{begins_word, is_word_char, kind_of, nu
 ghost use Rattle.ion_grammar.specs.Spans.{span_of};
 
 use crate::ascii::ascii;
+use crate::number::is_stop;
 use ion_grammar::{Lexed, Scalar, Token};
 use ion_values::{IonKind, Kind, OutOfMemory};
 use std::alloc::Global;
@@ -196,12 +197,15 @@ pub fn is_operator(b: u8) -> bool
     b"!#%&*+-./;<=>?@^`|~".contains(&b)
 }
 
-/// Whether a sign and the word `inf` stand in front.
+/// Whether a sign and `inf` stand in front, with a stop or nothing behind them.
 fn is_infinity(bytes: &[u8]) -> bool
-    requires { 0 < length bytes.now }
     ensures { result ≡ is_infinity bytes.now }
 {
-    let (_, rest) = bytes.split_at(1);
-    (bytes.starts_with(b"+inf".as_slice()) || bytes.starts_with(b"-inf".as_slice()))
-        && word_chars(rest) == 3
+    if !bytes.starts_with(b"+inf".as_slice()) && !bytes.starts_with(b"-inf".as_slice()) {
+        return false;
+    }
+    match bytes.get(4) {
+        Some(behind) => is_stop(*behind),
+        None => true,
+    }
 }
