@@ -9,8 +9,8 @@ use Rattle.ledger_claims.specs.Fits.{RunRecord, made, HaveTimes, Before, IsOfSom
 use Rattle.ledger_claims.specs.Attempts.{IsNextBlock}
 use Rattle.ledger_claims.specs.SoFar.{IsBehind, AreBehind, SoFar, standing}
 use Rattle.ledger_claims.proofs.Lists.{all_append, all_mapped, Contains_seam, whole, begins_on, drop_on}
-use Rattle.ledger_claims.proofs.Histories.{Legal-more, times_more, once_more}
-use Rattle.ledger_claims.proofs.NextBlocks.{next-IsAt, next-Means, next-time, next-place, next-IsOfJob}
+use Rattle.ledger_claims.proofs.Histories.{Legal-more, strand_more, times_more, once_more}
+use Rattle.ledger_claims.proofs.NextBlocks.{next-Means, next-strand, next-time, next-place, next-IsOfJob}
 use Rattle.ledger_claims.proofs.Growing.{grown}
 
 -- ---- no block more
@@ -20,6 +20,7 @@ pub FitsBlocks-same : (t : RunRecord) (outcomes : List PlacedOutcome) (closed : 
 FitsBlocks-same t outcomes closed h = record {
   begins = h.begins;
   undamaged = h.undamaged;
+  strand = h.strand;
   serial = h.serial;
   times = h.times;
   of_jobs = h.of_jobs;
@@ -65,7 +66,8 @@ module _ (t : RunRecord) (p : Placed) (b : Block) (last : ℕ) (h : FitsBlocks t
   FitsBlocks-more outcomes closed among behind = record {
     begins = begins_on t.before t.after (b ∷ []) h.begins;
     undamaged = next.undamaged;
-    serial = Legal-more t.mask t.before t.after b h.begins h.serial (next-IsAt (standing t last) t.time p b next) (next-Means (standing t last) t.time p b next);
+    strand = strand_more t.mask t.after b h.strand (next-strand (standing t last) t.time p b next);
+    serial = Legal-more t.mask t.before t.after b h.begins h.serial (next-Means (standing t last) t.time p b next);
     times = times_on;
     of_jobs = of_jobs_on among;
     once = once_on behind;

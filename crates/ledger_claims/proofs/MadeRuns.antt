@@ -1,6 +1,6 @@
 -- A transaction's statements keep what holds of it so far.
 use Rattle.std.proofs.Common.{◌≡◌, ◌<◌, ◌+◌, ◌^◌, ℕ, Bool, true, false, List, [], ◌∷◌, ◌++◌, length, Option, Some, None, Result, Ok, Err, refl, sym, subst, append-nil, append_assoc, arith, if◌then◌else◌}
-use Rattle.std.specs.Prelude.{is_none, nat_le, nat_lt, codes}
+use Rattle.std.specs.Prelude.{is_none, option_map, nat_le, nat_lt, codes}
 use Rattle.std.specs.List.{AllByRecursion}
 use Rattle.std.proofs.lemmas.Bool.{ltb-true, leb-true, leb-false}
 use Rattle.ion_values.specs.Depth.{depth_of}
@@ -24,7 +24,7 @@ use Rattle.ledger_model.specs.declared.outcome.Refusal.TheVariants.{TooManyTable
 use Rattle.ledger_model.specs.Values.{is_struct, kind_of}
 use Rattle.ledger_model.specs.State.{State, Table}
 use Rattle.ledger_model.specs.Statements.{Served, create_table, insert_into, select_from, served_of}
-use Rattle.ledger_model.specs.Run.{Begun, Progress, Effect, Ran, ran, refused, next_id, is_shallow, is_small, told_depth, first_deep, has_room, not_stored, active_count, created_count, no_table_more, unless, and_then, changed_by, tables_now, table_now, reserved, on_table, existing, created, documents_in, new_document, stored, if_documents, inserted, first_absent, rows_in, views_of, selected, effect_of, if_read, if_shallow, recorded, step, then_run, run_from, run, start}
+use Rattle.ledger_model.specs.Run.{Begun, Progress, Effect, Ran, ran, refused, unserved, next_id, is_shallow, is_small, told_depth, first_deep, has_room, not_stored, active_count, created_count, no_table_more, unless, and_then, changed_by, tables_now, table_now, reserved, on_table, existing, created, documents_in, new_document, stored, if_documents, inserted, first_absent, rows_in, views_of, selected, effect_of, if_shallow, recorded, done_by, step, then_run, run_from, run, start}
 use Rattle.ledger_model.specs.Whole.{id_fits}
 use Rattle.ledger_model.specs.Follows.{created_ids, has_table}
 use Rattle.ledger_claims.proofs.MadeLists.{all_append, all_push, all_like, differ_rest}
@@ -204,11 +204,12 @@ module _ (mask number limit : ℕ) (s : State) (sound : Sound mask limit s) (mas
   leaves_effect p params text (insert_into name value) m given e = leaves_insert p params name value m
   leaves_effect p params text (select_from select from) m given e = leaves_select p params text select from m given e
 
-  abbrev Keeps : Result Progress Refusal → Type 0
-  Keeps (Ok q) = FineProgress q
-  Keeps (Err cause) = Unit {0}
+  abbrev Keeps : Option (Result Progress Refusal) → Type 0
+  Keeps (Some (Ok q)) = FineProgress q
+  Keeps (Some (Err cause)) = Unit {0}
+  Keeps None = Unit {0}
 
-  recorded_keeps : (p : Progress) (r : Request) → FineProgress p → first_deep r.params ≡ None → (x : Result Effect Refusal) → Leaves p x → Keeps (recorded p r x)
+  recorded_keeps : (p : Progress) (r : Request) → FineProgress p → first_deep r.params ≡ None → (x : Result Effect Refusal) → Leaves p x → Keeps (Some (recorded p r x))
   recorded_keeps p r so e (Err cause) h = tt
   recorded_keeps p r so e (Ok effect) h = record {
     said = all_push ShallowSaid p.said _ so.said (record { params = params_shallow r.params e; rows = h.rows });
@@ -216,14 +217,15 @@ module _ (mask number limit : ℕ) (s : State) (sound : Sound mask limit s) (mas
   }
 
   shallow_keeps : (p : Progress) (r : Request) → FineProgress p → (o : Option ℕ) → first_deep r.params ≡ o → (x : Result Effect Refusal)
-      → (AllByRecursion (Shallow 64) r.params → Leaves p x) → Keeps (recorded p r (if_shallow o x))
+      → (AllByRecursion (Shallow 64) r.params → Leaves p x) → Keeps (Some (recorded p r (if_shallow o x)))
   shallow_keeps p r so (Some depth) e x h = tt
   shallow_keeps p r so None e x h = recorded_keeps p r so e x (h (params_shallow r.params e))
 
-  read_keeps : (p : Progress) (r : Request) → FineProgress p → (x : Result Served Refusal) → Reads r.text x
-      → Keeps (recorded p r (if_read (λ st. if_shallow (first_deep r.params) (effect_of begun s p r.params st)) x))
-  read_keeps p r so (Err cause) h = tt
-  read_keeps p r so (Ok st) h =
+  read_keeps : (p : Progress) (r : Request) → FineProgress p → (x : Option (Result Served Refusal)) → Reads r.text x
+      → Keeps (option_map (done_by begun s p r) x)
+  read_keeps p r so None h = tt
+  read_keeps p r so (Some (Err cause)) h = tt
+  read_keeps p r so (Some (Ok st)) h =
       shallow_keeps p r so (first_deep r.params) refl (effect_of begun s p r.params st) (λ given. leaves_effect p r.params r.text st so.made given h)
 
   step_keeps : (p : Progress) (r : Request) → FineProgress p → Keeps (step begun s p r)
@@ -234,10 +236,12 @@ module _ (mask number limit : ℕ) (s : State) (sound : Sound mask limit s) (mas
   abbrev Ends : Ran → Type 0
   Ends (ran q) = FineProgress q
   Ends (refused j cause) = Unit {0}
+  Ends unserved = Unit {0}
 
-  then_keeps : (j : ℕ) (rest : Progress → Ran) → ((q : Progress) → FineProgress q → Ends (rest q)) → (x : Result Progress Refusal) → Keeps x → Ends (then_run j x rest)
-  then_keeps j rest f (Ok q) h = f q h
-  then_keeps j rest f (Err cause) h = tt
+  then_keeps : (j : ℕ) (rest : Progress → Ran) → ((q : Progress) → FineProgress q → Ends (rest q)) → (x : Option (Result Progress Refusal)) → Keeps x → Ends (then_run j x rest)
+  then_keeps j rest f (Some (Ok q)) h = f q h
+  then_keeps j rest f (Some (Err cause)) h = tt
+  then_keeps j rest f None h = tt
 
   run_from-keeps : (rs : List Request) (j : ℕ) (p : Progress) → FineProgress p → Ends (run_from begun s j p rs)
   run_from-keeps [] j p so = so

@@ -1,6 +1,5 @@
 -- What holds of the block that a job becomes as the next transaction.
-use Rattle.std.proofs.Common.{◌≡◌, suc, ◌+◌, List, [], ◌∷◌, length, map, refl, sym, ap, subst, ◌∙◌}
-use Rattle.std.specs.List.{AllByRecursion}
+use Rattle.std.proofs.Common.{◌≡◌, ◌+◌, List, [], ◌∷◌, map, refl, sym, ap, subst, ◌∙◌}
 use Rattle.ion_values.specs.declared.time.TimeParts.{TimeParts}
 use Rattle.ql_types.specs.Ids.{raw_id}
 use Rattle.ql_types.specs.declared.Place.{Place}
@@ -10,7 +9,7 @@ use Rattle.ledger_model.specs.declared.block.Header.{Header}
 use Rattle.ledger_model.specs.declared.script.Request.{Request}
 use Rattle.ledger_model.specs.State.{state, draft_of, recorded_in}
 use Rattle.ledger_model.specs.Run.{Begun, Progress, run, ran, final_revisions}
-use Rattle.ledger_model.specs.Legal.{asked_in, last_hash, IsOfBlock, IsAt, Means}
+use Rattle.ledger_model.specs.Legal.{asked_in, Means}
 use Rattle.ledger_model.specs.Making.{block_of, header_of, revision_of, time_behind}
 use Rattle.ledger_model.specs.Script.{Placed}
 use Rattle.ledger_model.proofs.SaidLemmas.{said_of_run}
@@ -19,14 +18,6 @@ use Rattle.ledger_claims.specs.Attempts.{Standing, IsNextBlock, next}
 
 -- ---- its revisions
 
-length-of : {A B : Type 0} (f : A → B) (xs : List A) → length xs ≡ length (map f xs)
-length-of f [] = refl
-length-of f (x ∷ xs) = ap (λ n. suc n) (length-of f xs)
-
-each_of_block : (h : Header) (ds : List Draft) → AllByRecursion (IsOfBlock h) (map (revision_of h) ds)
-each_of_block h [] = tt
-each_of_block h (d ∷ ds) = (record { address = refl; time = refl; tx = refl; hash = refl }, each_of_block h ds)
-
 drafts_again : (h : Header) (ds : List Draft) → map draft_of (recorded_in (map (λ d. d.table) ds) (map (revision_of h) ds)) ≡ ds
 drafts_again h [] = refl
 drafts_again h (d ∷ ds) = ap (λ xs. d ∷ xs) (drafts_again h ds)
@@ -34,20 +25,6 @@ drafts_again h (d ∷ ds) = ap (λ xs. d ∷ xs) (drafts_again h ds)
 -- ---- what its statements make it
 
 module _ (b : Begun) (before : List Block) (place : Place) (time : TimeParts) (p : Progress) where
-  block-IsAt : IsAt b.mask (length before) (last_hash b.mask before) (block_of b before place time p)
-  block-IsAt =
-      let drafts = final_revisions p in
-      let header = header_of b before time drafts in
-      record {
-        strand_is = refl;
-        sequence_is = refl;
-        previous_is = refl;
-        seals = refl;
-        count = length-of (revision_of header) drafts;
-        tables = sym (length-of (λ d. d.table) drafts) ∙ length-of (revision_of header) drafts;
-        of_block = each_of_block header drafts;
-      }
-
   block-Means : (asked : List Request) → run b (state before) asked ≡ ran p → Means b.mask (state before) (block_of b before place time p)
   block-Means asked all = record {
     number = b.number;
@@ -65,11 +42,6 @@ module _ (s : Standing) (time : TimeParts) (p : Placed) (b : Block) (is : IsNext
 
   block_is : b ≡ of_progress is.made.progress
   block_is = is.made.block_is
-
-  pub next-IsAt : IsAt s.mask (length s.blocks) (last_hash s.mask s.blocks) b
-  next-IsAt =
-      subst (λ (x : Block). IsAt s.mask (length s.blocks) (last_hash s.mask s.blocks) x) (sym block_is)
-      (block-IsAt (next s) s.blocks p.place time is.made.progress)
 
   pub next-Means : Means s.mask (state s.blocks) b
   next-Means =

@@ -4,10 +4,10 @@ use Rattle.std.specs.List.{AllByRecursion}
 use Rattle.ledger_model.specs.declared.block.Block.{Block}
 use Rattle.ledger_model.specs.declared.outcome.Outcome.{Outcome}
 use Rattle.ledger_model.specs.Damages.{Undamaged}
-use Rattle.ledger_model.specs.Legal.{LegalFrom, last_hash}
+use Rattle.ledger_model.specs.Legal.{LegalFrom}
 use Rattle.ledger_model.specs.State.{state}
 use Rattle.ledger_model.specs.Script.{Placed}
-use Rattle.ledger_claims.specs.Fits.{RunRecord, Fits, FitsBlocks, HaveTimes, IsOfSomeJob, InSessionOrder, EachHolds, greatest}
+use Rattle.ledger_claims.specs.Fits.{RunRecord, Fits, FitsBlocks, HaveTimes, IsOfSomeJob, InSessionOrder, EachHolds, greatest, mask_of}
 use Rattle.ledger_claims.specs.Attempts.{Standing, IsStanding, Attempted, TellsFaults}
 use Rattle.ledger_claims.specs.SoFar.{InOrder, AreBehind, SoFar, standing, extended}
 use Rattle.ledger_claims.proofs.NewOutcomes.{extends}
@@ -22,24 +22,25 @@ found t = record t { after = t.before; outcomes = [] }
 none_made : (bs : List Block) → [] ≡ drop (length bs) bs
 none_made bs = sym (drop_of_length-le bs {i = length bs} (omega arith))
 
-found-FitsBlocks : (t : RunRecord) → Undamaged t.before → FitsBlocks (found t)
-found-FitsBlocks t undamaged =
+found-FitsBlocks : (t : RunRecord) → Undamaged t.before → mask_of t.mask t.before ≡ t.mask → FitsBlocks (found t)
+found-FitsBlocks t undamaged strand =
     let front : List Block = take (length t.before) t.before in
     record {
       begins = take_all (length t.before) t.before (omega arith);
       undamaged = undamaged;
-      serial = subst (λ (x : List Block). LegalFrom t.mask (length t.before) (last_hash t.mask front) (state front) x) (none_made t.before) tt;
+      strand = strand;
+      serial = subst (λ (x : List Block). LegalFrom t.mask (state front) x) (none_made t.before) tt;
       times = subst (λ (x : List Block). HaveTimes t.time t.before x) (none_made t.before) tt;
       of_jobs = subst (λ (x : List Block). AllByRecursion (IsOfSomeJob t.jobs) x) (none_made t.before) tt;
       once = subst (λ (x : List Block). InSessionOrder x) (none_made t.before) tt;
     }
 
-found-SoFar : (t : RunRecord) (last : ℕ) → InOrder t.jobs → Undamaged t.before → t.closed ≡ t.opened → last ≡ greatest t.mask t.before
-    → SoFar (found t) [] t.jobs last
-found-SoFar t last order undamaged opens is = record {
+found-SoFar : (t : RunRecord) (last : ℕ) → InOrder t.jobs → Undamaged t.before → mask_of t.mask t.before ≡ t.mask → t.closed ≡ t.opened
+    → last ≡ greatest t.mask t.before → SoFar (found t) [] t.jobs last
+found-SoFar t last order undamaged strand opens is = record {
   jobs = refl;
   in_order = order;
-  blocks = found-FitsBlocks t undamaged;
+  blocks = found-FitsBlocks t undamaged strand;
   behind = subst (λ (x : List Block). AreBehind x t.jobs) (none_made t.before) tt;
   outcomes = tt;
   numbers = refl;
@@ -57,8 +58,9 @@ pub starts : (t : RunRecord) (s : Standing) → InOrder t.jobs → t.after ≡ t
     → IsStanding s → s.blocks ≡ t.before → s.mask ≡ t.mask → s.last ≡ greatest t.mask t.before → SoFar t [] t.jobs s.last
 starts t s order same none opens is blocks masks last =
     let undamaged : Undamaged t.before = subst (λ (x : List Block). Undamaged x) blocks is.undamaged in
+    let strand : mask_of t.mask t.before ≡ t.mask = (λ i. mask_of (sym masks i) (sym blocks i)) ∙ is.strand ∙ masks in
     let as_found : found t ≡ t = λ i. record t { after = sym same i; outcomes = sym none i } in
-    subst (λ (x : RunRecord). SoFar x [] t.jobs s.last) as_found (found-SoFar t s.last order undamaged opens last)
+    subst (λ (x : RunRecord). SoFar x [] t.jobs s.last) as_found (found-SoFar t s.last order undamaged strand opens last)
 
 -- ---- from one job to the next
 

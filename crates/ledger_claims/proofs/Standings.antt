@@ -10,6 +10,7 @@ use Rattle.ledger_model.specs.Damages.{Undamaged}
 use Rattle.ledger_model.specs.Script.{Placed}
 use Rattle.ledger_claims.specs.Fits.{greatest, mask_of}
 use Rattle.ledger_claims.specs.Attempts.{Standing, IsStanding, IsNext, IsNextBlock, Seals, Draws, Attempted}
+use Rattle.ledger_claims.proofs.Histories.{strand_more}
 use Rattle.ledger_claims.proofs.NextBlocks.{next-id, next-strand}
 use Rattle.ledger_claims.proofs.Numbers.{greatest-append, transaction_of_id}
 
@@ -23,10 +24,6 @@ kept-IsStanding s now is masks same later counted =
       drawn = omega (arith, is.drawn);
       counted = counted;
     }
-
-strand_more : (mask : ℕ) (bs : List Block) (b : Block) → mask_of mask bs ≡ mask → b.header.address.strand.raw ≡ mask → mask_of mask (bs ++ b ∷ []) ≡ mask
-strand_more mask [] b is own = own
-strand_more mask (c ∷ cs) b is own = is
 
 -- with one block more
 sealed-IsStanding : (s : Standing) (time : TimeParts) (p : Placed) (b : Block) → IsStanding s → IsNextBlock s time p b

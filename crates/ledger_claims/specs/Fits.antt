@@ -67,10 +67,11 @@ abbrev pub InSessionOrder : List Block → Type 0
 InSessionOrder [] = Unit {0}
 InSessionOrder (b ∷ bs) = AllByRecursion (Before b.info.place) bs × InSessionOrder bs
 
--- the blocks are a history of the script's jobs: what holds of them whatever is told
+-- the blocks are a history of the script's jobs, on the strand of the mask: what holds of them whatever is told
 pub record FitsBlocks (t : RunRecord) : Type 0 where
   pub begins : take (length t.before) t.after ≡ t.before
   pub undamaged : Undamaged t.after
+  pub strand : mask_of t.mask t.after ≡ t.mask
   pub serial : Legal t.mask t.after (length t.before)
   pub times : HaveTimes t.time t.before (made t)
   pub of_jobs : AllByRecursion (IsOfSomeJob t.jobs) (made t)
@@ -239,7 +240,8 @@ EachHolds t done (p ∷ ps) (o ∷ os) =
 EachHolds t done [] (o ∷ os) = ⊥
 EachHolds t done (p ∷ ps) [] = ⊥
 
--- the run's blocks and outcomes fit; no two transactions have one id, and each failure of the store was told by one outcome alone
+-- The blocks and the outcomes of the run fit. No two transactions have one id, no two outcomes tell one count of failures, and at
+-- the end the store has failed as often as the last failure that is told says, or as at the beginning.
 pub record Fits (t : RunRecord) : Type 0 where
   pub blocks : FitsBlocks t
   pub outcomes : EachHolds t [] t.jobs t.outcomes

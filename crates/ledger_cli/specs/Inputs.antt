@@ -1,5 +1,5 @@
 -- How often a source failed while an input was read.
-use Rattle.std.specs.Prelude.{◌≡◌, ℕ, ◌<◌, Result, Ok, Err}
+use Rattle.std.specs.Prelude.{◌≡◌, ℕ, ◌<◌, Result, Err}
 use Rattle.ledger_cli.specs.declared.input.InputFault.{InputFault}
 use Rattle.ledger_cli.specs.declared.input.InputFault.TheVariants.{Failed}
 

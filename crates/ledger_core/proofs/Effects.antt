@@ -14,6 +14,9 @@ use Rattle.ledger_model.specs.Run.{Begun, Progress, Effect, changed_by, created,
 use Rattle.ledger_model.specs.Script.{or_else}
 use Rattle.ledger_core.specs.declared.catalog.Catalog.{Catalog}
 use Rattle.ledger_core.specs.Catalogs.{Lists}
+use Rattle.ledger_core.specs.Stops.{Ends, EndsServed}
+use Rattle.ledger_core.specs.declared.stopped.Stopped.{Stopped}
+use Rattle.ledger_core.specs.declared.stopped.Stopped.TheVariants.{Refused, OutOfMemory}
 use Rattle.ledger_core.specs.Transactions.{found, not_created, table_in, tables_in}
 
 -- ---- what is said and added
@@ -61,3 +64,11 @@ on-found name None table f is = let bad : ⊥ = cc in absurd bad
 pub on-none : (name : List ℕ) (t : Option TableId) (cause : Refusal) (f : TableId → Result Effect Refusal) → found name t ≡ Err cause → on_table name t f ≡ Err cause
 on-none name (Some there) cause f is = let bad : ⊥ = cc in absurd bad
 on-none name None cause f is = let e : Err cause ≡ found name None = sym is in cc
+
+-- ---- a statement that is served
+
+pub ends-served : {A : Type 0} (r : Result A Stopped) (after : Progress) (done : Result Progress Refusal) (wanted : Option (Result Progress Refusal)) → wanted ≡ Some done
+    → Ends r after done → EndsServed r after wanted
+ends-served (Ok x) after done wanted is ends = is ∙ ap Some ends
+ends-served (Err (Refused cause)) after done wanted is ends = is ∙ ap Some ends
+ends-served (Err OutOfMemory) after done wanted is ends = tt

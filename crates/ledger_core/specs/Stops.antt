@@ -1,5 +1,5 @@
 -- How a part of a statement comes out where it may be stopped.
-use Rattle.std.specs.Prelude.{◌≡◌, Result, Ok, Err}
+use Rattle.std.specs.Prelude.{◌≡◌, Option, Some, Result, Ok, Err}
 use Rattle.ledger_model.specs.declared.outcome.Refusal.{Refusal}
 use Rattle.ledger_model.specs.Run.{Progress}
 use Rattle.ledger_core.specs.declared.stopped.Stopped.{Stopped}
@@ -24,3 +24,8 @@ Gives (Err stopped) after wanted = StopsFor stopped (λ cause. wanted ≡ Err ca
 abbrev pub Ends : {A : Type 0} → Result A Stopped → Progress → Result Progress Refusal → Type 0
 Ends (Ok done) after wanted = wanted ≡ Ok after
 Ends (Err stopped) after wanted = StopsFor stopped (λ cause. wanted ≡ Err cause)
+
+-- the same where a statement may be one that isn't served so far, which isn't done
+abbrev pub EndsServed : {A : Type 0} → Result A Stopped → Progress → Option (Result Progress Refusal) → Type 0
+EndsServed (Ok done) after wanted = wanted ≡ Some (Ok after)
+EndsServed (Err stopped) after wanted = StopsFor stopped (λ cause. wanted ≡ Some (Err cause))

@@ -1,5 +1,5 @@
 -- What a transaction in memory stands for, and how its statements end.
-use Rattle.std.specs.Prelude.{◌≡◌, ℕ, List, Option, Some, None, Result, Ok, Err}
+use Rattle.std.specs.Prelude.{◌≡◌, ℕ, List, Option, Some, None, option_map, Result, Ok, Err}
 use Rattle.ql_types.specs.declared.TableId.{TableId}
 use Rattle.pql_model.specs.declared.statement.Statement.{Statement}
 use Rattle.ledger_model.specs.declared.block.Schema.{Schema}
@@ -11,7 +11,7 @@ use Rattle.ledger_model.specs.State as state
 use Rattle.ledger_model.specs.State.{State, all_changed, active_table}
 use Rattle.ledger_model.specs.Run as run
 use Rattle.ledger_model.specs.Statements.{counted, if_wanted}
-use Rattle.ledger_model.specs.Run.{Begun, Progress, effect_of, existing, first_deep, if_read, if_shallow, no_table_more, ran, recorded, refused, reserved}
+use Rattle.ledger_model.specs.Run.{Begun, Progress, done_by, existing, no_table_more, ran, refused, reserved}
 use Rattle.ledger_core.specs.declared.catalog.Catalog.{Catalog}
 use Rattle.ledger_core.specs.Catalogs.{tables_of}
 use Rattle.ledger_core.specs.declared.transaction.Transaction.{Transaction}
@@ -41,10 +41,9 @@ found name None = Err (NoSuchTable name)
 abbrev pub not_created : List state.Table → List Schema → List ℕ → Option Refusal
 not_created tables changes name = or_else (reserved name) (or_else (existing name (active_table tables name)) (no_table_more tables changes))
 
--- what a statement does, with the request's parameters
-abbrev pub performed : Begun → State → Progress → Request → Statement → Result Progress Refusal
-performed b s p r statement =
-    recorded p r (if_read (λ asked. if_shallow (first_deep r.params) (effect_of b s p r.params asked)) (if_wanted (counted statement r.params)))
+-- what a statement does, with the request's parameters, where it is served
+abbrev pub performed : Begun → State → Progress → Request → Statement → Option (Result Progress Refusal)
+performed b s p r statement = option_map (done_by b s p r) (if_wanted (counted statement r.params))
 
 -- how a transaction's statements ended
 abbrev pub ran_of : held.Ran → run.Ran

@@ -163,10 +163,10 @@ fn read_stored<S: JournalStore>(alloc: Global, store: &mut S) -> Result<Vec<u8>,
 {
     let size = store.size()?;
     let mut all = Vec::new(alloc);
-    let mut piece = [0u8; 4096];
+    let mut piece = [0u8; 65536];
     'pieces: while (all.len() as u64) < size {
         let at = all.len() as u64;
-        let room = (size - at).min(4096) as usize;
+        let room = (size - at).min(65536) as usize;
         let count = store.read_at(at, &mut piece[..room])?;
         if count == 0 {
             return Ok(all);

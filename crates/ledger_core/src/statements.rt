@@ -11,7 +11,7 @@ ghost use Rattle.ledger_core.specs.Stops.{Comes};
 use crate::sources::is_committed;
 use crate::stopped::Stopped;
 use ion_values::{OutOfMemory, Text, Value};
-use ledger_model::{ParseKind, Refusal, Request};
+use ledger_model::{Refusal, Request};
 use pql_model::{Expr, FromClause, Select, Source, SourceKind, Statement, parameters};
 use pql_parse::{ParseAnswer, parse};
 use std::alloc::Global;
@@ -45,27 +45,24 @@ pub(crate) fn read_statement(alloc: Global, text: &str) -> Result<Statement, Sto
     }
 }
 
-/// What the statement asks for with these parameters. `ParameterCount` comes where it has other than one parameter for each
-/// question mark. No script with a statement that isn't served is run; such a one is refused at its first token.
+/// What the statement asks for with these parameters, or None where it isn't served. `ParameterCount` comes where it has other
+/// than one parameter for each question mark.
 pub(crate) fn served_of<'a>(
     statement: &'a Statement,
     params: &[Value],
-) -> Result<Served<'a>, Refusal>
-    ensures { MatchResult result (λ s. if_wanted (counted statement.now params.now) ≡ Ok (asked_by s)) (λ cause. if_wanted (counted statement.now params.now) ≡ Err cause) }
+) -> Option<Result<Served<'a>, Refusal>>
+    ensures { MatchOption result (if_wanted (counted statement.now params.now) ≡ None) (λ r. MatchResult r (λ s. if_wanted (counted statement.now params.now) ≡ Some (Ok (asked_by s))) (λ cause. if_wanted (counted statement.now params.now) ≡ Some (Err cause))) }
 {
     let wanted = parameters(statement);
     if wanted as usize != params.len() {
-        return Err(Refusal::ParameterCount {
+        return Some(Err(Refusal::ParameterCount {
             wanted: u64::from(wanted),
             given: params.len() as u64,
-        });
+        }));
     }
     match served_as(statement) {
-        Some(served) => Ok(served),
-        None => Err(Refusal::ParseFault {
-            at: 0,
-            kind: ParseKind::Unexpected,
-        }),
+        Some(served) => Some(Ok(served)),
+        None => None,
     }
 }
 

@@ -3,7 +3,7 @@ ghost use Rattle.std.specs.Prelude.{◌≡◌, ◌+◌, ◌<◌, ◌^◌, [], �
 ghost use Rattle.ledger_model.specs.State.{State};
 ghost use Rattle.ledger_model.specs.Run.{next_id, run, start, step};
 ghost use Rattle.ledger_core.specs.Catalogs.{Lists, table_of};
-ghost use Rattle.ledger_core.specs.Stops.{Comes, Ends};
+ghost use Rattle.ledger_core.specs.Stops.{Comes, EndsServed};
 ghost use Rattle.ledger_core.specs.Transactions.{IsBegun, found, performed, ran_of, table_in, tables_in};
 
 use crate::catalog::Catalog;
@@ -140,7 +140,7 @@ impl Transaction {
 
     /// Does one statement on the journal of the catalog. After an error the transaction isn't to be used.
     fn step(&mut self, alloc: Global, catalog: &Catalog, request: &Request) -> Result<(), Stopped>
-        ensures ends { (s : State) → Lists s catalog.now → Ends result (progress_of self.new) (step (begun_of self.old) s (progress_of self.old) request.now) }
+        ensures ends { (s : State) → Lists s catalog.now → EndsServed result (progress_of self.new) (step (begun_of self.old) s (progress_of self.old) request.now) }
         ensures begun { begun_of self.new ≡ begun_of self.old }
     {
         let statement = read_statement(alloc, request.text.as_str())?;
@@ -157,12 +157,14 @@ impl Transaction {
         statement: &Statement,
         request: &Request,
     ) -> Result<(), Stopped>
-        ensures ends { (s : State) → Lists s catalog.now → Ends result (progress_of self.new) (performed (begun_of self.old) s (progress_of self.old) request.now statement.now) }
+        ensures ends { (s : State) → Lists s catalog.now → EndsServed result (progress_of self.new) (performed (begun_of self.old) s (progress_of self.old) request.now statement.now) }
         ensures begun { begun_of self.new ≡ begun_of self.old }
     {
         let served = match served_of(statement, request.params.as_slice()) {
-            Ok(served) => served,
-            Err(cause) => return Err(Stopped::Refused(cause)),
+            Some(Ok(served)) => served,
+            Some(Err(cause)) => return Err(Stopped::Refused(cause)),
+            // No script with such a statement is run.
+            None => return Err(Stopped::OutOfMemory),
         };
         if let Some(depth) = first_deep(request.params.as_slice()) {
             return Err(Stopped::Refused(Refusal::TooDeep { depth }));

@@ -31,7 +31,7 @@ use Rattle.ledger_model.specs.Values.{named_id}
 use Rattle.ledger_model.specs.State.{State, empty}
 use Rattle.ledger_model.specs.Statements.{create_table, insert_into, select_from, if_wanted, served_as, served_of, with_parameters}
 use Rattle.ledger_model.specs.Unbuilt.{is_served}
-use Rattle.ledger_model.specs.Run.{Begun, created, documents_in, first_deep, has_room, inserted, new_table, no_table_more, nothing, selected, start, stored}
+use Rattle.ledger_model.specs.Run.{Begun, created, documents_in, first_deep, has_room, inserted, new_table, no_table_more, nothing, run, selected, start, stored, unserved}
 
 -- ---- texts
 
@@ -44,7 +44,7 @@ plain b = roll-Value (record { annotations = []; body = b })
 abbrev int : ℕ → Value
 int n = plain (body.Int (pos n))
 
-creates : served_of (asks (codes "CREATE TABLE t") []) ≡ Ok (create_table (codes "t"))
+creates : served_of (asks (codes "CREATE TABLE t") []) ≡ Some (Ok (create_table (codes "t")))
 unfolding parsed lex is_reserved layers expression free_path
 creates = refl
 
@@ -54,7 +54,7 @@ table_as name variable = record {
   filter = None;
 }
 
-selects : served_of (asks (codes "SELECT * FROM t AS x") []) ≡ Ok (select_from select.Star (table_as (codes "t") (codes "x")))
+selects : served_of (asks (codes "SELECT * FROM t AS x") []) ≡ Some (Ok (select_from select.Star (table_as (codes "t") (codes "x"))))
 unfolding parsed lex is_reserved layers expression free_path
 selects = refl
 
@@ -62,13 +62,13 @@ insert_read : parsed (codes "INSERT INTO t ?") ≡ Ok (statement.Insert (codes "
 unfolding parsed lex is_reserved layers expression free_path
 insert_read = refl
 
-inserts : served_of (asks (codes "INSERT INTO t ?") (int 5 ∷ [])) ≡ Ok (insert_into (codes "t") (expr.Parameter 0))
+inserts : served_of (asks (codes "INSERT INTO t ?") (int 5 ∷ [])) ≡ Some (Ok (insert_into (codes "t") (expr.Parameter 0)))
 inserts = ap (λ x. if_wanted (with_parameters x (int 5 ∷ []))) insert_read ∙ search (rules, expressions.the_lemmas)
 
-no_parameter : served_of (asks (codes "INSERT INTO t ?") []) ≡ Err (ParameterCount 1 0)
+no_parameter : served_of (asks (codes "INSERT INTO t ?") []) ≡ Some (Err (ParameterCount 1 0))
 no_parameter = ap (λ x. if_wanted (with_parameters x [])) insert_read ∙ search (rules, expressions.the_lemmas)
 
-no_statement : served_of (asks (codes "SELECT * FORM t") []) ≡ Err (ParseFault 9 Unexpected)
+no_statement : served_of (asks (codes "SELECT * FORM t") []) ≡ Some (Err (ParseFault 9 Unexpected))
 unfolding parsed lex is_reserved layers expression free_path
 no_statement = refl
 
@@ -86,6 +86,11 @@ drops = refl
 dropped : is_served (asks (codes "DROP TABLE t") []) ≡ false
 unfolding parsed lex is_reserved layers expression free_path
 dropped = refl
+
+-- and it means nothing so far
+no_meaning : (b : Begun) (s : State) → run b s (asks (codes "DROP TABLE t") [] ∷ []) ≡ unserved
+unfolding parsed lex is_reserved layers expression free_path
+no_meaning b s = refl
 
 -- its transaction is told of the fault
 faulty : is_served (asks (codes "SELECT * FORM t") []) ≡ true

@@ -1,5 +1,5 @@
 -- What a transaction's statements mean, one after another, on a state and the changes that pend so far.
-use Rattle.std.specs.Prelude.{ℕ, ◌+◌, ◌-◌, ◌^◌, min, not, Bool, nat_le, nat_lt, List, [], ◌∷◌, ◌++◌, map, length, codes, Option, Some, None, Result, Ok, Err, is_some, if◌then◌else◌}
+use Rattle.std.specs.Prelude.{ℕ, ◌+◌, ◌-◌, ◌^◌, min, not, Bool, nat_le, nat_lt, List, [], ◌∷◌, ◌++◌, map, length, codes, Option, Some, None, option_map, Result, Ok, Err, is_some, if◌then◌else◌}
 use Rattle.ion_values.specs.declared.value.Value.{Value}
 use Rattle.ion_values.specs.declared.value.Body.{Body, out-Body}
 use Rattle.ion_values.specs.declared.value.Body.TheOpen.{Body-F}
@@ -257,18 +257,24 @@ recorded p r (Err cause) = Err cause
 recorded p r (Ok e) =
     Ok (record (changed_by p e) { said = p.said ++ record { text = r.text; params = r.params; answer = record { rows = e.rows } } ∷ [] })
 
--- one statement
-abbrev pub step : Begun → State → Progress → Request → Result Progress Refusal
-step b s p r = recorded p r (if_read (λ statement. if_shallow (first_deep r.params) (effect_of b s p r.params statement)) (served_of r))
+-- what a statement that is served does, or why it is refused
+abbrev pub done_by : Begun → State → Progress → Request → Result Served Refusal → Result Progress Refusal
+done_by b s p r served = recorded p r (if_read (λ statement. if_shallow (first_deep r.params) (effect_of b s p r.params statement)) served)
 
--- how a transaction's statements end: all were done, or this one was refused, counted from 1
+-- one statement, where it is served
+abbrev pub step : Begun → State → Progress → Request → Option (Result Progress Refusal)
+step b s p r = option_map (done_by b s p r) (served_of r)
+
+-- how a transaction's statements end: all were done, or this one was refused, counted from 1, or one came that isn't served so far
 pub data Ran : Type 0 where
   ran : Progress → Ran
   refused : (statement : ℕ) (cause : Refusal) → Ran
+  unserved : Ran
 
-abbrev pub then_run : ℕ → Result Progress Refusal → (Progress → Ran) → Ran
-then_run j (Err cause) rest = refused j cause
-then_run j (Ok p) rest = rest p
+abbrev pub then_run : ℕ → Option (Result Progress Refusal) → (Progress → Ran) → Ran
+then_run j None rest = unserved
+then_run j (Some (Err cause)) rest = refused j cause
+then_run j (Some (Ok p)) rest = rest p
 
 abbrev pub run_from : Begun → State → ℕ → Progress → List Request → Ran
 run_from b s j p [] = ran p

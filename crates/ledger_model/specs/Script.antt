@@ -1,5 +1,5 @@
--- The script that a stream of values spells: each value is a session, a list of transactions.
-use Rattle.std.specs.Prelude.{ℕ, ◌+◌, ◌&&◌, List, [], ◌∷◌, ◌++◌, codes, false, Option, Some, None, option_map, if◌then◌else◌}
+-- The statements that values spell, and the jobs of a script with their places.
+use Rattle.std.specs.Prelude.{ℕ, ◌+◌, ◌&&◌, List, [], ◌∷◌, ◌++◌, codes, Option, Some, None, option_map, if◌then◌else◌}
 use Rattle.std.specs.Str.{bytes_eq}
 use Rattle.ion_values.specs.declared.value.Value.{Value}
 use Rattle.ion_values.specs.declared.value.Field.{Field}
@@ -40,25 +40,7 @@ in_two _ = None
 abbrev pub request_of : Value → Option Request
 request_of v = or_else (option_map text_alone (string_in v)) (and_then (fields_in v) in_two)
 
--- ---- a transaction is a struct of its statements; so far it has no other field
-
-abbrev pub job_with : List Request → Job
-job_with statements = record { statements = statements; retries = 4; digest = None; abort = false }
-
-abbrev pub in_statements : List Field → Option (List Value)
-in_statements (f ∷ []) = if bytes_eq f.name (codes "statements") then list_in f.value else None
-in_statements _ = None
-
-abbrev pub job_of : Value → Option Job
-job_of v = option_map job_with (and_then (and_then (fields_in v) in_statements) (each request_of))
-
--- ---- sessions and scripts
-
-abbrev pub session_of : Value → Option (List Job)
-session_of v = and_then (list_in v) (each job_of)
-
-abbrev pub script_of : List Value → Option (List (List Job))
-script_of values = each session_of values
+-- ---- the jobs of a script and their places
 
 -- a job and where it stands
 pub record Placed : Type 0 where

@@ -1,10 +1,9 @@
 -- The statement that a request asks for: its text by the grammar, with as many parameters as it has question marks (PartiQL); and
 -- which statements are served so far: CREATE TABLE, INSERT INTO a table, and SELECT from user views and paths without BY.
-use Rattle.std.specs.Prelude.{ℕ, ◌==◌, ◌&&◌, ◌-◌, ◌^◌, min, not, Bool, true, false, List, length, codes, Option, Some, None, Result, Ok, Err, is_some, if◌then◌else◌}
+use Rattle.std.specs.Prelude.{ℕ, ◌==◌, ◌&&◌, ◌-◌, ◌^◌, min, not, Bool, true, false, List, length, codes, Option, Some, None, option_map, Result, Ok, Err, is_some, if◌then◌else◌}
 use Rattle.std.specs.List.{list_all}
 use Rattle.ion_values.specs.declared.value.Value.{Value}
 use Rattle.ion_grammar.specs.Blanks.{begins}
-use Rattle.pql_model.specs.declared.ParseKind.TheVariants.{Unexpected}
 use Rattle.pql_model.specs.declared.expr.Expr.{Expr}
 use Rattle.pql_model.specs.declared.statement.FromClause.{FromClause}
 use Rattle.pql_model.specs.declared.statement.Select.{Select}
@@ -68,16 +67,16 @@ abbrev pub served_as : Statement → Option Served
 served_as (statement.Create table) = Some (create_table table)
 served_as (statement.Insert table value) = Some (insert_into table value)
 served_as (statement.Select select from) = selected select from
-served_as _ = None
+served_as (statement.Update from change) = None
+served_as (statement.From from change) = None
+served_as (statement.Delete from) = None
+served_as (statement.Index table field) = None
+served_as (statement.Drop table) = None
 
--- no script with another statement is run so far; one would be refused at its first token
-abbrev pub or_unserved : Option Served → Result Served Refusal
-or_unserved (Some s) = Ok s
-or_unserved None = Err (ParseFault 0 Unexpected)
+-- the statement, or why it is refused; None where it isn't served so far
+abbrev pub if_wanted : Result Statement Refusal → Option (Result Served Refusal)
+if_wanted (Ok s) = option_map Ok (served_as s)
+if_wanted (Err cause) = Some (Err cause)
 
-abbrev pub if_wanted : Result Statement Refusal → Result Served Refusal
-if_wanted (Ok s) = or_unserved (served_as s)
-if_wanted (Err cause) = Err cause
-
-abbrev pub served_of : Request → Result Served Refusal
+abbrev pub served_of : Request → Option (Result Served Refusal)
 served_of r = if_wanted (statement_of r)

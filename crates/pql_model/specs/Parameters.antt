@@ -109,4 +109,6 @@ in_statement (statement.Insert table value) = in_expr value
 in_statement (statement.Update from change) = in_from from + in_change change
 in_statement (statement.From from change) = in_from from + in_change change
 in_statement (statement.Delete from) = in_from from
-in_statement _ = 0
+in_statement (statement.Create table) = 0
+in_statement (statement.Index table field) = 0
+in_statement (statement.Drop table) = 0

@@ -55,8 +55,9 @@ abbrev pub judged_name : Place → List ℕ → List Source → Option ParseKind
 judged_name p name sources = unless (is_some (resolved name (seen_from p sources)) || is_single sources) kind.UnknownName
 
 abbrev pub is_path : SourceKind → Bool
+is_path (source.Table name) = false
+is_path (source.History table start end) = false
 is_path (source.Path p) = true
-is_path _ = false
 
 abbrev pub is_path_at : Place → List Source → Bool
 is_path_at (place.Source n) sources = list_any (λ s. is_path s.from) (take 1 (drop n sources))
@@ -73,7 +74,8 @@ judged_by p sources = unless (not (is_path_at p sources)) kind.BadTarget
 -- a table that can be changed: no history, and no committed view
 abbrev pub is_table : SourceKind → Bool
 is_table (source.Table name) = not (begins (codes "_ql_committed_") name)
-is_table _ = false
+is_table (source.History table start end) = false
+is_table (source.Path p) = false
 
 abbrev pub is_table_at : ℕ → List Source → Bool
 is_table_at n sources = list_any (λ s. is_table s.from) (take 1 (drop n sources))

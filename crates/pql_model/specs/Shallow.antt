@@ -74,7 +74,13 @@ select_depth (select.Items items) = deepest (map item_depth items)
 -- the SELECT that a statement is, and nothing of any other
 abbrev pub statement_depth : Statement → ℕ
 statement_depth (statement.Select select from) = max (select_depth select) (from_depth from)
-statement_depth _ = 0
+statement_depth (statement.Insert table value) = 0
+statement_depth (statement.Update from change) = 0
+statement_depth (statement.From from change) = 0
+statement_depth (statement.Delete from) = 0
+statement_depth (statement.Create table) = 0
+statement_depth (statement.Index table field) = 0
+statement_depth (statement.Drop table) = 0
 
 -- ---- at most 64
 

@@ -1,4 +1,4 @@
-use Rattle.std.proofs.Common.{ℕ, Err, codes, sym, subst, refl, ◌∙◌, ap}
+use Rattle.std.proofs.Common.{Err, codes, sym, subst, ap}
 use Rattle.ledger_claims.specs.Lines.{faults_line}
 use Rattle.ledger_cli.specs.declared.top.Status.TheVariants as status
 use Rattle.ledger_cli.specs.declared.top.Stop.{Stop}

@@ -1,4 +1,4 @@
-use Rattle.std.proofs.Common.{◌≡◌, ◌+◌, Err, ap, ◌∙◌, subst}
+use Rattle.std.proofs.Common.{◌≡◌, ◌+◌, Some, Err, ap, ◌∙◌, subst}
 use Rattle.ledger_model.specs.Run.{Begun, run, run_from, step}
 use Rattle.ledger_core.specs.declared.stopped.Stopped.{Stopped}
 use Rattle.ledger_core.specs.Stops.{StopsFor}
@@ -30,7 +30,7 @@ returns-in-Err-Refused-clause-ran c =
     let b : Begun = record { mask = c.args.mask.bits; number = c.args.number } in
     let t = c.statements.transaction in
     rw c.in-Err-Refused.field-0-is (λ s lists.
-    let stops = λ (x : Stopped). StopsFor x (λ cause. step (begun_of t) s (progress_of t) c.request-item.result ≡ Err cause) in
+    let stops = λ (x : Stopped). StopsFor x (λ cause. step (begun_of t) s (progress_of t) c.request-item.result ≡ Some (Err cause)) in
     run-refused b (begun_of t) s (c.statements.statement + 1) (progress_of t) c.args.asked.now
     c.statements.request-index c.request-item.result (run b s c.args.asked.now) c.in-Err-Refused.cause c.statements-test.true c.request-item.is
     c.statements.invariant.begun (subst stops c.in-Err-Refused.field-0-is (c.in-Err-Refused.ensures.ends s lists)) (c.statements.invariant.so_far s lists))
