@@ -1,12 +1,14 @@
 #!/usr/bin/env python3
 """Runs the program to each of its statuses: the output, what stands on standard error, and what is left at the journal's path.
-Ends with status 1 where something isn't as it should be. (No command that can end with status 7 is served so far.)
+Ends with status 1 where something isn't as it should be. (No command that can end with status 7 is served so far. A program
+built with a sanitizer doesn't run in the memory that status 8 is tried with.)
 
     tests/statuses.py [PROGRAM]
 
 The program is crates/ledger/out/ledger, where `rt ci` leaves it, or another path.
 """
 import os
+import resource
 import subprocess
 import sys
 import tempfile
@@ -118,13 +120,22 @@ def outputs(program, journal):
     os.remove(journal)
 
 
+def memory(program, journal):
+    """Status 8: 14 MB of statements don't fit into 48 MiB of memory. No journal is made."""
+    script = b"[{statements:[" + b",".join([b'"SELECT * FROM t"'] * 800_000) + b"]}]"
+    limit = (48 << 20, 48 << 20)
+    ended = run(program, [journal] + RUN, script, preexec_fn=lambda: resource.setrlimit(resource.RLIMIT_AS, limit))
+    check(ended[0] == 8, f"status 8 and not {ended[0]}")
+    check(left(journal) is None, "no journal is made")
+
+
 def main():
     program = os.path.abspath(sys.argv[1] if len(sys.argv) > 1 else PROGRAM)
     with tempfile.TemporaryDirectory() as folder:
         journal = os.path.join(folder, "journal")
-        for part in [words, inputs, journals, torn_first_lines, outputs]:
+        for part in [words, inputs, journals, torn_first_lines, outputs, memory]:
             part(program, journal)
-    print("statuses 0 to 6: all as they should be")
+    print("statuses 0 to 6 and 8: all as they should be")
 
 
 main()

@@ -1,6 +1,6 @@
 //! A store over a drive that writes down which calls reach it.
 use outside::{FileStore, JournalStore, LockFile, OutFault};
-use std::alloc::{Allocator, Global};
+use std::alloc::Allocator;
 use std::cell::RefCell;
 use std::fs::{Files, Metadata, OpenFile, OpenOptions};
 use std::io;
@@ -205,4 +205,22 @@ fn failed_syncs_and_locks_are_failures(rt: HostRuntime) {
         assert_eq!(rt; (store.sync(), store.faults()), (Err(OutFault::Failed), 1));
         assert!(rt; are_noted(&calls, wanted));
     }
+}
+
+#[test]
+fn a_new_file_that_another_locks_is_left(rt: HostRuntime) {
+    let calls = RefCell::new(String::new(rt.alloc()));
+    let drive = Drive {
+        calls: &calls,
+        has_file: false,
+        is_locked: true,
+        cannot_sync: false,
+    };
+    let mut store = FileStore::new(&drive, "folder/file");
+    assert_eq!(rt;
+        (store.size(), store.append(b"a")),
+        (Ok(0), Err(OutFault::Failed))
+    );
+    assert_eq!(rt; (store.cut(0), store.faults()), (Err(OutFault::Failed), 2));
+    assert!(rt; are_noted(&calls, "make\n"));
 }

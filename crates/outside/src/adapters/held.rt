@@ -30,7 +30,7 @@ enum Found<F> {
     Untouched,
     /// There was none at the first call.
     Missing,
-    /// There was none at the first call, and another process made it since.
+    /// There was none at the first call, and another process made it or took its lock since.
     Taken,
     /// It is open, and nobody else has its lock.
     Held(F),
@@ -84,7 +84,8 @@ where
             match make_journal(self.rt, self.path) {
                 Ok(file) => self.found = Found::Held(file),
                 Err(error) => {
-                    if error.kind() == ErrorKind::AlreadyExists {
+                    let kind = error.kind();
+                    if kind == ErrorKind::AlreadyExists || kind == ErrorKind::WouldBlock {
                         self.found = Found::Taken;
                     }
                     return Err(error);
