@@ -3,7 +3,8 @@ ghost use Rattle.std.specs.Prelude.{◌≡◌, true, IfOk};
 ghost use Rattle.ledger_model.specs.Seals.{IsSealed};
 
 use block_form::{from_ion, revision_hash, seal, strand_hash, to_ion};
-use ion_values::{BadTime, Body, IonTime, Kind, OutOfMemory, Precision, Text, TimeParts, Value};
+use ion_text::read_stream;
+use ion_values::{Body, IonTime, Kind, OutOfMemory, Text, Value, copy};
 use ledger_model::{
     Answer, Block, Content, Header, Info, Metadata, Revision, Revisions, Said, SaidList,
 };
@@ -37,19 +38,15 @@ fn has_hash_of_its_list(block: &Block) -> bool
 }
 
 /// The year 2020.
-fn year() -> Result<IonTime, BadTime> {
-    IonTime::new(TimeParts {
-        precision: Precision::Year,
-        year: 2020,
-        month: 1,
-        day: 1,
-        hour: 0,
-        minute: 0,
-        second: 0,
-        digits: 0,
-        nanos: 0,
-        offset: None,
-    })
+fn year(alloc: Global) -> Option<IonTime> {
+    let values = read_stream(alloc, b"2020T", 0).ok()?;
+    match values.as_slice() {
+        [value] => match &value.body {
+            Body::Timestamp(time) => Some(*time),
+            _ => None,
+        },
+        _ => None,
+    }
 }
 
 /// What the one revision of the block keeps: null, or nothing.
@@ -148,7 +145,7 @@ fn is_told_apart(first: &Block, other: &Block, same_entries: bool) -> bool {
 #[test]
 fn each_part_changes_the_hashes(rt: HostRuntime) -> Result<(), Fail> {
     let alloc = rt.alloc();
-    let time = year()?;
+    let time = year(alloc).ok_or("no year")?;
     let strand = strand_hash(alloc, StrandId { raw: 0 })?;
     assert!(rt; strand.bytes == STRAND_HASH);
     let first = block(alloc, time, strand, "a", true)?;
@@ -189,38 +186,51 @@ fn field_names(alloc: Global, value: &Value) -> Result<Text, OutOfMemory> {
     Ok(names)
 }
 
+/// The names of the fields of a block as a value.
+fn names_of_block(alloc: Global) -> Option<Text> {
+    let block = block(alloc, year(alloc)?, Hash32 { bytes: [0; 32] }, "a", true).ok()?;
+    let value = to_ion(alloc, &block).ok()?;
+    field_names(alloc, &value).ok()
+}
+
 #[test]
 fn fields_stand_in_order(rt: HostRuntime) -> Result<(), Fail> {
-    let alloc = rt.alloc();
-    let block = block(alloc, year()?, Hash32 { bytes: [0; 32] }, "a", true)?;
-    let names = field_names(alloc, &to_ion(alloc, &block)?)?;
+    let names = names_of_block(rt.alloc()).ok_or("no memory")?;
     assert_eq!(rt; names.as_str(), FIELD_NAMES);
     Ok(())
 }
 
-fn is_read_as(alloc: Global, value: &Value, block: &Block) -> Result<bool, OutOfMemory> {
-    match from_ion(alloc, value)? {
-        Some(read) => Ok(
-            read.hash == block.hash && read.header.revisions == 1 && read.info.tables.len() == 1,
-        ),
-        None => Ok(false),
-    }
+/// Whether a value is read as the block.
+fn is_read_as(alloc: Global, value: &Value, block: &Block) -> Option<bool> {
+    let read = from_ion(alloc, value).ok()??;
+    Some(read.hash == block.hash && read.header.revisions == 1 && read.info.tables.len() == 1)
 }
 
-/// Whether a value with an annotation is read as a block.
-fn is_read_annotated(alloc: Global, mut value: Value) -> Result<bool, OutOfMemory> {
-    value.annotations.push(Text::from_text(alloc, "a")?)?;
-    Ok(from_ion(alloc, &value)?.is_some())
+/// The value with an annotation.
+fn annotated(alloc: Global, value: &Value) -> Option<Value> {
+    let mut new = copy(alloc, value).ok()?;
+    let name = Text::from_text(alloc, "a").ok()?;
+    new.annotations.push(name).ok()?;
+    Some(new)
+}
+
+/// Whether a value is no block.
+fn is_no_block(alloc: Global, value: &Value) -> Option<bool> {
+    Some(from_ion(alloc, value).ok()?.is_none())
+}
+
+/// Whether a block as a value is read as that block, and with an annotation as none.
+fn is_read_back(alloc: Global, is_kept: bool) -> Option<bool> {
+    let block = block(alloc, year(alloc)?, Hash32 { bytes: [7; 32] }, "a", is_kept).ok()?;
+    let value = to_ion(alloc, &block).ok()?;
+    let is_read = is_read_as(alloc, &value, &block)?;
+    let annotated = annotated(alloc, &value)?;
+    Some(is_read && is_no_block(alloc, &annotated)?)
 }
 
 #[test]
-fn a_value_is_read_as_its_block(rt: HostRuntime) -> Result<(), Fail> {
-    let alloc = rt.alloc();
+fn a_value_is_read_as_its_block(rt: HostRuntime) {
     for is_kept in [true, false] {
-        let block = block(alloc, year()?, Hash32 { bytes: [7; 32] }, "a", is_kept)?;
-        let value = to_ion(alloc, &block)?;
-        assert!(rt; is_read_as(alloc, &value, &block)?);
-        assert!(rt; !is_read_annotated(alloc, value)?);
+        assert_eq!(rt; is_read_back(rt.alloc(), is_kept), Some(true));
     }
-    Ok(())
 }

@@ -6,6 +6,8 @@ mod expressions;
 #[cfg(test)]
 mod parsing;
 #[cfg(test)]
+mod reading;
+#[cfg(test)]
 mod selects;
 #[cfg(test)]
 mod shelf;
