@@ -82,7 +82,8 @@ fn operators_are_read(rt: HostRuntime) -> Result<(), Fail> {
         (1.) => (1d0)
         (+inf) => FloatRefused at 1
         (-inf) => FloatRefused at 1
-        (-inf.) => FloatRefused at 1
+        (-inf.) => ('-' inf '.')
+        (+inf+1) => ('+' inf '+' 1)
         (+infinity) => ('+' infinity)
         (-inf_ -inf0) => ('-' inf_ '-' inf0)
         (++inf) => ('++' inf)
@@ -130,6 +131,7 @@ fn texts_are_read(rt: HostRuntime) -> Result<(), Fail> {
         a::'''b''' '''c''' => a::"bc"
         '''a''' b::'''c''' => "a" | b::"c"
         {a:'''b''' '''c'''} => {a:"bc"}
+        'true'::(null.timestamp -0d5 -170141183460469231731687303715884105728 {{"a\"\n\xff"}} {{YQ==}} "é\x7f\t") => 'true'::(null.timestamp -0d5 -170141183460469231731687303715884105728 {{"a\"\x0a\xff"}} {{YQ==}} "é\x7f\t")
         {'''a''' '''b''':1} => {ab:1}
         {'''a'''/**/'''b''' :1,'''''':2} => {ab:1,'':2}
         {'''a'''"b":1} => BadToken at 8

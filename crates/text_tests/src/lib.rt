@@ -10,6 +10,8 @@ mod faults;
 #[cfg(test)]
 mod forms;
 #[cfg(test)]
+mod milliseconds;
+#[cfg(test)]
 mod numbers;
 #[cfg(test)]
 mod order;
@@ -21,8 +23,6 @@ mod quoted;
 mod rows;
 #[cfg(test)]
 mod sequences;
-#[cfg(test)]
-mod spellings;
 #[cfg(test)]
 mod timestamps;
 #[cfg(test)]

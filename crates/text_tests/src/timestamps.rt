@@ -163,7 +163,7 @@ const INSTANTS: &str = "
 ";
 
 /// The one timestamp of a text.
-fn time_of(alloc: Global, text: &str) -> Option<IonTime> {
+pub fn time_of(alloc: Global, text: &str) -> Option<IonTime> {
     let values = read_stream(alloc, text.as_bytes(), 0).ok()?;
     match values.as_slice() {
         [value] => match &value.body {

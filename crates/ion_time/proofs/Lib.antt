@@ -1,0 +1,5 @@
+pub mod Bounds
+pub mod Begins
+pub mod Dates
+pub mod Names
+pub mod Rows

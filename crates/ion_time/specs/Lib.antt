@@ -1,0 +1,2 @@
+pub mod Millis
+pub mod Laws
