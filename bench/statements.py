@@ -12,7 +12,7 @@ SIZES = [25_000, 50_000, 100_000]
 RUNS = 5
 TOP = Path(__file__).resolve().parent.parent
 CRATES = ["lists", "ql_types", "ion_values", "ion_forms", "ion_grammar", "ion_tokens", "ion_text", "ion_order"]
-CRATES += ["pql_model", "pql_parse"]
+CRATES += ["pql_model", "pql_tokens", "pql_grammar", "pql_parse"]
 
 
 # ---- texts in which one construct repeats
