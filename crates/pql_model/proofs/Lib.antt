@@ -17,3 +17,5 @@ mod TokenDepths
 mod StatementDepths
 pub mod ParsedDepths
 mod ShallowRows
+mod ChangeRows
+mod EffectRows

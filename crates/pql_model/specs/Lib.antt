@@ -20,3 +20,5 @@ pub mod Tables
 pub mod From
 pub mod Answers
 pub mod Shallow
+pub mod Changes
+pub mod Effects

@@ -8,6 +8,7 @@ mod laws;
 mod mark;
 mod names;
 mod scope;
+mod selector;
 mod statement;
 mod tables;
 mod token;
@@ -18,11 +19,12 @@ pub use laws::{answers_are_shallow, depth_is_bounded, parsed_is_shallow};
 pub use mark::{Mark, Marks, Place, Role};
 pub use names::{Resolved, last_name, resolve};
 pub use scope::{Bindings, Bound, Evaluated, Scope};
+pub use selector::{Selector, Selectors};
 pub use statement::{
     Change, FromClause, Select, SelectItem, SelectItems, Setting, Settings, Source, SourceKind,
     Sources, Statement,
 };
-pub use tables::{Answer, Probe, Row, Rows, Tables, View};
+pub use tables::{Answer, DocIds, Probe, Row, Rows, Tables, View};
 pub use token::{Lexed, Located, Symbol, Token, Tokens};
 
 /// Why a text is no statement.

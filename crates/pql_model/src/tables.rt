@@ -39,6 +39,9 @@ pub struct Row {
 /// Rows in order.
 pub type Rows = Sequence<Row>;
 
+/// Ids of documents in order.
+pub type DocIds = Sequence<DocId>;
+
 /// What a statement answers, row by row.
 #[derive(Drop)]
 pub struct Answer {
