@@ -1,5 +1,5 @@
 -- Readings of fields, of lists and of the parts that are structs are inverse to their writings.
-use Rattle.std.proofs.Common.{◌≡◌, ◌∙◌, ℕ, ◌^◌, Bool, true, false, List, [], ◌∷◌, map, Option, Some, None, refl, ap, subst, bytes_eq, if◌then◌else◌, codes}
+use Rattle.std.proofs.Common.{◌≡◌, ◌∙◌, ℕ, ◌^◌, Bool, true, false, List, [], ◌∷◌, map, Option, Some, None, refl, ap, subst, bytes_eq, if◌then◌else◌, codes, ◌&&◌}
 use Rattle.std.proofs.lemmas.Slice.Eq.{bytes_eq-Decides}
 use Rattle.std.specs.Prelude.{option_map}
 use Rattle.std.specs.List.{list_all}
@@ -76,6 +76,19 @@ taken_all read value fits gets name f next y e =
     let w = took (named name f) list_in u.0 u.1 in
     let s = each-gets read value fits gets u.0 t.0 u.2 in
     (t.0, named-is name f w.0 w.1 ∙ ap (field name) (list-gets w.0 u.0 w.2 ∙ ap list s.0), s.1, t.2)
+
+-- what passes two tests passes each of them
+pub both_of : {A : Type 0} (p q : A → Bool) (xs : List A) → list_all (λ x. p x && q x) xs ≡ true → (list_all p xs ≡ true) × (list_all q xs ≡ true)
+both_of p q [] all = (refl, refl)
+both_of p q (x ∷ xs) all =
+    let this = left (p x && q x) _ all in
+    let more = both_of p q xs (right (p x && q x) _ all) in
+    (both_true (left (p x) _ this) more.0, both_true (right (p x) _ this) more.1)
+
+pub all_of : {A : Type 0} (p q : A → Bool) (xs : List A) → list_all p xs ≡ true → list_all q xs ≡ true → list_all (λ x. p x && q x) xs ≡ true
+all_of p q [] first second = refl
+all_of p q (x ∷ xs) first second =
+    both_true (both_true (left (p x) _ first) (left (q x) _ second)) (all_of p q xs (right (p x) _ first) (right (q x) _ second))
 
 -- each value fits where nothing is asked
 abbrev pub always : {A : Type 0} → A → Bool

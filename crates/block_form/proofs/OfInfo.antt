@@ -1,5 +1,5 @@
 -- Readings of what a transaction said and did are inverse to their writings.
-use Rattle.std.proofs.Common.{◌≡◌, ◌∙◌, ◌&&◌, ◌==◌, ℕ, suc, ◌^◌, Bool, true, false, List, [], ◌∷◌, map, length, Option, Some, None, refl, ap, subst, codes, bytes_eq, if◌then◌else◌, arith}
+use Rattle.std.proofs.Common.{◌≡◌, ◌∙◌, ◌&&◌, ◌==◌, not, ℕ, suc, ◌^◌, Bool, true, false, List, [], ◌∷◌, map, length, Option, Some, None, refl, ap, subst, codes, bytes_eq, if◌then◌else◌, arith}
 use Rattle.std.specs.Prelude.{option_map}
 use Rattle.std.specs.List.{list_all}
 use Rattle.std.specs.Cmp.Derive.{both_true}
@@ -12,17 +12,19 @@ use Rattle.ql_types.specs.declared.Place.{Place}
 use Rattle.ql_types.specs.declared.TableId.{TableId}
 use Rattle.ledger_model.specs.declared.block.Said.{Said}
 use Rattle.ledger_model.specs.declared.block.Schema.{Schema}
-use Rattle.ledger_model.specs.declared.block.Schema.TheVariants.{Create, Index, Drop}
+use Rattle.ledger_model.specs.declared.block.Schema.TheVariants.{Create, Index, Drop, Redact}
 use Rattle.ledger_model.specs.declared.block.Revision.{Revision}
+use Rattle.ledger_model.specs.declared.block.Told.{Told}
+use Rattle.ledger_model.specs.declared.block.Told.TheVariants as told
 use Rattle.ledger_model.specs.declared.block.Info.{Info}
 use Rattle.ledger_model.specs.Values.{field, fields_in, list_in, string_in}
 use Rattle.ledger_model.specs.Journal.{structure, list, string, number, id_value, place_value, said_value, change_value, schema_value, document_value, document_values, info_value}
 use Rattle.ledger_model.specs.Script.{and_then}
-use Rattle.ledger_model.specs.Whole.{id_fits, table_fits, place_fits, schema_fits, info_fits, revision_fits}
+use Rattle.ledger_model.specs.Whole.{id_fits, table_fits, place_fits, schema_fits, info_fits, revision_fits, is_plain_change, is_redact, is_said}
 use Rattle.block_form.specs.ReadBack.{named, number_in, id_in, place_of, place_in, said_of, said_in, change_of, schema_of, schema_in, table_of, table_in, tables_of, info_of, info_in}
 use Rattle.block_form.proofs.Inverse.{Gets, Puts, took, fields-gets, left, right, cons}
 use Rattle.block_form.proofs.SmallParts.{fields-puts, list-gets, list-puts, string-gets, string-puts, below, number-gets, number-puts, id-gets, id-puts}
-use Rattle.block_form.proofs.Fields.{named-is, taken, taken_all, always, each-puts}
+use Rattle.block_form.proofs.Fields.{named-is, taken, taken_all, always, each-puts, both_of, all_of}
 
 -- ---- places
 
@@ -75,53 +77,58 @@ said-puts s fits = rw (fields-puts _, string-puts s.text, list-puts s.params, li
 
 -- ---- changes of the schema
 
+-- the change is of this kind and fits where its table does
+abbrev IsChange : List ℕ → List ℕ → TableId → Schema → Type 0
+IsChange kind name table s = (change_value kind name table ≡ schema_value s) × (schema_fits s ≡ table_fits table) × (not (is_redact s) ≡ true)
+
 change_of-is : (kind name : List ℕ) (table : TableId) (s : Schema) → change_of kind name table ≡ Some s
-    → (change_value kind name table ≡ schema_value s) × (schema_fits s ≡ table_fits table)
+    → IsChange kind name table s
 change_of-is kind name table s e = go (bytes_eq kind (codes "create")) refl e where
-  at : (c : List ℕ) (made : Schema) → bytes_eq kind c ≡ true → change_value c name table ≡ schema_value made → schema_fits made ≡ table_fits table
-      → Some made ≡ Some s → (change_value kind name table ≡ schema_value s) × (schema_fits s ≡ table_fits table)
-  at c made t e f is =
+  at : (c : List ℕ) (made : Schema) → bytes_eq kind c ≡ true → IsChange c name table made
+      → Some made ≡ Some s → IsChange kind name table s
+  at c made t e is =
       let same : made ≡ s = cc in
       let k : kind ≡ c = (bytes_eq-Decides kind c).0 t in
-      subst (λ x. (change_value kind name table ≡ schema_value x) × (schema_fits x ≡ table_fits table)) same (ap (λ k. change_value k name table) k ∙ e, f)
+      subst (λ x. IsChange kind name table x) same (ap (λ k. change_value k name table) k ∙ e.0, e.1, e.2)
 
   third : (b : Bool) → bytes_eq kind (codes "drop") ≡ b → (if b then Some (Drop name table) else None) ≡ Some s
-      → (change_value kind name table ≡ schema_value s) × (schema_fits s ≡ table_fits table)
-  third true t e = at (codes "drop") (Drop name table) t refl refl e
+      → IsChange kind name table s
+  third true t e = at (codes "drop") (Drop name table) t (refl, refl, refl) e
   third false t e = cc
 
   second : (b : Bool) → bytes_eq kind (codes "index") ≡ b
       → (if b then Some (Index name table) else if bytes_eq kind (codes "drop") then Some (Drop name table) else None) ≡ Some s
-      → (change_value kind name table ≡ schema_value s) × (schema_fits s ≡ table_fits table)
-  second true t e = at (codes "index") (Index name table) t refl refl e
+      → IsChange kind name table s
+  second true t e = at (codes "index") (Index name table) t (refl, refl, refl) e
   second false t e = third (bytes_eq kind (codes "drop")) refl e
 
   go : (b : Bool) → bytes_eq kind (codes "create") ≡ b
       → (if b then Some (Create name table) else if bytes_eq kind (codes "index") then Some (Index name table) else if bytes_eq kind (codes "drop") then Some (Drop name table) else None) ≡ Some s
-      → (change_value kind name table ≡ schema_value s) × (schema_fits s ≡ table_fits table)
-  go true t e = at (codes "create") (Create name table) t refl refl e
+      → IsChange kind name table s
+  go true t e = at (codes "create") (Create name table) t (refl, refl, refl) e
   go false t e = second (bytes_eq kind (codes "index")) refl e
 
-schema_of-is : (fs : List Field) (s : Schema) → schema_of fs ≡ Some s → (structure fs ≡ schema_value s) × (schema_fits s ≡ true)
+schema_of-is : (fs : List Field) (s : Schema) → schema_of fs ≡ Some s → (structure fs ≡ schema_value s) × (is_plain_change s ≡ true)
 schema_of-is (f ∷ g ∷ []) s e =
     let a = took (string_in f.value) _ s e in
     let b = taken id_in id_value id_fits id-gets (codes "tableId") g _ s a.2 in
     let c = change_of-is f.name a.0 (record { raw = b.0 }) s b.3 in
-    (ap structure (cons (ap (field f.name) (string-gets f.value a.0 a.1)) (cons b.1 refl)) ∙ c.0, c.1 ∙ b.2)
+    (ap structure (cons (ap (field f.name) (string-gets f.value a.0 a.1)) (cons b.1 refl)) ∙ c.0, both_true (c.1 ∙ b.2) c.2)
 schema_of-is [] s e = cc
 schema_of-is (f ∷ []) s e = cc
 schema_of-is (f ∷ g ∷ h ∷ fs) s e = cc
 
-schema-gets : Gets schema_in schema_value schema_fits
+schema-gets : Gets schema_in schema_value is_plain_change
 schema-gets v s e =
     let t = took (fields_in v) schema_of s e in
     let c = schema_of-is t.0 s t.2 in
     (fields-gets v t.0 t.1 ∙ c.0, c.1)
 
-schema-puts : Puts schema_in schema_value schema_fits
-schema-puts (Create name table) fits = let a = id-puts table.raw fits in rw (fields-puts _, string-puts name, a) refl
-schema-puts (Index name table) fits = let a = id-puts table.raw fits in rw (fields-puts _, string-puts name, a) refl
-schema-puts (Drop name table) fits = let a = id-puts table.raw fits in rw (fields-puts _, string-puts name, a) refl
+schema-puts : Puts schema_in schema_value is_plain_change
+schema-puts (Create name table) fits = let a = id-puts table.raw (left (table_fits table) _ fits) in rw (fields-puts _, string-puts name, a) refl
+schema-puts (Index name table) fits = let a = id-puts table.raw (left (table_fits table) _ fits) in rw (fields-puts _, string-puts name, a) refl
+schema-puts (Drop name table) fits = let a = id-puts table.raw (left (table_fits table) _ fits) in rw (fields-puts _, string-puts name, a) refl
+schema-puts (Redact address table document) fits = let bad : false ≡ true = right (schema_fits (Redact address table document)) _ fits in cc
 
 -- ---- documents
 
@@ -183,29 +190,38 @@ tables-puts [] (r ∷ rs) long fits revisions = absurd (omega arith)
 tables-puts (t ∷ ts) [] long fits revisions = absurd (omega arith)
 tables-puts (t ∷ ts) (r ∷ rs) long fits revisions =
     let shorter : length ts ≡ length rs = omega arith in
-    let of_r = right _ _ (left (revision_fits r) _ revisions) in
+    let of_r = right _ _ (left _ _ (left (revision_fits r) _ revisions)) in
     let this = table-puts r t (left _ _ (left _ _ of_r)) (left _ _ fits) in
     let more = tables-puts ts rs shorter (right (table_fits t) _ fits) (right (revision_fits r) _ revisions) in
     rw (this, more) refl
 
 -- ---- the whole
 
+abbrev pub is_plain_info : Info → Bool
+is_plain_info i = is_said i.said && list_all (λ c. not (is_redact c)) i.schema
+
+-- the value is that of what was said and done, which fits
+abbrev pub IsInfo : Value → List Revision → Info → Type 0
+IsInfo v rs i = (v ≡ info_value i rs) × (info_fits i ≡ true) × (length i.tables ≡ length rs) × (is_plain_info i ≡ true)
+
 info_of-is : (rs : List Revision) (fs : List Field) (i : Info) → info_of rs fs ≡ Some i
-    → (structure fs ≡ info_value i rs) × (info_fits i ≡ true) × (length i.tables ≡ length rs)
+    → IsInfo (structure fs) rs i
 info_of-is rs (f ∷ g ∷ h ∷ j ∷ []) i e =
     let a = taken place_in place_value place_fits place-gets (codes "place") f _ i e in
     let b = taken_all said_in said_value always said-gets (codes "statements") g _ i a.3 in
-    let c = taken_all schema_in schema_value schema_fits schema-gets (codes "schema") h _ i b.3 in
+    let c = taken_all schema_in schema_value is_plain_change schema-gets (codes "schema") h _ i b.3 in
     let d = took (and_then (and_then (named (codes "documents") j) list_in) (λ values. tables_of values rs)) _ i c.3 in
     let u = took (and_then (named (codes "documents") j) list_in) (λ values. tables_of values rs) d.0 d.1 in
     let w = took (named (codes "documents") j) list_in u.0 u.1 in
     let s = tables-gets u.0 rs d.0 u.2 in
-    let made : Info = record { place = a.0; said = b.0; schema = c.0; tables = d.0 } in
+    let changes = both_of schema_fits (λ x. not (is_redact x)) c.0 c.2 in
+    let made : Info = record { place = a.0; said = told.Said b.0; schema = c.0; tables = d.0 } in
     let same : made ≡ i = cc in
-    subst (λ (x : Info). (structure (f ∷ g ∷ h ∷ j ∷ []) ≡ info_value x rs) × (info_fits x ≡ true) × (length x.tables ≡ length rs)) same (
+    subst (λ (x : Info). IsInfo (structure (f ∷ g ∷ h ∷ j ∷ [])) rs x) same (
       ap structure (cons a.1 (cons b.1 (cons c.1 (cons (named-is (codes "documents") j w.0 w.1 ∙ ap (field (codes "documents")) (list-gets w.0 u.0 w.2 ∙ ap list s.0)) refl)))),
-      both_true (both_true a.2 c.2) s.1,
+      both_true (both_true (both_true a.2 changes.0) s.1) refl,
       s.2,
+      changes.1,
     )
 info_of-is rs [] i e = cc
 info_of-is rs (f ∷ []) i e = cc
@@ -213,22 +229,34 @@ info_of-is rs (f ∷ g ∷ []) i e = cc
 info_of-is rs (f ∷ g ∷ h ∷ []) i e = cc
 info_of-is rs (f ∷ g ∷ h ∷ j ∷ k ∷ fs) i e = cc
 
-pub info-gets : (rs : List Revision) (v : Value) (i : Info) → info_in rs v ≡ Some i
-    → (v ≡ info_value i rs) × (info_fits i ≡ true) × (length i.tables ≡ length rs)
+pub info-gets : (rs : List Revision) (v : Value) (i : Info) → info_in rs v ≡ Some i → IsInfo v rs i
 info-gets rs v i e =
     let t = took (fields_in v) (info_of rs) i e in
     let c = info_of-is rs t.0 i t.2 in
-    (fields-gets v t.0 t.1 ∙ c.0, c.1, c.2)
+    (fields-gets v t.0 t.1 ∙ c.0, c.1, c.2, c.3)
 
 all_always : {A : Type 0} → (xs : List A) → list_all always xs ≡ true
 all_always [] = refl
 all_always (x ∷ xs) = all_always xs
 
-pub info-puts : (rs : List Revision) (i : Info) → info_fits i ≡ true → length i.tables ≡ length rs → list_all revision_fits rs ≡ true
+-- what was said and done, by its parts
+abbrev info_with : Place → Told → List Schema → List TableId → Info
+info_with place t schema tables = record { place = place; said = t; schema = schema; tables = tables }
+
+put_info : (rs : List Revision) (place : Place) (t : Told) (schema : List Schema) (tables : List TableId) → info_fits (info_with place t schema tables) ≡ true
+    → is_plain_info (info_with place t schema tables) ≡ true → length tables ≡ length rs → list_all revision_fits rs ≡ true
+    → info_in rs (info_value (info_with place t schema tables) rs) ≡ Some (info_with place t schema tables)
+put_info rs place (told.Said said) schema tables fits plain long revisions =
+    let three = left (place_fits place && list_all schema_fits schema && list_all table_fits tables) _ fits in
+    let two = left (place_fits place && list_all schema_fits schema) _ three in
+    let changes = all_of schema_fits (λ x. not (is_redact x)) schema (right (place_fits place) _ two) plain in
+    let a = place-puts place (left (place_fits place) _ two) in
+    let b = each-puts said_in said_value always said-puts said (all_always said) in
+    let c = each-puts schema_in schema_value is_plain_change schema-puts schema changes in
+    let d = tables-puts tables rs long (right (place_fits place && list_all schema_fits schema) _ three) revisions in
+    rw (fields-puts _, a, list-puts (map said_value said), b, list-puts (map schema_value schema), c, list-puts (document_values tables rs), d) refl
+put_info rs place (told.Hashed hash) schema tables fits plain long revisions = cc
+
+pub info-puts : (rs : List Revision) (i : Info) → info_fits i ≡ true → is_plain_info i ≡ true → length i.tables ≡ length rs → list_all revision_fits rs ≡ true
     → info_in rs (info_value i rs) ≡ Some i
-info-puts rs i fits long revisions =
-    let a = place-puts i.place (left _ _ (left _ _ fits)) in
-    let b = each-puts said_in said_value always said-puts i.said (all_always i.said) in
-    let c = each-puts schema_in schema_value schema_fits schema-puts i.schema (right (place_fits i.place) _ (left _ _ fits)) in
-    let d = tables-puts i.tables rs long (right (place_fits i.place && list_all schema_fits i.schema) _ fits) revisions in
-    rw (fields-puts _, a, list-puts (map said_value i.said), b, list-puts (map schema_value i.schema), c, list-puts (document_values i.tables rs), d) refl
+info-puts rs i fits plain long revisions = put_info rs i.place i.said i.schema i.tables fits plain long revisions

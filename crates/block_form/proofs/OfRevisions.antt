@@ -1,15 +1,15 @@
 -- Readings of revisions are inverse to their writings.
-use Rattle.std.proofs.Common.{◌≡◌, ◌∙◌, ◌^◌, true, List, [], ◌∷◌, ◌++◌, Some, refl, sym, ap, subst, codes}
+use Rattle.std.proofs.Common.{◌≡◌, ◌∙◌, ◌^◌, not, true, List, [], ◌∷◌, ◌++◌, Some, refl, sym, ap, subst, codes}
 use Rattle.std.specs.Cmp.Derive.{both_true}
 use Rattle.ion_values.specs.declared.value.Value.{Value}
 use Rattle.ion_values.specs.declared.value.Field.{Field}
 use Rattle.ledger_model.specs.declared.block.Content.{Content}
-use Rattle.ledger_model.specs.declared.block.Content.TheVariants.{Deleted, Kept}
+use Rattle.ledger_model.specs.declared.block.Content.TheVariants.{Deleted, Kept, Redacted}
 use Rattle.ledger_model.specs.declared.block.Metadata.{Metadata}
 use Rattle.ledger_model.specs.declared.block.Revision.{Revision}
 use Rattle.ledger_model.specs.Values.{field, fields_in}
 use Rattle.ledger_model.specs.Journal.{structure, number, moment, id_value, hash_value, address_value, metadata_value, data_fields, revision_value}
-use Rattle.ledger_model.specs.Whole.{id_fits, hash_fits, address_fits, metadata_fits, revision_fits}
+use Rattle.ledger_model.specs.Whole.{id_fits, hash_fits, address_fits, content_fits, is_plain_revision, is_redacted, metadata_fits, revision_fits}
 use Rattle.block_form.specs.ReadBack.{named, number_in, moment_in, id_in, hash_in, address_in, metadata_of, metadata_in, with_content, revision_of, revision_in}
 use Rattle.block_form.proofs.Inverse.{Gets, Puts, took, fields-gets, left, right, cons}
 use Rattle.block_form.proofs.SmallParts.{fields-puts, below, number-gets, number-puts, id-gets, id-puts, hash-gets, hash-puts, moment-gets, moment-puts}
@@ -46,10 +46,10 @@ metadata-puts m fits =
 
 -- ---- revisions
 
-with_content-is : (content : Content) (f g h : Field) (r : Revision) → with_content content f g h ≡ Some r
+with_content-is : (content : Content) → content_fits content ≡ true → (f g h : Field) (r : Revision) → with_content content f g h ≡ Some r
     → (f ≡ field (codes "blockAddress") (address_value r.address)) × (g ≡ field (codes "hash") (hash_value r.hash))
     × (h ≡ field (codes "metadata") (metadata_value r.metadata)) × (r.content ≡ content) × (revision_fits r ≡ true)
-with_content-is content f g h r e =
+with_content-is content fits f g h r e =
     let a = taken address_in address_value address_fits address-gets (codes "blockAddress") f _ r e in
     let b = taken hash_in hash_value hash_fits hash-gets (codes "hash") g _ r a.3 in
     let c = taken metadata_in metadata_value metadata_fits metadata-gets (codes "metadata") h _ r b.3 in
@@ -57,7 +57,7 @@ with_content-is content f g h r e =
     let same : made ≡ r = cc in
     subst (λ (x : Revision). (f ≡ field (codes "blockAddress") (address_value x.address)) × (g ≡ field (codes "hash") (hash_value x.hash))
     × (h ≡ field (codes "metadata") (metadata_value x.metadata)) × (x.content ≡ content) × (revision_fits x ≡ true)) same
-    (a.1, b.1, c.1, refl, both_true (both_true a.2 b.2) c.2)
+    (a.1, b.1, c.1, refl, both_true (both_true (both_true a.2 b.2) c.2) fits)
 
 -- the value of a revision by its content
 value_with : Content → Revision → Value
@@ -65,40 +65,41 @@ value_with content r = structure (
     (field (codes "blockAddress") (address_value r.address) ∷ field (codes "hash") (hash_value r.hash) ∷ [])
     ++ data_fields content ++ field (codes "metadata") (metadata_value r.metadata) ∷ [])
 
-revision_of-is : (fs : List Field) (r : Revision) → revision_of fs ≡ Some r → (structure fs ≡ revision_value r) × (revision_fits r ≡ true)
+revision_of-is : (fs : List Field) (r : Revision) → revision_of fs ≡ Some r → (structure fs ≡ revision_value r) × (is_plain_revision r ≡ true)
 unfolding value_with
 revision_of-is (f ∷ g ∷ h ∷ []) r e =
-    let s = with_content-is Deleted f g h r e in
-    (ap structure (cons s.0 (cons s.1 (cons s.2 refl))) ∙ ap (λ c. value_with c r) (sym s.3), s.4)
+    let s = with_content-is Deleted refl f g h r e in
+    (ap structure (cons s.0 (cons s.1 (cons s.2 refl))) ∙ ap (λ c. value_with c r) (sym s.3), both_true s.4 (ap (λ c. not (is_redacted c)) s.3))
 revision_of-is (f ∷ g ∷ d ∷ h ∷ []) r e =
     let t = took (named (codes "data") d) _ r e in
-    let s = with_content-is (Kept t.0) f g h r t.2 in
-    (ap structure (cons s.0 (cons s.1 (cons (named-is (codes "data") d t.0 t.1) (cons s.2 refl)))) ∙ ap (λ c. value_with c r) (sym s.3), s.4)
+    let s = with_content-is (Kept t.0) refl f g h r t.2 in
+    (ap structure (cons s.0 (cons s.1 (cons (named-is (codes "data") d t.0 t.1) (cons s.2 refl)))) ∙ ap (λ c. value_with c r) (sym s.3), both_true s.4 (ap (λ c. not (is_redacted c)) s.3))
 revision_of-is [] r e = cc
 revision_of-is (f ∷ []) r e = cc
 revision_of-is (f ∷ g ∷ []) r e = cc
 revision_of-is (f ∷ g ∷ h ∷ i ∷ j ∷ fs) r e = cc
 
-pub revision-gets : Gets revision_in revision_value revision_fits
+pub revision-gets : Gets revision_in revision_value is_plain_revision
 revision-gets v r e =
     let t = took (fields_in v) revision_of r e in
     let s = revision_of-is t.0 r t.2 in
     (fields-gets v t.0 t.1 ∙ s.0, s.1)
 
-put_with : (content : Content) (r : Revision) → revision_fits r ≡ true
+put_with : (content : Content) (r : Revision) → revision_fits r ≡ true → not (is_redacted content) ≡ true
     → revision_in (value_with content r) ≡ Some (record { address = r.address; hash = r.hash; content = content; metadata = r.metadata })
 unfolding value_with
-put_with Deleted r fits =
-    let a = address-puts r.address (left _ _ (left _ _ fits)) in
-    let b = hash-puts r.hash (right _ _ (left _ _ fits)) in
-    let c = metadata-puts r.metadata (right _ _ fits) in
+put_with Deleted r fits plain =
+    let a = address-puts r.address (left _ _ (left _ _ (left _ _ fits))) in
+    let b = hash-puts r.hash (right _ _ (left _ _ (left _ _ fits))) in
+    let c = metadata-puts r.metadata (right _ _ (left _ _ fits)) in
     rw (fields-puts _, a, b, c) refl
-put_with (Kept v) r fits =
-    let a = address-puts r.address (left _ _ (left _ _ fits)) in
-    let b = hash-puts r.hash (right _ _ (left _ _ fits)) in
-    let c = metadata-puts r.metadata (right _ _ fits) in
+put_with (Kept v) r fits plain =
+    let a = address-puts r.address (left _ _ (left _ _ (left _ _ fits))) in
+    let b = hash-puts r.hash (right _ _ (left _ _ (left _ _ fits))) in
+    let c = metadata-puts r.metadata (right _ _ (left _ _ fits)) in
     rw (fields-puts _, a, b, c) refl
+put_with (Redacted hash) r fits plain = cc
 
-pub revision-puts : Puts revision_in revision_value revision_fits
+pub revision-puts : Puts revision_in revision_value is_plain_revision
 unfolding value_with
-revision-puts r fits = put_with r.content r fits
+revision-puts r fits = put_with r.content r (left (revision_fits r) _ fits) (right (revision_fits r) _ fits)

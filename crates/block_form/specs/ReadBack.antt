@@ -1,5 +1,6 @@
 -- The parts of blocks read back from values (Ion 1.0, "The Ion data model"): each reading gives the part whose value it is
--- given, and None for a value of no part. Fields stand in the written order, with none beside them.
+-- given, and None for a value of no part. Fields stand in the written order, with none beside them. Hashes in place of data and of
+-- statements and entries of redactions are read as no part, since no block has them so far.
 use Rattle.std.specs.Prelude.{◌≡◌, ◌≢◌, ◌&&◌, IsTrue, nat_le, ℕ, pos, ◌^◌, ◌==◌, nat_lt, List, [], ◌∷◌, take, drop, length, codes, Option, Some, None, option_map, if◌then◌else◌}
 use Rattle.std.specs.List.{list_all}
 use Rattle.std.specs.Str.{bytes_eq}
@@ -24,6 +25,7 @@ use Rattle.ledger_model.specs.declared.block.Content.{Content}
 use Rattle.ledger_model.specs.declared.block.Content.TheVariants.{Deleted, Kept}
 use Rattle.ledger_model.specs.declared.block.Metadata.{Metadata}
 use Rattle.ledger_model.specs.declared.block.Revision.{Revision}
+use Rattle.ledger_model.specs.declared.block.Told.TheVariants as told
 use Rattle.ledger_model.specs.declared.block.Info.{Info}
 use Rattle.ledger_model.specs.declared.block.Header.{Header}
 use Rattle.ledger_model.specs.declared.block.Block.{Block}
@@ -186,7 +188,7 @@ info_of revisions (f ∷ g ∷ h ∷ i ∷ []) =
     and_then (and_then (and_then (named (codes "statements") g) list_in) (each said_in)) (λ said.
     and_then (and_then (and_then (named (codes "schema") h) list_in) (each schema_in)) (λ schema.
     and_then (and_then (and_then (named (codes "documents") i) list_in) (λ values. tables_of values revisions)) (λ tables.
-    Some (record { place = place; said = said; schema = schema; tables = tables })))))
+    Some (record { place = place; said = told.Said said; schema = schema; tables = tables })))))
 info_of revisions _ = None
 
 abbrev pub info_in : List Revision → Value → Option Info

@@ -1,11 +1,12 @@
-//! Blocks and revisions as Ion values, and their hashes.
+//! Blocks and revisions as Ion values, and their hashes. `parts` writes the values of the parts of which blocks, revisions
+//! and proofs are made, and `read_parts` reads them.
 #![tactic(auto)]
 
 mod hash_checks;
-mod parts;
+pub mod parts;
 mod read_blocks;
 mod read_info;
-mod read_parts;
+pub mod read_parts;
 mod read_revisions;
 mod revisions;
 mod said;
@@ -14,5 +15,7 @@ mod values;
 
 pub use hash_checks::has_hashes;
 pub use read_blocks::{from_ion, values_tell_blocks};
-pub use seals::{revision_hash, seal, strand_hash};
-pub use values::to_ion;
+pub use read_revisions::revision_in;
+pub use revisions::revision_value;
+pub use seals::{header_hash, revision_hash, seal, strand_hash};
+pub use values::{header_value, to_ion};

@@ -19,12 +19,14 @@ pub fn plain(alloc: Global, body: Body) -> Value
     }
 }
 
+/// A number as an int.
 pub fn number(alloc: Global, n: u64) -> Value
     ensures { result ≡ number n }
 {
     plain(alloc, Body::Int(i128::from(n)))
 }
 
+/// A text as a string.
 pub fn string(alloc: Global, text: &Text) -> Result<Value, OutOfMemory>
     ensures { IfOk result (λ v. v ≡ string text.now) }
 {
@@ -50,12 +52,14 @@ pub fn id_value(alloc: Global, raw: u128) -> Result<Value, OutOfMemory>
     Ok(plain(alloc, Body::String(id_text(alloc, raw)?)))
 }
 
+/// A time as a timestamp.
 pub fn moment(alloc: Global, time: &IonTime) -> Value
     ensures { result ≡ moment time.now }
 {
     plain(alloc, Body::Timestamp(*time))
 }
 
+/// A struct of these fields.
 pub fn structure(alloc: Global, fields: Fields) -> Value
     ensures { result ≡ structure fields }
 {
@@ -70,12 +74,14 @@ pub fn put(alloc: Global, fields: &mut Fields, name: &str, value: Value) -> Resu
     fields.push(Field { name, value })
 }
 
+/// A list of these values.
 pub fn list(alloc: Global, values: Values) -> Value
     ensures { result ≡ list values }
 {
     plain(alloc, Body::List(values))
 }
 
+/// A hash is a blob of its bytes.
 pub fn hash_value(alloc: Global, hash: &Hash32) -> Result<Value, OutOfMemory>
     ensures { IfOk result (λ v. v ≡ hash_value hash.now) }
 {
@@ -83,6 +89,7 @@ pub fn hash_value(alloc: Global, hash: &Hash32) -> Result<Value, OutOfMemory>
     Ok(plain(alloc, Body::Blob(bytes)))
 }
 
+/// The address of a block.
 pub fn address_value(alloc: Global, address: &BlockAddress) -> Result<Value, OutOfMemory>
     ensures { IfOk result (λ v. v ≡ address_value address.now) }
 {

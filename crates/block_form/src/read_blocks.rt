@@ -198,6 +198,7 @@ fn is_shallow(content: &Content) -> bool
     match content {
         Content::Deleted => true,
         Content::Kept(value) => depth(value) <= 64,
+        Content::Redacted(_) => true,
     }
 }
 

@@ -7,7 +7,7 @@ ghost use Rattle.block_form.specs.ReadBack as spec;
 
 use crate::read_parts::{fields_in, id_in, list_in, named, small_number_in, string_in};
 use ion_values::{Field, OutOfMemory, Text, Value, Values, copy_values};
-use ledger_model::{Answer, Info, Revision, Said, SaidList, Schema, SchemaList, TableIds};
+use ledger_model::{Answer, Info, Revision, Said, SaidList, Schema, SchemaList, TableIds, Told};
 use lists::Sequence;
 use ql_types::{Place, TableId};
 use std::alloc::Global;
@@ -211,7 +211,7 @@ fn info_of(
     };
     Ok(Some(Info {
         place,
-        said,
+        said: Told::Said(said),
         schema,
         tables,
     }))

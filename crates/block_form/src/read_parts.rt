@@ -118,6 +118,7 @@ fn hash_of_bytes(bytes: &[u8]) -> Option<Hash32>
     Some(hash)
 }
 
+/// The hash whose bytes an unannotated blob has.
 #[tactic(auto, unfolding(crate::specs::ReadBack::hash_in))]
 pub fn hash_in(v: &Value) -> Option<Hash32>
     ensures { result ≡ spec.hash_in v.now }
@@ -137,6 +138,7 @@ fn entry_of_bytes(bytes: &[u8]) -> Option<Hash>
     Some(Hash::Full(hash))
 }
 
+/// The hash of an entry of a block, which is empty where the blob has no bytes.
 pub fn entry_in(v: &Value) -> Option<Hash>
     ensures { result ≡ spec.entry_in v.now }
 {
@@ -155,6 +157,7 @@ pub fn named<'a>(field: &'a Field, name: &str) -> Option<&'a Value>
     }
 }
 
+/// The address of a block.
 pub fn address_in(v: &Value) -> Option<BlockAddress>
     ensures { result ≡ spec.address_in v.now }
 {

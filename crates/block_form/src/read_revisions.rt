@@ -82,7 +82,8 @@ fn revision_of(alloc: Global, fields: &[Field]) -> Result<Option<Revision>, OutO
     }
 }
 
-fn revision_in(alloc: Global, v: &Value) -> Result<Option<Revision>, OutOfMemory>
+/// The revision whose value this is, or None where it is no revision's that keeps its data or is a delete.
+pub fn revision_in(alloc: Global, v: &Value) -> Result<Option<Revision>, OutOfMemory>
     ensures { IfOk result (λ r. r ≡ spec.revision_in v.now) }
 {
     let Some(fields) = fields_in(v) else {

@@ -8,6 +8,7 @@ use ledger_model::{Content, Metadata, Revision};
 use lists::Sequence;
 use std::alloc::Global;
 
+/// The metadata as a value.
 pub fn metadata_value(alloc: Global, metadata: &Metadata) -> Result<Value, OutOfMemory>
     ensures { IfOk result (λ v. v ≡ metadata_value metadata.now) }
 {
@@ -29,17 +30,19 @@ pub fn metadata_value(alloc: Global, metadata: &Metadata) -> Result<Value, OutOf
     Ok(structure(alloc, fields))
 }
 
-/// Puts the field `data`, which a delete has not.
+/// Puts the field `data`, which a delete has not, or `dataHash` where the data's hash stands for them.
 fn put_data(alloc: Global, fields: &mut Fields, content: &Content) -> Result<(), OutOfMemory>
     ensures { OnOk result (fields.new ≡ fields.old ++ data_fields content.now) }
 {
     match content {
         Content::Deleted => Ok(()),
         Content::Kept(value) => put(alloc, fields, "data", copy(alloc, value)?),
+        Content::Redacted(hash) => put(alloc, fields, "dataHash", hash_value(alloc, hash)?),
     }
 }
 
-fn revision_value(alloc: Global, revision: &Revision) -> Result<Value, OutOfMemory>
+/// The revision as a value.
+pub fn revision_value(alloc: Global, revision: &Revision) -> Result<Value, OutOfMemory>
     ensures { IfOk result (λ v. v ≡ revision_value revision.now) }
 {
     let mut fields = Sequence::new(alloc);

@@ -1,12 +1,12 @@
 //! What a transaction said and did, as a value.
-ghost use Rattle.std.specs.Prelude.{◌≡◌, map, IfOk};
-ghost use Rattle.ledger_model.specs.Journal.{list, place_value, said_value, change_value, schema_value, document_value, document_values, info_value};
+ghost use Rattle.std.specs.Prelude.{◌≡◌, ◌++◌, [], ◌∷◌, map, IfOk, OnOk};
+ghost use Rattle.ledger_model.specs.Journal.{list, place_value, said_value, told_field, change_value, redact_value, schema_value, document_value, document_values, info_value};
 
-use crate::parts::{id_value, list, number, put, string, structure};
-use ion_values::{OutOfMemory, Text, Value, Values, copy_values};
-use ledger_model::{Info, Revision, Said, Schema};
+use crate::parts::{address_value, hash_value, id_value, list, number, put, string, structure};
+use ion_values::{Fields, OutOfMemory, Text, Value, Values, copy_values};
+use ledger_model::{Info, Revision, Said, Schema, Told};
 use lists::Sequence;
-use ql_types::{Place, TableId};
+use ql_types::{BlockAddress, DocId, Place, TableId};
 use std::alloc::Global;
 
 fn place_value(alloc: Global, place: &Place) -> Result<Value, OutOfMemory>
@@ -64,6 +64,19 @@ fn said_values(alloc: Global, said: &[Said]) -> Result<Values, OutOfMemory>
     Ok(values)
 }
 
+/// Puts the statements, or their hash where it stands for them.
+fn put_told(alloc: Global, fields: &mut Fields, told: &Told) -> Result<(), OutOfMemory>
+    ensures { OnOk result (fields.new ≡ fields.old ++ told_field told.now ∷ []) }
+{
+    match told {
+        Told::Said(said) => {
+            let said = said_values(alloc, said.as_slice())?;
+            put(alloc, fields, "statements", list(alloc, said))
+        }
+        Told::Hashed(hash) => put(alloc, fields, "statementsHash", hash_value(alloc, hash)?),
+    }
+}
+
 /// A change of this kind, to a table by this name.
 fn change_value(
     alloc: Global,
@@ -79,6 +92,27 @@ fn change_value(
     Ok(structure(alloc, fields))
 }
 
+/// The redaction of the revision of a document in the block at this address.
+fn redact_value(
+    alloc: Global,
+    address: &BlockAddress,
+    table: TableId,
+    document: DocId,
+) -> Result<Value, OutOfMemory>
+    ensures { IfOk result (λ v. v ≡ redact_value address.now table document) }
+{
+    let mut fields = Sequence::new(alloc);
+    put(alloc, &mut fields, "redact", address_value(alloc, address)?)?;
+    put(alloc, &mut fields, "tableId", id_value(alloc, table.raw)?)?;
+    put(
+        alloc,
+        &mut fields,
+        "documentId",
+        id_value(alloc, document.raw)?,
+    )?;
+    Ok(structure(alloc, fields))
+}
+
 fn schema_value(alloc: Global, schema: &Schema) -> Result<Value, OutOfMemory>
     ensures { IfOk result (λ v. v ≡ schema_value schema.now) }
 {
@@ -86,6 +120,11 @@ fn schema_value(alloc: Global, schema: &Schema) -> Result<Value, OutOfMemory>
         Schema::Create { name, table } => change_value(alloc, "create", name, *table),
         Schema::Index { field, table } => change_value(alloc, "index", field, *table),
         Schema::Drop { name, table } => change_value(alloc, "drop", name, *table),
+        Schema::Redact {
+            address,
+            table,
+            document,
+        } => redact_value(alloc, address, *table, *document),
     }
 }
 
@@ -132,7 +171,6 @@ fn document_values(
 pub fn info_value(alloc: Global, info: &Info, revisions: &[Revision]) -> Result<Value, OutOfMemory>
     ensures { IfOk result (λ v. v ≡ info_value info.now revisions.now) }
 {
-    let said = said_values(alloc, info.said.as_slice())?;
     let schema = schema_values(alloc, info.schema.as_slice())?;
     let documents = document_values(alloc, info.tables.as_slice(), revisions)?;
     let mut fields = Sequence::new(alloc);
@@ -142,7 +180,7 @@ pub fn info_value(alloc: Global, info: &Info, revisions: &[Revision]) -> Result<
         "place",
         place_value(alloc, &info.place)?,
     )?;
-    put(alloc, &mut fields, "statements", list(alloc, said))?;
+    put_told(alloc, &mut fields, &info.said)?;
     put(alloc, &mut fields, "schema", list(alloc, schema))?;
     put(alloc, &mut fields, "documents", list(alloc, documents))?;
     Ok(structure(alloc, fields))

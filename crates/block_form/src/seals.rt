@@ -17,7 +17,8 @@ use pair_hash::dot_full;
 use ql_types::{Hash, Hash32, StrandId};
 use std::alloc::Global;
 
-/// The hash of a revision: that of its metadata with that of its data, or of its metadata alone where it is a delete.
+/// The hash of a revision: that of its metadata with that of its data, which may stand for the data, or of its metadata
+/// alone where it is a delete.
 pub fn revision_hash(
     alloc: Global,
     content: &Content,
@@ -29,6 +30,7 @@ pub fn revision_hash(
     match content {
         Content::Deleted => Ok(metadata),
         Content::Kept(value) => Ok(dot_full(&metadata, &hash(alloc, value)?)),
+        Content::Redacted(data) => Ok(dot_full(&metadata, data)),
     }
 }
 
@@ -45,6 +47,7 @@ pub fn info_hash(alloc: Global, info: &Info, revisions: &[Revision]) -> Result<H
     hash(alloc, &info_value(alloc, info, revisions)?)
 }
 
+/// The hash of a block's header.
 pub fn header_hash(alloc: Global, header: &Header) -> Result<Hash32, OutOfMemory>
     ensures { IfOk result (λ h. h ≡ hash_of (header_value header.now)) }
 {

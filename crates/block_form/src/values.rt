@@ -14,6 +14,7 @@ use lists::Sequence;
 use ql_types::Hash;
 use std::alloc::Global;
 
+/// The header of a block, as it is hashed and as a proof has it.
 pub fn header_value(alloc: Global, header: &Header) -> Result<Value, OutOfMemory>
     ensures { IfOk result (λ v. v ≡ header_value header.now) }
 {

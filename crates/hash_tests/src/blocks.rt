@@ -3,10 +3,11 @@ ghost use Rattle.std.specs.Prelude.{◌≡◌, true, IfOk};
 ghost use Rattle.ledger_model.specs.Seals.{IsSealed};
 
 use block_form::{from_ion, revision_hash, seal, strand_hash, to_ion};
+use ion_hash::hash;
 use ion_text::read_stream;
 use ion_values::{Body, IonTime, Kind, OutOfMemory, Text, Value, copy};
 use ledger_model::{
-    Answer, Block, Content, Header, Info, Metadata, Revision, Revisions, Said, SaidList,
+    Answer, Block, Content, Header, Info, Metadata, Revision, Revisions, Said, SaidList, Told,
 };
 use lists::Sequence;
 use pair_hash::dot;
@@ -82,7 +83,7 @@ fn info(alloc: Global, statement: &str) -> Result<Info, OutOfMemory> {
             session: 1,
             transaction: 1,
         },
-        said: said(alloc, statement)?,
+        said: Told::Said(said(alloc, statement)?),
         schema: Sequence::new(alloc),
         tables,
     })
@@ -161,6 +162,24 @@ fn each_part_changes_the_hashes(rt: HostRuntime) -> Result<(), Fail> {
         assert!(rt; is_told_apart(&first, &other, same_entries));
     }
     Ok(())
+}
+
+/// Whether a revision that keeps null has the hash of one that keeps the hash of null in its place.
+fn is_hashed_alike(alloc: Global) -> Option<bool> {
+    let header = header(year(alloc)?);
+    let kept = content(alloc, true);
+    let Content::Kept(value) = &kept else {
+        return None;
+    };
+    let redacted = Content::Redacted(hash(alloc, value).ok()?);
+    let whole = revision(alloc, &header, kept).ok()?;
+    let rest = revision(alloc, &header, redacted).ok()?;
+    Some(whole.hash == rest.hash)
+}
+
+#[test]
+fn a_redacted_revision_keeps_its_hash(rt: HostRuntime) {
+    assert_eq!(rt; is_hashed_alike(rt.alloc()), Some(true));
 }
 
 const FIELD_NAMES: &str = "blockAddress

@@ -15,7 +15,7 @@ use block_form::{revision_hash, seal, strand_hash};
 use ion_text::read_stream;
 use ion_values::{IonTime, Precision, TimeParts, Values};
 use journal_text::line;
-use ledger_model::{Block, Content, Header, Info, Metadata, Revision, Revisions, Schema};
+use ledger_model::{Block, Content, Header, Info, Metadata, Revision, Revisions, Schema, Told};
 use lists::{Sequence, Text};
 use ql_types::{BlockAddress, DocId, Hash32, Place, StrandId, TableId, TxId};
 use std::alloc::Global;
@@ -111,7 +111,7 @@ impl Parts {
                     session: 1,
                     transaction: 1,
                 },
-                said: Sequence::new(alloc),
+                said: Told::Said(Sequence::new(alloc)),
                 schema: Sequence::new(alloc),
                 tables: Sequence::new(alloc),
             },

@@ -1,6 +1,6 @@
 //! Blocks as they are kept.
 use ion_values::{IonTime, Precision, TimeParts};
-use ledger_model::{Block, Blocks, Header, Info};
+use ledger_model::{Block, Blocks, Header, Info, Told};
 use lists::Sequence;
 use ql_types::{BlockAddress, Hash, Hash32, Place, StrandId, TxId};
 use std::alloc::Global;
@@ -44,7 +44,7 @@ fn block(alloc: Global, number: u64) -> Result<Block, Fail> {
                 session: 1,
                 transaction: 1,
             },
-            said: Sequence::new(alloc),
+            said: Told::Said(Sequence::new(alloc)),
             schema: Sequence::new(alloc),
             tables: Sequence::new(alloc),
         },

@@ -1,8 +1,8 @@
 use crate::building::{Parts, STRAND, values};
 use block_form::strand_hash;
 use journal_text::line;
-use ledger_model::{Answer, Said, SaidList};
-use lists::Text;
+use ledger_model::{Answer, Said, SaidList, Told};
+use lists::{Sequence, Text};
 use std::alloc::Global;
 use std::test::Fail;
 
@@ -58,7 +58,9 @@ fn say(alloc: Global, all: &mut SaidList) -> Result<(), Fail> {
 
 fn parts(alloc: Global) -> Result<Parts, Fail> {
     let mut parts = Parts::of(alloc, "tx 10, sequence 0, second 0", STEPS)?;
-    say(alloc, &mut parts.info.said)?;
+    let mut said = Sequence::new(alloc);
+    say(alloc, &mut said)?;
+    parts.info.said = Told::Said(said);
     Ok(parts)
 }
 

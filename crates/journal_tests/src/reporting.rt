@@ -2,7 +2,7 @@ use ion_text::read_stream;
 use ion_values::{IonTime, Key, Kind, OutOfMemory, Precision, Text, TimeParts, Values};
 use ledger_model::{
     Answer, Block, Blocks, Header, Info, Item, Named, Outcome, ParseKind, PlacedOutcome, Refusal,
-    Said,
+    Said, Told,
 };
 use lists::Sequence;
 use ql_types::{BlockAddress, DocId, Hash, Hash32, Place, StrandId, TableId, TxId};
@@ -347,7 +347,7 @@ fn block(alloc: Global) -> Result<Block, Fail> {
                 session: 3,
                 transaction: 2,
             },
-            said: answers,
+            said: Told::Said(answers),
             schema: Sequence::new(alloc),
             tables: Sequence::new(alloc),
         },

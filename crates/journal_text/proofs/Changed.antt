@@ -7,7 +7,7 @@ use Rattle.std.proofs.lemmas.Slice.Eq.{bytes_eq-Decides}
 use Rattle.std.proofs.lemmas.Bool.{and_from, and_parts, and_right, both_ways, cases_Bool, cond-false, cond-true, eq-eqb, eqb-false, eqb-true, false_from_ne_true, ne_eqb, not-true, or_from, or_left, or_parts, or_right}
 use Rattle.ql_types.specs.declared.TableId.{TableId}
 use Rattle.ledger_model.specs.declared.block.Schema.{Schema}
-use Rattle.ledger_model.specs.declared.block.Schema.TheVariants.{Create, Index, Drop}
+use Rattle.ledger_model.specs.declared.block.Schema.TheVariants.{Create, Index, Drop, Redact}
 use Rattle.ledger_model.specs.Script.{or_else}
 use Rattle.ledger_model.specs.State.{Table, Indexed, active_table, changed, dropped, indexed}
 use Rattle.ledger_model.specs.Follows.{all_differ, created_ids, has_index, is_active}
@@ -53,6 +53,7 @@ table_ids-changed ts (Create name id) cs =
     ∙ append_assoc (table_ids ts) (id.raw ∷ []) (created_ids cs)
 table_ids-changed ts (Index field id) cs = refl
 table_ids-changed ts (Drop name id) cs = ap (λ ids. ids ++ created_ids cs) (table_ids-dropped ts id)
+table_ids-changed ts (Redact address id document) cs = refl
 
 -- ---- active tables
 

@@ -1,5 +1,8 @@
 pub mod SaidLemmas
+pub mod UnreadLemmas
 mod ScriptRows
 mod ReportRows
+mod JournalRows
 mod FollowsRows
 mod RunRows
+mod FootprintRows

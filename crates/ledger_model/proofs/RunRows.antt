@@ -179,6 +179,7 @@ two_stored :
       schema = [];
       log = drafted 16777217 ∷ drafted 16777218 ∷ [];
       made = 2;
+      footprint = [];
     })
 unfolding digits
 two_stored = search (rules, the_lemmas)

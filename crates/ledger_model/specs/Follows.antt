@@ -9,9 +9,9 @@ use Rattle.ql_types.specs.Ids.{transaction_in, thing_in}
 use Rattle.ql_types.specs.declared.BlockAddress.{BlockAddress}
 use Rattle.ql_types.specs.declared.TableId.{TableId}
 use Rattle.ledger_model.specs.declared.block.Content.{Content}
-use Rattle.ledger_model.specs.declared.block.Content.TheVariants.{Deleted, Kept}
+use Rattle.ledger_model.specs.declared.block.Content.TheVariants.{Deleted, Kept, Redacted}
 use Rattle.ledger_model.specs.declared.block.Schema.{Schema}
-use Rattle.ledger_model.specs.declared.block.Schema.TheVariants.{Create, Index, Drop}
+use Rattle.ledger_model.specs.declared.block.Schema.TheVariants.{Create, Index, Drop, Redact}
 use Rattle.ledger_model.specs.declared.block.Revision.{Revision}
 use Rattle.ledger_model.specs.declared.block.Header.{Header}
 use Rattle.ledger_model.specs.declared.block.Block.{Block}
@@ -31,11 +31,12 @@ abbrev pub is_named : List Table → List ℕ → TableId → Bool
 is_named tables name id = option_map_or (λ t. t.raw == id.raw) (active_table tables name) false
 
 -- a new table has a name that isn't active, an index is on an active table's field without one, and a table is dropped by
--- its name and id
+-- its name and id; nothing is redacted so far
 abbrev pub change_follows : List Table → List Indexed → Schema → Bool
 change_follows tables indexes (Create name id) = is_none (active_table tables name)
 change_follows tables indexes (Index field id) = is_active tables id && not (has_index indexes id field)
 change_follows tables indexes (Drop name id) = is_named tables name id
+change_follows tables indexes (Redact address id document) = false
 
 abbrev pub schema_follows : List Table → List Indexed → List Schema → Bool
 schema_follows tables indexes [] = true
@@ -91,9 +92,11 @@ is_of h r = same_address r.address h.address && same_time r.metadata.time h.time
 abbrev pub has_table : List Table → List ℕ → TableId → Bool
 has_table tables created t = is_active tables t || list_any (λ id. id == t.raw) created
 
+-- not deleted
 abbrev pub is_kept : Content → Bool
 is_kept Deleted = false
 is_kept (Kept v) = true
+is_kept (Redacted hash) = true
 
 -- a new document has version 0 and content; another one has its own table and the next version, and isn't deleted
 abbrev pub continues : Recorded → Option Recorded → Bool

@@ -10,16 +10,19 @@ use Rattle.ql_types.specs.Ids.{id_text}
 use Rattle.ql_types.specs.declared.Hash32.{Hash32}
 use Rattle.ql_types.specs.declared.Hash.{Hash}
 use Rattle.ql_types.specs.declared.Hash.TheVariants.{Empty, Full}
+use Rattle.ql_types.specs.declared.DocId.{DocId}
 use Rattle.ql_types.specs.declared.Place.{Place}
 use Rattle.ql_types.specs.declared.TableId.{TableId}
 use Rattle.ql_types.specs.declared.BlockAddress.{BlockAddress}
 use Rattle.ledger_model.specs.declared.block.Said.{Said}
 use Rattle.ledger_model.specs.declared.block.Schema.{Schema}
-use Rattle.ledger_model.specs.declared.block.Schema.TheVariants.{Create, Index, Drop}
+use Rattle.ledger_model.specs.declared.block.Schema.TheVariants.{Create, Index, Drop, Redact}
 use Rattle.ledger_model.specs.declared.block.Content.{Content}
-use Rattle.ledger_model.specs.declared.block.Content.TheVariants.{Deleted, Kept}
+use Rattle.ledger_model.specs.declared.block.Content.TheVariants.{Deleted, Kept, Redacted}
 use Rattle.ledger_model.specs.declared.block.Metadata.{Metadata}
 use Rattle.ledger_model.specs.declared.block.Revision.{Revision}
+use Rattle.ledger_model.specs.declared.block.Told.{Told}
+use Rattle.ledger_model.specs.declared.block.Told.TheVariants as told
 use Rattle.ledger_model.specs.declared.block.Info.{Info}
 use Rattle.ledger_model.specs.declared.block.Header.{Header}
 use Rattle.ledger_model.specs.declared.block.Block.{Block}
@@ -63,10 +66,11 @@ metadata_value m = structure (
     field (codes "id") (id_value m.id.raw) ∷ field (codes "version") (number m.version)
     ∷ field (codes "txTime") (moment m.time) ∷ field (codes "txId") (id_value m.tx.raw) ∷ [])
 
--- a delete has no data
+-- a delete has no data, and a redacted revision their hash
 abbrev pub data_fields : Content → List Field
 data_fields Deleted = []
 data_fields (Kept v) = field (codes "data") v ∷ []
+data_fields (Redacted hash) = field (codes "dataHash") (hash_value hash) ∷ []
 
 abbrev pub revision_value : Revision → Value
 revision_value r = structure (
@@ -78,6 +82,11 @@ revision_value r = structure (
 abbrev pub place_value : Place → Value
 place_value p = structure (field (codes "session") (number p.session) ∷ field (codes "transaction") (number p.transaction) ∷ [])
 
+-- the statements that are told; none where their hash alone is
+abbrev pub said_in : Told → List Said
+said_in (told.Said said) = said
+said_in (told.Hashed hash) = []
+
 abbrev pub said_value : Said → Value
 said_value s = structure (
     field (codes "statement") (string s.text) ∷ field (codes "parameters") (list s.params)
@@ -86,10 +95,17 @@ said_value s = structure (
 abbrev pub change_value : List ℕ → List ℕ → TableId → Value
 change_value change name table = structure (field change (string name) ∷ field (codes "tableId") (id_value table.raw) ∷ [])
 
+-- the revision of a document that is redacted, by the address of its block
+abbrev pub redact_value : BlockAddress → TableId → DocId → Value
+redact_value address table document = structure (
+    field (codes "redact") (address_value address) ∷ field (codes "tableId") (id_value table.raw)
+    ∷ field (codes "documentId") (id_value document.raw) ∷ [])
+
 abbrev pub schema_value : Schema → Value
 schema_value (Create name table) = change_value (codes "create") name table
 schema_value (Index name table) = change_value (codes "index") name table
 schema_value (Drop name table) = change_value (codes "drop") name table
+schema_value (Redact address table document) = redact_value address table document
 
 abbrev pub document_value : TableId → Revision → Value
 document_value t r = structure (field (codes "documentId") (id_value r.metadata.id.raw) ∷ field (codes "tableId") (id_value t.raw) ∷ [])
@@ -99,9 +115,14 @@ abbrev pub document_values : List TableId → List Revision → List Value
 document_values (t ∷ ts) (r ∷ rs) = document_value t r ∷ document_values ts rs
 document_values _ _ = []
 
+-- the statements, or the hash that stands in their place
+abbrev pub told_field : Told → Field
+told_field (told.Said said) = field (codes "statements") (list (map said_value said))
+told_field (told.Hashed hash) = field (codes "statementsHash") (hash_value hash)
+
 abbrev pub info_value : Info → List Revision → Value
 info_value i revisions = structure (
-    field (codes "place") (place_value i.place) ∷ field (codes "statements") (list (map said_value i.said))
+    field (codes "place") (place_value i.place) ∷ told_field i.said
     ∷ field (codes "schema") (list (map schema_value i.schema))
     ∷ field (codes "documents") (list (document_values i.tables revisions)) ∷ [])
 

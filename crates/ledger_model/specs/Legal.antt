@@ -4,8 +4,10 @@ use Rattle.std.specs.Prelude.{◌≡◌, ℕ, List, [], ◌∷◌, map, take, dr
 use Rattle.ql_types.specs.Ids.{raw_id}
 use Rattle.ql_types.specs.declared.Hash32.{Hash32}
 use Rattle.ledger_model.specs.declared.block.Said.{Said}
+use Rattle.ledger_model.specs.declared.block.Told.TheVariants as told
 use Rattle.ledger_model.specs.declared.block.Block.{Block}
 use Rattle.ledger_model.specs.declared.script.Request.{Request}
+use Rattle.ledger_model.specs.Journal.{said_in}
 use Rattle.ledger_model.specs.State.{State, state, after, draft_of, recorded_in}
 use Rattle.ledger_model.specs.Run.{Progress, run, ran, final_revisions}
 use Rattle.ledger_model.specs.Seals.{strand_hash}
@@ -19,8 +21,8 @@ pub record Means (mask : ℕ) (s : State) (b : Block) : Type 0 where
   pub number : ℕ
   pub progress : Progress
   pub id : b.header.tx.raw ≡ raw_id mask number 0
-  pub runs : run (record { mask = mask; number = number }) s (asked_in b.info.said) ≡ ran progress
-  pub said : b.info.said ≡ progress.said
+  pub runs : run (record { mask = mask; number = number }) s (asked_in (said_in b.info.said)) ≡ ran progress
+  pub said : b.info.said ≡ told.Said progress.said
   pub schema : b.info.schema ≡ progress.schema
   pub revisions : map draft_of (recorded_in b.info.tables b.revisions) ≡ final_revisions progress
 

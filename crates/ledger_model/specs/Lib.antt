@@ -3,9 +3,11 @@ pub mod Rooms
 pub mod State
 pub mod Views
 pub mod Statements
+pub mod Footprints
 pub mod Run
 pub mod Journal
 pub mod Seals
+pub mod CommitDigest
 pub mod Legal
 pub mod Script
 pub mod Unbuilt

@@ -9,6 +9,7 @@ use Rattle.ql_types.specs.declared.TxId.{TxId}
 use Rattle.ledger_model.specs.declared.block.Block.{Block}
 use Rattle.ledger_model.specs.declared.block.Draft.{Draft}
 use Rattle.ledger_model.specs.declared.block.Header.{Header}
+use Rattle.ledger_model.specs.declared.block.Told.TheVariants as told
 use Rattle.ledger_model.specs.declared.block.Info.{Info}
 use Rattle.ledger_model.specs.declared.block.Metadata.{Metadata}
 use Rattle.ledger_model.specs.declared.block.Revision.{Revision}
@@ -52,7 +53,7 @@ header_of b before time drafts = record {
 }
 
 abbrev pub info_of : Place → Progress → List Draft → Info
-info_of place p drafts = record { place = place; said = p.said; schema = p.schema; tables = map (λ d. d.table) drafts }
+info_of place p drafts = record { place = place; said = told.Said p.said; schema = p.schema; tables = map (λ d. d.table) drafts }
 
 -- the sealed block of what a transaction did
 abbrev pub block_of : Begun → List Block → Place → TimeParts → Progress → Block

@@ -12,6 +12,7 @@ use Rattle.ledger_model.specs.declared.outcome.Refusal.{Refusal}
 use Rattle.ledger_model.specs.declared.outcome.Outcome.{Outcome}
 use Rattle.ledger_model.specs.declared.outcome.Outcome.TheVariants as outcome
 use Rattle.ledger_model.specs.declared.outcome.PlacedOutcome.{PlacedOutcome}
+use Rattle.ledger_model.specs.Journal.{said_in}
 pub use Rattle.ledger_model.specs.ItemText.{quoted_id, item_text}
 pub use Rattle.ledger_model.specs.CauseText.{cause_text}
 
@@ -21,7 +22,7 @@ answer_text s = codes "[" ++ joined (map value_text s.answer.rows) ++ codes "]"
 
 abbrev pub answers_text : Option Block → List ℕ
 answers_text None = []
-answers_text (Some b) = joined (map answer_text b.info.said)
+answers_text (Some b) = joined (map answer_text (said_in b.info.said))
 
 abbrev pub committed_text : List Block → TxId → ℕ → List ℕ
 committed_text blocks tx block =

@@ -10,14 +10,11 @@ use Rattle.pql_model.specs.declared.expr.Expr.{Expr}
 use Rattle.pql_model.specs.declared.statement.FromClause.{FromClause}
 use Rattle.pql_model.specs.declared.statement.Select.{Select}
 use Rattle.pql_model.specs.declared.statement.Source.{Source}
-use Rattle.pql_model.specs.declared.statement.SourceKind.{SourceKind}
-use Rattle.pql_model.specs.declared.statement.SourceKind.TheVariants as source
 use Rattle.pql_model.specs.declared.tables.Row.{Row}
 use Rattle.pql_model.specs.declared.tables.View.{View}
 use Rattle.pql_model.specs.declared.tables.View.TheVariants as view
 use Rattle.pql_model.specs.Answers.{answered}
 use Rattle.pql_model.specs.From.{Viewed, rows_of}
-use Rattle.pql_model.specs.Tables.{table_named}
 use Rattle.pql_model.specs.declared.scope.Evaluated.{Evaluated}
 use Rattle.pql_model.specs.declared.scope.Evaluated.TheVariants.{Missing, Found}
 use Rattle.pql_model.specs.Meaning.{meaning, under}
@@ -33,9 +30,12 @@ use Rattle.ledger_model.specs.declared.script.Request.{Request}
 use Rattle.ledger_model.specs.declared.outcome.Refusal.{Refusal}
 use Rattle.ledger_model.specs.declared.outcome.Refusal.TheVariants.{NoSuchTable, TableExists, ReservedName, TooManyTables, TooManyRevisions, DocumentTooLarge, NotADocument, TooDeep}
 use Rattle.ledger_model.specs.Values.{kind_of, is_struct, named_id}
-use Rattle.ledger_model.specs.State.{State, Table, all_changed, active_table, draft_of}
+use Rattle.ledger_model.specs.declared.outcome.Item.{Item}
+use Rattle.ledger_model.specs.Footprints.{Schemas, footprint_of}
+use Rattle.ledger_model.specs.State.{State, Table, all_changed, all_indexed, active_table, draft_of}
 use Rattle.ledger_model.specs.Views.{user_view, latest}
 use Rattle.ledger_model.specs.Statements.{Served, create_table, insert_into, select_from, is_reserved, served_of}
+pub use Rattle.ledger_model.specs.Statements.{table_in}
 
 -- the mask of the journal's ids and the number of the transaction
 pub record Begun : Type 0 where
@@ -43,22 +43,24 @@ pub record Begun : Type 0 where
   pub number : ℕ
 
 -- what a transaction's statements have done so far: what was said, the changes of the schema, the pending
--- revisions in order, and how many ids were made
+-- revisions in order, how many ids were made, and what was read, statement by statement, repeats kept
 pub record Progress : Type 0 where
   pub said : List Said
   pub schema : List Schema
   pub log : List Draft
   pub made : ℕ
+  pub footprint : List Item
 
 abbrev pub start : Progress
-start = record { said = []; schema = []; log = []; made = 0 }
+start = record { said = []; schema = []; log = []; made = 0; footprint = [] }
 
--- what one statement does: its answer, and what it adds
+-- what one statement does: its answer, what it adds, and what it reads
 pub record Effect : Type 0 where
   pub rows : List Value
   pub schema : List Schema
   pub log : List Draft
   pub made : ℕ
+  pub footprint : List Item
 
 -- the number of the next id
 abbrev pub next_id : Begun → Progress → ℕ
@@ -122,16 +124,28 @@ unless None effect = effect
 unless (Some cause) effect = Err cause
 
 abbrev pub nothing : Effect
-nothing = record { rows = []; schema = []; log = []; made = 0 }
+nothing = record { rows = []; schema = []; log = []; made = 0; footprint = [] }
 
 -- one effect and then another
 abbrev pub and_then : Effect → Result Effect Refusal → Result Effect Refusal
 and_then e (Err cause) = Err cause
-and_then e (Ok f) = Ok (record { rows = e.rows ++ f.rows; schema = e.schema ++ f.schema; log = e.log ++ f.log; made = e.made + f.made })
+and_then e (Ok f) = Ok (record {
+  rows = e.rows ++ f.rows;
+  schema = e.schema ++ f.schema;
+  log = e.log ++ f.log;
+  made = e.made + f.made;
+  footprint = e.footprint ++ f.footprint;
+})
 
 -- the progress with an effect more, before it is said
 abbrev pub changed_by : Progress → Effect → Progress
-changed_by p e = record { said = p.said; schema = p.schema ++ e.schema; log = p.log ++ e.log; made = p.made + e.made }
+changed_by p e = record {
+  said = p.said;
+  schema = p.schema ++ e.schema;
+  log = p.log ++ e.log;
+  made = p.made + e.made;
+  footprint = p.footprint ++ e.footprint;
+}
 
 -- the tables as the transaction has changed them so far
 abbrev pub tables_now : State → Progress → List Table
@@ -156,7 +170,7 @@ existing name None = None
 existing name (Some there) = Some (TableExists name)
 
 abbrev pub new_table : ℕ → List ℕ → Effect
-new_table id name = record { rows = named_id (codes "tableId") id ∷ []; schema = Create name (record { raw = id }) ∷ []; log = []; made = 1 }
+new_table id name = record { rows = named_id (codes "tableId") id ∷ []; schema = Create name (record { raw = id }) ∷ []; log = []; made = 1; footprint = [] }
 
 abbrev pub created : Begun → State → Progress → List ℕ → Result Effect Refusal
 created b s p name =
@@ -179,6 +193,7 @@ new_document id table v = record {
   schema = [];
   log = record { table = table; id = record { raw = id }; version = 0; content = Kept v } ∷ [];
   made = 1;
+  footprint = [];
 }
 
 -- one document, and then the others
@@ -198,12 +213,6 @@ inserted b s p params name e =
     unless (reserved name) (on_table name (table_now s p name) (λ table. if_documents (documents_in (meaning e (under [] params))) (stored b table p)))
 
 -- ---- SELECT
-
--- the table that a source names, its views' prefix left out
-abbrev pub table_in : SourceKind → Option (List ℕ)
-table_in (source.Table name) = Some (table_named name)
-table_in (source.History table _ _) = Some table
-table_in (source.Path path) = None
 
 abbrev pub absent_table : State → Progress → Option (List ℕ) → Option Refusal
 absent_table s p None = None
@@ -233,14 +242,28 @@ selected s p params select from = unless (first_absent s p from.sources) (Ok (re
   schema = [];
   log = [];
   made = 0;
+  footprint = [];
 }))
 
 -- ---- statements
 
+-- but for what it reads
+abbrev pub done_by_statement : Begun → State → Progress → List Value → Served → Result Effect Refusal
+done_by_statement b s p params (create_table name) = created b s p name
+done_by_statement b s p params (insert_into name e) = inserted b s p params name e
+done_by_statement b s p params (select_from select from) = selected s p params select from
+
+-- the tables and the fields with an index as the transaction has changed them so far
+abbrev pub schemas_now : State → Progress → Schemas
+schemas_now s p = record { tables = tables_now s p; indexes = all_indexed s.indexes p.schema }
+
+-- a statement that is refused reads nothing
+abbrev pub reading : List Item → Result Effect Refusal → Result Effect Refusal
+reading items (Err cause) = Err cause
+reading items (Ok e) = Ok (record e { footprint = items })
+
 abbrev pub effect_of : Begun → State → Progress → List Value → Served → Result Effect Refusal
-effect_of b s p params (create_table name) = created b s p name
-effect_of b s p params (insert_into name e) = inserted b s p params name e
-effect_of b s p params (select_from select from) = selected s p params select from
+effect_of b s p params statement = reading (footprint_of (schemas_now s p) params statement) (done_by_statement b s p params statement)
 
 abbrev pub if_read : (Served → Result Effect Refusal) → Result Served Refusal → Result Effect Refusal
 if_read f (Ok statement) = f statement
@@ -283,6 +306,19 @@ run_from b s j p (r ∷ rs) = then_run j (step b s p r) (λ q. run_from b s (j +
 -- the whole transaction
 abbrev pub run : Begun → State → List Request → Ran
 run b s asked = run_from b s 1 start asked
+
+-- the same but for what was read, which a running transaction keeps once conflicts are found
+abbrev pub unread : Progress → Progress
+unread p = record p { footprint = [] }
+
+abbrev pub unread_result : Result Progress Refusal → Result Progress Refusal
+unread_result (Ok p) = Ok (unread p)
+unread_result (Err cause) = Err cause
+
+abbrev pub unread_ran : Ran → Ran
+unread_ran (ran p) = ran (unread p)
+unread_ran (refused statement cause) = refused statement cause
+unread_ran unserved = unserved
 
 -- one revision for each document that was touched, with its final content, in order of first touch
 abbrev pub final_revisions : Progress → List Draft

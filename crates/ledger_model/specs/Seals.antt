@@ -7,7 +7,7 @@ use Rattle.ql_types.specs.declared.Hash32.{Hash32}
 use Rattle.ql_types.specs.declared.Hash.{Hash}
 use Rattle.ql_types.specs.declared.Hash.TheVariants.{Empty, Full}
 use Rattle.ledger_model.specs.declared.block.Content.{Content}
-use Rattle.ledger_model.specs.declared.block.Content.TheVariants.{Deleted, Kept}
+use Rattle.ledger_model.specs.declared.block.Content.TheVariants.{Deleted, Kept, Redacted}
 use Rattle.ledger_model.specs.declared.block.Metadata.{Metadata}
 use Rattle.ledger_model.specs.declared.block.Revision.{Revision}
 use Rattle.ledger_model.specs.declared.block.Info.{Info}
@@ -15,10 +15,11 @@ use Rattle.ledger_model.specs.declared.block.Header.{Header}
 use Rattle.ledger_model.specs.declared.block.Block.{Block}
 use Rattle.ledger_model.specs.Journal.{metadata_value, info_value, header_value, id_value}
 
--- of the metadata and the data, or of the metadata alone for a delete
+-- of the metadata and the data, whose hash may stand for them, or of the metadata alone for a delete
 abbrev pub revision_hash : Content → Metadata → Hash32
 revision_hash Deleted m = hash_of (metadata_value m)
 revision_hash (Kept v) m = dot32 (hash_of (metadata_value m)) (hash_of v)
+revision_hash (Redacted hash) m = dot32 (hash_of (metadata_value m)) hash
 
 -- of the first two and then of the third, the second being empty or not
 abbrev pub entries_hash : Hash32 → Hash → Hash32 → Hash32
@@ -28,7 +29,7 @@ entries_hash info (Full revisions) header = dot32 (dot32 info revisions) header
 abbrev pub revisions_root : List Revision → Hash
 revisions_root revisions = root_of (map (λ r. r.hash) revisions)
 
--- the block of these parts, with its hashes
+-- the block of these parts, with its hashes; its statements are told, since no block keeps their hash alone so far
 abbrev pub sealed : Hash32 → Header → Info → List Revision → Block
 sealed previous header info revisions =
     let said = hash_of (info_value info revisions) in

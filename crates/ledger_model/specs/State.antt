@@ -7,7 +7,7 @@ use Rattle.ledger_model.specs.declared.block.Draft.{Draft}
 use Rattle.ledger_model.specs.declared.block.Revision.{Revision}
 use Rattle.ledger_model.specs.declared.block.Block.{Block}
 use Rattle.ledger_model.specs.declared.block.Schema.{Schema}
-use Rattle.ledger_model.specs.declared.block.Schema.TheVariants.{Create, Index, Drop}
+use Rattle.ledger_model.specs.declared.block.Schema.TheVariants.{Create, Index, Drop, Redact}
 
 pub record Table : Type 0 where
   pub name : List ℕ
@@ -37,6 +37,7 @@ abbrev pub changed : List Table → Schema → List Table
 changed tables (Create name id) = tables ++ record { name = name; id = id; active = true } ∷ []
 changed tables (Index field id) = tables
 changed tables (Drop name id) = map (dropped id) tables
+changed tables (Redact address id document) = tables
 
 abbrev pub all_changed : List Table → List Schema → List Table
 all_changed tables [] = tables

@@ -15,7 +15,7 @@ use Rattle.pql_model.specs.declared.statement.Statement.TheVariants as statement
 use Rattle.pql_model.specs.Parameters.{in_statement}
 use Rattle.pql_model.specs.Parse.{parsed}
 use Rattle.pql_model.specs.Productions.{Fault}
-use Rattle.pql_model.specs.Tables.{is_committed}
+use Rattle.pql_model.specs.Tables.{is_committed, table_named}
 use Rattle.ledger_model.specs.declared.script.Request.{Request}
 use Rattle.ledger_model.specs.declared.outcome.Refusal.{Refusal}
 use Rattle.ledger_model.specs.declared.outcome.Refusal.TheVariants.{ParseFault, ParameterCount}
@@ -25,6 +25,12 @@ use Rattle.ledger_model.specs.declared.outcome.Refusal.TheVariants.{ParseFault, 
 -- a name that is the ledger's own
 abbrev pub is_reserved : List ℕ → Bool
 is_reserved name = begins (codes "_ql_") name
+
+-- the table that a source names, its views' prefix left out
+abbrev pub table_in : SourceKind → Option (List ℕ)
+table_in (source.Table name) = Some (table_named name)
+table_in (source.History table _ _) = Some table
+table_in (source.Path path) = None
 
 -- ---- the text and its parameters
 

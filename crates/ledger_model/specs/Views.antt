@@ -5,7 +5,7 @@ use Rattle.ql_types.specs.declared.DocId.{DocId}
 use Rattle.ql_types.specs.declared.TableId.{TableId}
 use Rattle.ledger_model.specs.declared.block.Draft.{Draft}
 use Rattle.ledger_model.specs.declared.block.Content.{Content}
-use Rattle.ledger_model.specs.declared.block.Content.TheVariants.{Deleted, Kept}
+use Rattle.ledger_model.specs.declared.block.Content.TheVariants.{Deleted, Kept, Redacted}
 use Rattle.pql_model.specs.declared.tables.Row.{Row}
 
 -- the documents in order of first insertion, each with its latest revision, after one revision more
@@ -23,6 +23,7 @@ latest revisions = latest_from [] revisions
 abbrev pub live : DocId → Content → Option Row
 live id Deleted = None
 live id (Kept v) = Some (record { id = id; value = v })
+live id (Redacted hash) = None
 
 abbrev pub row_of : TableId → Draft → Option Row
 row_of table d = if d.table.raw == table.raw then live d.id d.content else None

@@ -13,21 +13,43 @@ pub struct Said {
 
 pub type SaidList = Sequence<Said>;
 
-/// A change of the schema.
+/// What a block tells of its transaction's statements: all of them, or their hash alone.
+#[derive(Drop)]
+pub enum Told {
+    Said(SaidList),
+    Hashed(Hash32),
+}
+
+/// A change of the schema, or the redaction of an earlier revision.
 #[derive(Drop)]
 pub enum Schema {
-    Create { name: Text, table: TableId },
-    Index { field: Text, table: TableId },
-    Drop { name: Text, table: TableId },
+    Create {
+        name: Text,
+        table: TableId,
+    },
+    Index {
+        field: Text,
+        table: TableId,
+    },
+    Drop {
+        name: Text,
+        table: TableId,
+    },
+    Redact {
+        address: BlockAddress,
+        table: TableId,
+        document: DocId,
+    },
 }
 
 pub type SchemaList = Sequence<Schema>;
 
-/// What a revision keeps of its document.
+/// What a revision keeps of its document: nothing of a deleted one, its data, or the hash of the data alone.
 #[derive(Drop)]
 pub enum Content {
     Deleted,
     Kept(Value),
+    Redacted(Hash32),
 }
 
 /// A revision of a document of a table, as its transaction made it. Versions count from 0.
@@ -68,7 +90,7 @@ pub type TableIds = Sequence<TableId>;
 #[derive(Drop)]
 pub struct Info {
     pub place: Place,
-    pub said: SaidList,
+    pub said: Told,
     pub schema: SchemaList,
     pub tables: TableIds,
 }

@@ -10,7 +10,7 @@ mod script;
 
 pub use block::{
     Block, Content, Draft, Drafts, Header, Info, Metadata, Revision, Revisions, Said, SaidList,
-    Schema, SchemaList, TableIds,
+    Schema, SchemaList, TableIds, Told,
 };
 pub use blocks::Blocks;
 pub use damage::Damage;

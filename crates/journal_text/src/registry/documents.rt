@@ -32,7 +32,7 @@ fn is_kept(content: &Content) -> bool
 {
     match content {
         Content::Deleted => false,
-        Content::Kept(_) => true,
+        Content::Kept(_) | Content::Redacted(_) => true,
     }
 }
 

@@ -18,7 +18,7 @@ fn add_created(ids: &mut Vec<u128>, change: &Schema) -> Result<(), OutOfMemory>
 {
     match change {
         Schema::Create { table, .. } => ids.push(table.raw)?,
-        Schema::Index { .. } | Schema::Drop { .. } => {}
+        Schema::Index { .. } | Schema::Drop { .. } | Schema::Redact { .. } => {}
     }
     Ok(())
 }

@@ -1,11 +1,12 @@
 //! The answers of a committed transaction.
 ghost use Rattle.std.specs.Prelude.{◌≡◌, ◌++◌, map, slice_get, OnOk};
 ghost use Rattle.ion_forms.specs.Write.{joined, value_text};
+ghost use Rattle.ledger_model.specs.Journal.{said_in};
 ghost use Rattle.ledger_model.specs.Report.{answer_text, answers_text};
 
 use ion_text::write;
 use ion_values::Value;
-use ledger_model::{Blocks, Said};
+use ledger_model::{Blocks, Said, Told};
 use lists::{OutOfMemory, Text};
 use std::alloc::Global;
 
@@ -19,8 +20,18 @@ pub fn put_block(
     ensures { OnOk result (out.new ≡ out.old ++ answers_text (slice_get blocks.now.list number)) }
 {
     match blocks.get(number) {
-        Some(block) => put_answers(alloc, out, block.info.said.as_slice()),
+        Some(block) => put_told(alloc, out, &block.info.said),
         None => Ok(()),
+    }
+}
+
+/// Puts the answers that are told, of which there are none where the statements' hash alone is.
+fn put_told(alloc: Global, out: &mut Text, told: &Told) -> Result<(), OutOfMemory>
+    ensures { OnOk result (out.new ≡ out.old ++ joined (map answer_text (said_in told.now))) }
+{
+    match told {
+        Told::Said(said) => put_answers(alloc, out, said.as_slice()),
+        Told::Hashed(_) => Ok(()),
     }
 }
 

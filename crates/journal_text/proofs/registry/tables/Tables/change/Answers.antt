@@ -1,8 +1,14 @@
-use Rattle.std.proofs.Common.{subst, sym}
+use Rattle.std.proofs.Common.{ap, subst, sym}
 use Rattle.ledger_model.specs.declared.block.Schema.{Schema}
+use Rattle.ledger_model.specs.Follows.{change_follows}
 use Rattle.journal_text.specs.Stands.{Changes}
+use Rattle.journal_text.proofs.TableSteps.{refused}
 use Rattle.journal_text.proofs.registry.tables.Tables.change.Goals as goal
 
 pub returns-in-Drop : goal.returns-in-Drop
 returns-in-Drop c = λ tables indexes h ids.
     subst (λ (x : Schema). Changes tables indexes x c.remove.result c.remove.new.self) (sym c.in-Drop.is) (c.remove.ensures tables indexes h ids)
+
+pub returns-in-Redact : goal.returns-in-Redact
+returns-in-Redact c = λ tables indexes h ids.
+    refused tables indexes c.args.change.now c.args.self.now (ap (change_follows tables indexes) c.in-Redact.is)
