@@ -1,3 +1,7 @@
 pub mod Room
 pub mod Next
 pub mod Paired
+pub mod Pairs
+pub mod PathLevels
+pub mod Folding
+mod Rows

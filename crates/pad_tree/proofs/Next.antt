@@ -43,7 +43,7 @@ nodes-all pad below above n long all made place =
     ]
 
 -- the tree over the next level has the nodes of the tree, a level lower
-node-next : (pad : Hash32) (below above : List Hash32) → IsNextLevel pad below above → (level place : ℕ)
+pub node-next : (pad : Hash32) (below above : List Hash32) → IsNextLevel pad below above → (level place : ℕ)
     → node (dot32 pad pad) above level place ≡ node pad below (suc level) place
 unfolding node
 node-next pad below above next zero place = next.nodes place

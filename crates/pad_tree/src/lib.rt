@@ -1,12 +1,15 @@
-//! Hash trees over lists of leaves that are padded to a power of two.
+//! Hash trees over lists of leaves that are padded to a power of two, and the paths of their leaves.
 #![tactic(auto)]
 
 ghost use Rattle.std.specs.Prelude.{◌≡◌, ℕ, ◌<◌, ◌≤◌, ◌^◌, ◌↔◌, [], IfOk};
 ghost use Rattle.hash_forms.specs.Tree.{pad_hash, height_of, root_of, RootLevelByLevel};
 ghost use Rattle.pad_tree.specs.Level.{IsNextLevel};
 
+mod paths;
+
 use lists::OutOfMemory;
 use pair_hash::dot_full;
+pub use paths::{Hashes, fold_hashes, fold_path, path, path_leads_to_root};
 use ql_types::{Hash, Hash32};
 use sha2::{Digest, Sha256};
 use std::alloc::Global;

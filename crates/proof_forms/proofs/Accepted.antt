@@ -13,10 +13,10 @@ use Rattle.ledger_model.specs.declared.block.Revision.{Revision}
 use Rattle.ledger_model.specs.declared.block.Block.{Block}
 use Rattle.ledger_model.specs.Journal.{header_value, info_value}
 use Rattle.ledger_model.specs.Seals.{revisions_root, entries_hash}
-use Rattle.pad_paths.specs.Paths.{path_of, folded}
-use Rattle.pad_paths.proofs.Pairs.{dot32-comm}
-use Rattle.pad_paths.proofs.Next.{length-path_of}
-use Rattle.pad_paths.proofs.Folding.{path_leads}
+use Rattle.pad_tree.specs.Paths.{path_of, folded}
+use Rattle.pad_tree.proofs.Pairs.{dot32-comm}
+use Rattle.pad_tree.proofs.PathLevels.{length-path_of}
+use Rattle.pad_tree.proofs.Folding.{path_leads}
 use Rattle.proof_forms.specs.declared.Digest.{Digest}
 use Rattle.proof_forms.specs.Chained.{Chained}
 use Rattle.proof_forms.specs.Verified.{Verified}

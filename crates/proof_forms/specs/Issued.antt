@@ -4,7 +4,7 @@ use Rattle.ql_types.specs.declared.Hash.TheVariants.{Full}
 use Rattle.ql_types.specs.declared.Hash32.{Hash32}
 use Rattle.hash_forms.specs.Serialize.{hash_of}
 use Rattle.hash_forms.specs.Tree.{root_of}
-use Rattle.pad_paths.specs.Paths.{path_of}
+use Rattle.pad_tree.specs.Paths.{path_of}
 use Rattle.ledger_model.specs.declared.block.Revision.{Revision}
 use Rattle.ledger_model.specs.declared.block.Block.{Block}
 use Rattle.ledger_model.specs.Journal.{info_value}

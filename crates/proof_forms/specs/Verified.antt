@@ -5,7 +5,7 @@ use Rattle.std.specs.Prelude.{ℕ, ◌+◌, ◌<◌, ◌≤◌, ◌≡◌, List,
 use Rattle.ql_types.specs.declared.Hash32.{Hash32}
 use Rattle.hash_forms.specs.Serialize.{hash_of}
 use Rattle.hash_forms.specs.Tree.{height_of}
-use Rattle.pad_paths.specs.Paths.{folded}
+use Rattle.pad_tree.specs.Paths.{folded}
 use Rattle.ledger_model.specs.declared.block.Revision.{Revision}
 use Rattle.ledger_model.specs.Journal.{header_value}
 use Rattle.ledger_model.specs.Seals.{revision_hash}

@@ -4,20 +4,14 @@
 ghost use Rattle.proof_forms.specs.Chained.{UndamagedIsChained};
 ghost use Rattle.proof_forms.specs.Issued.{ProofsVerify};
 
-mod parts;
 mod proof_values;
-mod read_parts;
 mod read_proofs;
-mod read_revisions;
-mod revisions;
 
 use ledger_model::Header;
-use pad_paths::Hashes;
-pub use proof_values::{digest_value, header_hash, proof_value};
+use pad_tree::Hashes;
+pub use proof_values::{digest_value, proof_value};
 use ql_types::{BlockAddress, Hash32};
 pub use read_proofs::{digest_in, proof_in};
-pub use read_revisions::revision_in;
-pub use revisions::revision_value;
 
 /// The digest of a journal: the root of the tree over the hashes of its blocks up to the tip.
 #[derive(Clone, Copy, Debug, PartialEq, Eq)]

@@ -4,14 +4,14 @@ ghost use Rattle.ledger_model.specs.Script.{and_then, each};
 ghost use Rattle.block_form.specs.ReadBack.{hash_in, header_of, named, number_in};
 ghost use Rattle.proof_forms.specs.ReadProofs as spec;
 
-use crate::read_parts::{
+use crate::{Digest, Proof};
+use block_form::read_parts::{
     address_in, fields_in, hash_in, id_in, list_in, moment_in, named, small_number_in,
 };
-use crate::{Digest, Proof};
 use ion_values::{Field, OutOfMemory, Value};
 use ledger_model::Header;
 use lists::Sequence;
-use pad_paths::Hashes;
+use pad_tree::Hashes;
 use ql_types::TxId;
 use std::alloc::Global;
 

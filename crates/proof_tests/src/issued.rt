@@ -4,12 +4,13 @@ ghost use Rattle.proof_forms.specs.Chained.{Chained};
 
 use crate::journals::{ONE_BLOCK, ONE_BUNDLE, THREE_BLOCKS, THREE_BUNDLE};
 use crate::verdicts::verdict;
+use block_form::revision_value;
 use ion_text::write;
 use ion_values::Value;
 use journal_text::read_journal;
 use ledger_model::Blocks;
 use lists::Text;
-use proof_forms::{digest_value, proof_value, revision_value, undamaged_is_chained};
+use proof_forms::{digest_value, proof_value, undamaged_is_chained};
 use proof_issue::{NoSuch, digest, prove};
 use std::alloc::Global;
 

@@ -1,6 +1,5 @@
 //! The tree over three leaves.
-use pad_paths::{fold_path, path};
-use pad_tree::root;
+use pad_tree::{fold_path, path, root};
 use pair_hash::dot_full;
 use ql_types::{Hash, Hash32};
 use std::test::Fail;

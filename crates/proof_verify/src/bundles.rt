@@ -3,9 +3,10 @@ ghost use Rattle.std.specs.Prelude.{IfErr, IfOk};
 ghost use Rattle.proof_verify.specs.Bundles.{IsBundle, IsUnreadable, IsNamed};
 
 use crate::ProofFault;
+use block_form::revision_in;
 use ion_values::{Text, Values};
 use ledger_model::Revision;
-use proof_forms::{Digest, Proof, digest_in, proof_in, revision_in};
+use proof_forms::{Digest, Proof, digest_in, proof_in};
 use std::alloc::Global;
 
 /// The fault that a field of a bundle can't be read.

@@ -8,13 +8,12 @@ ghost use Rattle.proof_verify.specs.Faults as spec;
 ghost use Rattle.proof_verify.specs.Faults.{FaultsAreExact};
 
 use crate::ProofFault;
-use block_form::revision_hash;
+use block_form::{header_hash, revision_hash};
 use ion_values::OutOfMemory;
 use ledger_model::Revision;
-use pad_paths::fold_hashes;
-use pad_tree::height;
+use pad_tree::{fold_hashes, height};
 use pair_hash::dot_full;
-use proof_forms::{Digest, Proof, header_hash};
+use proof_forms::{Digest, Proof};
 use ql_types::{BlockAddress, Hash32};
 use std::alloc::Global;
 

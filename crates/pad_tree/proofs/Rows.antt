@@ -3,7 +3,7 @@ use Rattle.std.proofs.Common.{◌≡◌, [], ◌∷◌, refl}
 use Rattle.ql_types.specs.declared.Hash32.{Hash32}
 use Rattle.hash_forms.specs.PairHash.{dot32}
 use Rattle.hash_forms.specs.Tree.{node, height_from, pad_hash}
-use Rattle.pad_paths.specs.Paths.{siblings, path_of, folded}
+use Rattle.pad_tree.specs.Paths.{siblings, path_of, folded}
 
 -- beside the third of three leaves stands a pad, and beside their node that of the first two
 third_of_three : (x y z : Hash32) → path_of (x ∷ y ∷ z ∷ []) 2 ≡ pad_hash ∷ dot32 x y ∷ []

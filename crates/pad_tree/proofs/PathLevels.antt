@@ -1,20 +1,12 @@
--- A level and the next one up belong to one tree, and so do the paths in them.
+-- The paths in a level and in the next one up.
 use Rattle.std.proofs.Common.{◌≡◌, ◌∙◌, ℕ, zero, suc, ◌+◌, ◌*◌, ◌/◌, ◌≤◌, List, [], ◌∷◌, ◌++◌, length, get_or, append_assoc, arith, refl, sym, ap}
 use Rattle.ql_types.specs.declared.Hash32.{Hash32}
 use Rattle.hash_forms.specs.PairHash.{dot32}
 use Rattle.hash_forms.specs.Tree.{height_from, node, height_of, pad_hash}
 use Rattle.pad_tree.specs.Level.{IsNextLevel}
+use Rattle.pad_tree.proofs.Next.{node-next}
 use Rattle.pad_tree.proofs.Room.{height_of-half}
-use Rattle.pad_paths.specs.Paths.{siblings, path_over, path_of, sibling_of}
-
--- the tree over the next level has the nodes of the tree, a level lower
-node-next : (pad : Hash32) (below above : List Hash32) → IsNextLevel pad below above → (level place : ℕ)
-    → node (dot32 pad pad) above level place ≡ node pad below (suc level) place
-unfolding node
-node-next pad below above next zero place = next.nodes place
-node-next pad below above next (suc level) place =
-    ap (λ left. dot32 left (node (dot32 pad pad) above level (2 * place + 1))) (node-next pad below above next level (2 * place))
-    ∙ ap (λ right. dot32 (node pad below (suc level) (2 * place)) right) (node-next pad below above next level (2 * place + 1))
+use Rattle.pad_tree.specs.Paths.{siblings, path_over, path_of, sibling_of}
 
 siblings-next : (pad : Hash32) (below above : List Hash32) → IsNextLevel pad below above → (level levels place : ℕ)
     → siblings (dot32 pad pad) above level levels place ≡ siblings pad below (suc level) levels place

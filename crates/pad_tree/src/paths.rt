@@ -1,46 +1,16 @@
 //! The paths of leaves in padded hash trees, from a leaf to the root.
-#![tactic(auto)]
-
 ghost use Rattle.std.specs.Prelude.{◌≡◌, ◌+◌, ◌<◌, ◌^◌, length, IfOk, SomeIff};
-ghost use Rattle.hash_forms.specs.Tree.{pad_hash, height_of};
-ghost use Rattle.pad_tree.specs.Level.{IsNextLevel};
-ghost use Rattle.pad_paths.specs.Paths.{sibling_of, path_of, folded, FitsTree, PathLeadsToRoot};
+ghost use Rattle.hash_forms.specs.Tree.{height_of};
+ghost use Rattle.pad_tree.specs.Paths.{sibling_of, path_of, folded, FitsTree, PathLeadsToRoot};
 
+use crate::{height, next_level, pad};
 use lists::{OutOfMemory, Sequence};
-use pad_tree::height;
 use pair_hash::dot_full;
 use ql_types::Hash32;
-use sha2::{Digest, Sha256};
 use std::alloc::Global;
 
 /// Hashes in order.
 pub type Hashes = Sequence<Hash32>;
-
-/// The symbol `pad` as Ion Hash serializes it.
-const PAD_FORM: [u8; 6] = *b"\x0B\x70pad\x0E";
-
-/// The hash at each place of the lowest level that has no leaf.
-#[tactic(auto, unfolding(hash_forms::specs::Tree::pad_hash))]
-fn pad() -> Hash32
-    ensures { result ≡ pad_hash }
-{
-    Hash32 {
-        bytes: Sha256::digest(&PAD_FORM),
-    }
-}
-
-/// The level over `below`. A last node that stands alone is hashed with the pad of its level.
-fn next_level(alloc: Global, below: &[Hash32], pad: &Hash32) -> Result<Vec<Hash32>, OutOfMemory>
-    ensures { IfOk result (λ above. IsNextLevel pad.now below.now above.items) }
-{
-    let count = below.len().div_ceil(2);
-    let mut above = Vec::with_capacity(alloc, count)?;
-    'places: for place in 0..count {
-        let right = below.get(2 * place + 1).copied().unwrap_or(*pad);
-        above.push(dot_full(&below[2 * place], &right))?;
-    }
-    Ok(above)
-}
 
 /// The other place under the same node.
 fn sibling(place: usize) -> usize

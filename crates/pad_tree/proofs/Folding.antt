@@ -7,8 +7,8 @@ use Rattle.ql_types.specs.declared.Hash32.{Hash32}
 use Rattle.hash_forms.specs.PairHash.{dot32}
 use Rattle.hash_forms.specs.Tree.{node, pad_hash, height_of}
 use Rattle.pad_tree.proofs.Room.{height_of-room}
-use Rattle.pad_paths.specs.Paths.{siblings, sibling_of, path_of, folded, PathLeadsToRoot}
-use Rattle.pad_paths.proofs.Pairs.{dot32-comm}
+use Rattle.pad_tree.specs.Paths.{siblings, sibling_of, path_of, folded, PathLeadsToRoot}
+use Rattle.pad_tree.proofs.Pairs.{dot32-comm}
 
 node-up : (pad : Hash32) (leaves : List Hash32) (level place : ℕ)
     → dot32 (node pad leaves level place) (node pad leaves level (sibling_of place)) ≡ node pad leaves (suc level) (place / 2)

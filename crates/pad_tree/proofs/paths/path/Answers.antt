@@ -1,10 +1,10 @@
 use Rattle.std.proofs.Common.{length, arith, ◌≡◌, ◌∙◌, ◌++◌, List, get_or, append-nil, sym, ap}
 use Rattle.std.specs.Prelude.{unwrap_or}
-use Rattle.pad_paths.specs.Paths.{sibling_of}
+use Rattle.pad_tree.specs.Paths.{sibling_of}
 use Rattle.ql_types.specs.declared.Hash32.{Hash32}
 use Rattle.pad_tree.specs.Level.{IsNextLevel}
-use Rattle.pad_paths.proofs.Next.{path_over-more, path_over-one, length-path_of}
-use Rattle.pad_paths.proofs.path.Goals as goal
+use Rattle.pad_tree.proofs.PathLevels.{path_over-more, path_over-one, length-path_of}
+use Rattle.pad_tree.proofs.paths.path.Goals as goal
 
 pub levels-preserved : goal.levels-preserved
 levels-preserved c =

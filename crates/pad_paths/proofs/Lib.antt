@@ -1,4 +1,0 @@
-pub mod Next
-pub mod Pairs
-pub mod Folding
-pub mod Rows

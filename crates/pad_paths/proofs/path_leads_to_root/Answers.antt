@@ -1,5 +1,0 @@
-use Rattle.pad_paths.proofs.Folding.{path_leads}
-use Rattle.pad_paths.proofs.path_leads_to_root.Goals as goal
-
-pub returns : goal.returns
-returns c = path_leads
