@@ -1,0 +1,31 @@
+pub mod Lists
+mod Thinned
+pub mod Latest
+mod Ids
+mod Shapes
+mod Statements
+mod Hashes
+mod Depths
+mod Parts
+pub mod Journals
+mod Tables
+mod Views
+mod Following
+pub mod States
+mod Ready
+mod Progress
+mod Changes
+mod Revisions
+mod Revised
+mod Effects
+mod Creates
+mod Inserts
+mod Selects
+mod Runs
+mod Headers
+mod Follows
+mod Whole
+mod Blocks
+pub mod Undamaged
+pub mod Further
+mod Rows
