@@ -1,0 +1,12 @@
+pub mod Meets
+pub mod Restriction
+pub mod Stillness
+pub mod Touches
+pub mod Covered
+pub mod Own
+pub mod Framed
+pub mod Naming
+pub mod Conflicts
+pub mod Following
+pub mod RunIsOwn
+pub mod Journalled

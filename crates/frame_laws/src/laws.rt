@@ -1,0 +1,125 @@
+ghost use Rattle.frame_laws.specs.Conflicts.{ConflictIsFirst};
+ghost use Rattle.frame_laws.specs.Covered.{FootprintCovers};
+ghost use Rattle.frame_laws.specs.Following.{FollowingTouches};
+ghost use Rattle.frame_laws.specs.Framed.{CoveredRowsAreFramed, MeaningIsKept, NameIsFramed, RowsAreFramed, StatementIsFramed, TransactionIsFramed};
+ghost use Rattle.frame_laws.specs.Naming.{NamedAreUnrevised};
+ghost use Rattle.frame_laws.specs.Journalled.{UndamagedFollow};
+ghost use Rattle.frame_laws.specs.Own.{OwnIsApart, StillnessOfOwn};
+ghost use Rattle.frame_laws.specs.Restriction.{FrameOfRows, Restriction};
+ghost use Rattle.frame_laws.specs.RunIsOwn.{RunIsKept, RunOwnsAll};
+ghost use Rattle.frame_laws.specs.Stillness.{DocumentsAreStill, Stillness, StillnessWithPending};
+
+/// A conflict names the first block that touches something of the footprint, with the first such item;
+/// where there is none no block does.
+pub fn conflict_is_first()
+    ensures { ConflictIsFirst }
+{}
+
+/// What a block touches that follows the state before it is told by the tables of its own revisions.
+pub fn following_touches()
+    ensures { FollowingTouches }
+{}
+
+/// Where each source's rows are cut to those that are read, FROM keeps the same rows, if a row that isn't
+/// read stands only in combinations on which ON and WHERE aren't true.
+pub fn restriction()
+    ensures { Restriction }
+{}
+
+/// FROM keeps the same rows of two states at which each source gives the same rows of those that are read.
+pub fn frame_of_rows()
+    ensures { FrameOfRows }
+{}
+
+/// A row that meets no item of its statement's footprint stands only in combinations on which ON and
+/// WHERE aren't true.
+pub fn footprint_covers()
+    ensures { FootprintCovers }
+{}
+
+/// Blocks that touch none of the items leave the rows of a user view that meet one of them as they are.
+pub fn stillness()
+    ensures { Stillness }
+{}
+
+/// Behind blocks that touch none of the items a document has the same latest revision, or it meets none of
+/// them before and behind the blocks.
+pub fn documents_are_still()
+    ensures { DocumentsAreStill }
+{}
+
+/// Blocks that touch none of the items leave these rows as they are also with pending changes of documents
+/// of which the blocks have no revision.
+pub fn stillness_with_pending()
+    ensures { StillnessWithPending }
+{}
+
+/// Blocks of other transactions have no revision of the documents that a transaction inserts.
+pub fn own_is_apart()
+    ensures { OwnIsApart }
+{}
+
+/// Blocks that touch none of the items leave the rows of a user view that meet one of them as they are,
+/// with the transaction's own insertions pending.
+pub fn stillness_of_own()
+    ensures { StillnessOfOwn }
+{}
+
+/// Blocks that touch nothing of a statement's footprint have no revision of the documents that its rows
+/// name, where no change of them was pending.
+pub fn named_are_unrevised()
+    ensures { NamedAreUnrevised }
+{}
+
+/// A name that no block touches names the same table behind them, with the same indexes.
+pub fn name_is_framed()
+    ensures { NameIsFramed }
+{}
+
+/// A FROM over user views and paths gives the same rows behind blocks that touch none of its tables' names and
+/// no item of a list that covers its conditions.
+pub fn covered_rows_are_framed()
+    ensures { CoveredRowsAreFramed }
+{}
+
+/// Blocks that touch nothing of what a FROM over user views and paths reads leave its rows as they are,
+/// and what it reads.
+pub fn rows_are_framed()
+    ensures { RowsAreFramed }
+{}
+
+/// Blocks that touch nothing of a statement's footprint leave its answer, its effects and its footprint
+/// as they are, or why it is refused.
+pub fn statement_is_framed()
+    ensures { StatementIsFramed }
+{}
+
+/// Blocks that touch nothing of a transaction's footprint leave what all its statements answer, do and
+/// read as it is.
+pub fn transaction_is_framed()
+    ensures { TransactionIsFramed }
+{}
+
+/// A block that is what its transaction means on its base is what it means behind later blocks that touch
+/// nothing of its footprint.
+pub fn meaning_is_kept()
+    ensures { MeaningIsKept }
+{
+    transaction_is_framed();
+}
+
+/// The blocks of an undamaged journal follow one another, and the numbers of their documents' ids fit.
+pub fn undamaged_follow()
+    ensures { UndamagedFollow }
+{}
+
+/// The documents and tables that a run made have ids of its transaction's number.
+pub fn run_owns_all()
+    ensures { RunOwnsAll }
+{}
+
+/// Blocks that touch nothing of a transaction's footprint leave what it comes to as it is, where they
+/// follow one another and none of them is the transaction's.
+pub fn run_is_kept()
+    ensures { RunIsKept }
+{}
