@@ -1,0 +1,76 @@
+-- Rows of words with the commands that they name.
+use Rattle.std.proofs.Common.{◌≡◌, [], ◌∷◌, codes, refl, Some, None}
+use Rattle.clap.specs.Faults.{defaults_fault, walk_fault}
+use Rattle.clap.specs.Walk.{walked}
+use Rattle.command_words.specs.declared.Command.TheVariants as command
+use Rattle.command_words.specs.declared.IdSource.TheVariants as ids
+use Rattle.command_words.specs.Forms.{audit_app, digest_app, found_in, prove_app, run_app, verify_app}
+use Rattle.command_words.specs.Numbers.{number_of}
+use Rattle.command_words.specs.Words.{asked}
+
+no_word : asked [] ≡ None
+no_word = refl
+
+no_command : asked (codes "frobnicate" ∷ []) ≡ None
+no_command = refl
+
+plain_run : asked (codes "run" ∷ codes "--plain-ids" ∷ [])
+    ≡ Some (command.Run (record { ids = ids.Plain; time = None }))
+unfolding found_in walk_fault defaults_fault walked run_app
+plain_run = refl
+
+bare_run : asked (codes "run" ∷ []) ≡ Some (command.Run (record { ids = ids.FirstAnswer; time = None }))
+unfolding found_in walk_fault defaults_fault walked run_app
+bare_run = refl
+
+seeded_run : asked (codes "run" ∷ codes "--seed" ∷ codes "1" ∷ [])
+    ≡ Some (command.Run (record { ids = ids.Seed 1; time = None }))
+unfolding found_in walk_fault defaults_fault walked run_app number_of
+seeded_run = refl
+
+-- both id options
+both : asked (codes "run" ∷ codes "--seed" ∷ codes "1" ∷ codes "--plain-ids" ∷ []) ≡ None
+unfolding found_in walk_fault defaults_fault walked run_app number_of
+both = refl
+
+twice : asked (codes "run" ∷ codes "--plain-ids" ∷ codes "--plain-ids" ∷ []) ≡ None
+unfolding found_in walk_fault defaults_fault walked run_app
+twice = refl
+
+-- 2^64
+wide_seed : asked (codes "run" ∷ codes "--seed" ∷ codes "18446744073709551616" ∷ []) ≡ None
+unfolding found_in walk_fault defaults_fault walked run_app number_of
+wide_seed = refl
+
+tip : asked (codes "digest" ∷ codes "--tip" ∷ codes "007" ∷ []) ≡ Some (command.Digest (Some 7))
+unfolding found_in walk_fault defaults_fault walked digest_app number_of
+tip = refl
+
+signed_tip : asked (codes "digest" ∷ codes "--tip" ∷ codes "+7" ∷ []) ≡ None
+unfolding found_in walk_fault defaults_fault walked digest_app number_of
+signed_tip = refl
+
+proves : asked (codes "prove" ∷ codes "2" ∷ codes "0" ∷ []) ≡ Some (command.Prove 2 0 None)
+unfolding found_in walk_fault defaults_fault walked prove_app number_of
+proves = refl
+
+-- an index of 2^32
+wide_index : asked (codes "prove" ∷ codes "2" ∷ codes "4294967296" ∷ []) ≡ None
+unfolding found_in walk_fault defaults_fault walked prove_app number_of
+wide_index = refl
+
+no_index : asked (codes "prove" ∷ codes "2" ∷ []) ≡ None
+unfolding found_in walk_fault defaults_fault walked prove_app number_of
+no_index = refl
+
+verifies : asked (codes "verify" ∷ []) ≡ Some command.Verify
+unfolding found_in walk_fault defaults_fault walked verify_app
+verifies = refl
+
+audits : asked (codes "audit" ∷ []) ≡ Some command.Audit
+unfolding found_in walk_fault defaults_fault walked audit_app
+audits = refl
+
+word_more : asked (codes "audit" ∷ codes "x" ∷ []) ≡ None
+unfolding found_in walk_fault defaults_fault walked audit_app
+word_more = refl

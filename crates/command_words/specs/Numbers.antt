@@ -1,0 +1,14 @@
+-- Numbers among the words: decimal digits without a sign. Zeros may stand in front.
+use Rattle.std.specs.Prelude.{ℕ, ◌^◌, ◌==◌, ◌&&◌, Bool, not, nat_lt, List, length, Option, Some, None, if◌then◌else◌}
+use Rattle.std.specs.Char.{is_ascii_digit}
+use Rattle.std.specs.List.{list_all}
+use Rattle.std.specs.Str.Parse.{digits_value}
+
+-- one decimal digit or more, and nothing else
+abbrev pub is_number : List ℕ → Bool
+is_number word = not (length word == 0) && list_all is_ascii_digit word
+
+-- the number of a word that is one, where it has no more than so many binary digits
+unfoldable pub number_of : ℕ → List ℕ → Option ℕ
+number_of bits word =
+    if is_number word && nat_lt (digits_value 10 word) (2 ^ bits) then Some (digits_value 10 word) else None

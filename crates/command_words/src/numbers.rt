@@ -1,0 +1,39 @@
+//! Numbers among the words.
+ghost use Rattle.std.specs.Prelude.{◌≡◌};
+ghost use Rattle.std.specs.Char.{is_ascii_digit};
+ghost use Rattle.std.specs.List.{list_all};
+ghost use Rattle.command_words.specs.Numbers.{is_number, number_of};
+
+/// The number that the word writes in decimal digits without a sign, if it fits 64 bits.
+#[tactic(auto, unfolding(crate::specs::Numbers::number_of))]
+pub fn number_of(word: &str) -> Option<u64>
+    ensures { result ≡ number_of 64 word.now }
+{
+    if !is_number(word.as_bytes()) {
+        return None;
+    }
+    word.parse::<u64>().ok()
+}
+
+/// The number that the word writes in decimal digits without a sign, if it fits 32 bits.
+#[tactic(auto, unfolding(crate::specs::Numbers::number_of))]
+pub fn small_number_of(word: &str) -> Option<u32>
+    ensures { result ≡ number_of 32 word.now }
+{
+    if !is_number(word.as_bytes()) {
+        return None;
+    }
+    word.parse::<u32>().ok()
+}
+
+fn is_number(word: &[u8]) -> bool
+    ensures { result ≡ is_number word.now }
+{
+    !word.is_empty() && are_digits(word)
+}
+
+fn are_digits(word: &[u8]) -> bool
+    ensures { result ≡ list_all is_ascii_digit word.now }
+{
+    word.iter().all(|byte| byte.is_ascii_digit())
+}
