@@ -1,0 +1,5 @@
+pub mod Lists
+pub mod Naming
+pub mod OneRoot
+pub mod Paths
+pub mod Touching

@@ -1,0 +1,3 @@
+pub mod Edits
+pub mod OneRoot
+pub mod Touched
