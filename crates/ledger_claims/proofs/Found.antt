@@ -1,30 +1,19 @@
 -- The blocks that a run finds, undamaged as they are, are what the ledger stands for: no number in them is past the last one.
-use Rattle.std.proofs.Common.{◌≡◌, ℕ, ◌^◌, ◌<◌, Bool, true, false, not, ◌&&◌, ◌==◌, nat_le, nat_lt, List, [], ◌∷◌, ◌++◌, refl, sym, ap, subst, ◌∙◌, arith, append_assoc, Option, Some, None, if◌then◌else◌, ltb-true}
+use Rattle.std.proofs.Common.{◌≡◌, ℕ, ◌^◌, ◌<◌, true, ◌&&◌, ◌==◌, nat_le, nat_lt, List, [], ◌∷◌, ◌++◌, refl, sym, ap, subst, ◌∙◌, arith, append_assoc, ltb-true}
+use Rattle.std.proofs.lemmas.Bool.{and_parts}
 use Rattle.ql_types.specs.Ids.{transaction_in, thing_in}
 use Rattle.ledger_model.specs.declared.block.Block.{Block}
-use Rattle.ledger_model.specs.declared.damage.Damage.{Damage}
-use Rattle.ledger_model.specs.Damages.{strand_of, has_address, has_id, damage_behind, UndamagedBehind, Undamaged}
+use Rattle.ledger_model.specs.Damages.{strand_of, has_id, UndamagedBehind, Undamaged}
+use Rattle.made_blocks.proofs.Journals.{passes_all}
 use Rattle.ledger_claims.specs.Fits.{greatest, mask_of}
 use Rattle.ledger_claims.specs.Attempts.{IsStanding}
-use Rattle.ledger_claims.proofs.Tests.{both}
-
--- a check that comes before others passes where none fails
-passed : (test : Bool) (kind : Damage) (rest : Option Damage) → (if not test then Some kind else rest) ≡ None → (test ≡ true) × (rest ≡ None)
-passed true kind rest e = (refl, e)
-passed false kind rest e = let bad : ⊥ = cc in absurd bad
-
-id_passed : (front : List Block) (b : Block) → damage_behind front b ≡ None → has_id (strand_of front b) front b ≡ true
-id_passed front b e =
-    let address = passed (has_address (strand_of front b) front b) _ _ e in
-    let id = passed (has_id (strand_of front b) front b) _ _ address.1 in
-    id.0
 
 number_below : (strand : ℕ) (front : List Block) (b : Block) → has_id strand front b ≡ true → transaction_in strand b.header.tx.raw < 2 ^ 64
 number_below strand front b e =
     let number : ℕ = transaction_in strand b.header.tx.raw in
-    let three = both (nat_le 1 number && nat_lt number (2 ^ 64) && (thing_in strand b.header.tx.raw == 0)) _ e in
-    let two = both (nat_le 1 number && nat_lt number (2 ^ 64)) _ three.0 in
-    let second = both (nat_le 1 number) (nat_lt number (2 ^ 64)) two.0 in
+    let three = and_parts (nat_le 1 number && nat_lt number (2 ^ 64) && (thing_in strand b.header.tx.raw == 0)) _ e in
+    let two = and_parts (nat_le 1 number && nat_lt number (2 ^ 64)) _ three.0 in
+    let second = and_parts (nat_le 1 number) (nat_lt number (2 ^ 64)) two.0 in
     ltb-true number (2 ^ 64) second.1
 
 -- the strand of a block is that of the first one
@@ -37,7 +26,7 @@ numbers_below given mask front [] is undamaged = omega arith
 numbers_below given mask front (b ∷ bs) is undamaged =
     let own : strand_of front b ≡ mask = sym (strand_is given front b bs) ∙ is in
     let here : transaction_in mask b.header.tx.raw < 2 ^ 64 =
-    number_below mask front b (subst (λ (x : ℕ). has_id x front b ≡ true) own (id_passed front b undamaged.1)) in
+    number_below mask front b (subst (λ (x : ℕ). has_id x front b ≡ true) own (passes_all front b undamaged.1).id) in
     let again : mask_of given ((front ++ b ∷ []) ++ bs) ≡ mask = ap (mask_of given) (append_assoc front (b ∷ []) bs) ∙ is in
     let others : greatest mask bs < 2 ^ 64 = numbers_below given mask (front ++ b ∷ []) bs again undamaged.2 in
     omega arith

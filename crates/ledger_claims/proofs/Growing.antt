@@ -13,7 +13,8 @@ use Rattle.ledger_model.specs.State.{state}
 use Rattle.ledger_model.specs.Run.{run}
 use Rattle.ledger_model.specs.Script.{Placed}
 use Rattle.ledger_claims.specs.Fits.{RunRecord, made, HasNumber, AllBefore, stood_behind, IsFresh, ran_on, HasNoBlock, IsCommitted, Holds, EachHolds}
-use Rattle.ledger_claims.proofs.Lists.{all_append, slice_get-append, drop_on}
+use Rattle.made_blocks.proofs.Lists.{all_append}
+use Rattle.ledger_claims.proofs.Lists.{slice_get-append, drop_on}
 
 -- the record with these blocks, outcomes and count of failures
 abbrev pub grown : RunRecord → List Block → List PlacedOutcome → ℕ → RunRecord
@@ -124,7 +125,7 @@ module _ (t : RunRecord) (blocks more : List Block) (outcomes : List PlacedOutco
 module _ (t : RunRecord) (p : Placed) (new : PlacedOutcome) (place : new.place ≡ p.place) where
   -- what the outcome says is true behind these, which ran before it
   abbrev HoldsBehind : List PlacedOutcome → Type 0
-  HoldsBehind done = Holds t done p new.outcome × AllBefore t.mask done new.outcome
+  HoldsBehind done = Holds t done p new.outcome × AllBefore t done p new.outcome
 
   pub EachHolds-more : (front : List PlacedOutcome) (qs : List Placed) (os : List PlacedOutcome) → EachHolds t front qs os
       → HoldsBehind (front ++ os) → EachHolds t front (qs ++ p ∷ []) (os ++ new ∷ [])

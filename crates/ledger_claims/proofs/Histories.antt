@@ -1,13 +1,12 @@
 -- A history with one block more is a history.
 use Rattle.std.proofs.Common.{◌≡◌, ℕ, List, [], ◌∷◌, ◌++◌, length, take, drop, refl, sym, subst, append_assoc, append-nil}
 use Rattle.std.specs.List.{AllByRecursion}
-use Rattle.ion_values.specs.declared.time.TimeParts.{TimeParts}
 use Rattle.ledger_model.specs.declared.block.Block.{Block}
 use Rattle.ledger_model.specs.State.{State, state, state_from, after}
 use Rattle.ledger_model.specs.Legal.{Means, LegalFrom, Legal}
-use Rattle.ledger_model.specs.Making.{time_behind}
-use Rattle.ledger_claims.specs.Fits.{mask_of, HaveTimes, Before, InSessionOrder}
-use Rattle.ledger_claims.proofs.Lists.{all_append, whole, begins_on, drop_on}
+use Rattle.ledger_claims.specs.Fits.{mask_of, Times, HasTime, HaveTimes, Before, InSessionOrder}
+use Rattle.made_blocks.proofs.Lists.{all_append}
+use Rattle.ledger_claims.proofs.Lists.{whole, begins_on, drop_on}
 
 -- ---- what stands behind the last block
 
@@ -53,11 +52,13 @@ module _ (mask : ℕ) where
 
 -- ---- times and places
 
-pub times_more : (time : TimeParts) (front bs : List Block) (b : Block) → HaveTimes time front bs → b.header.time ≡ time_behind (front ++ bs) time
-    → HaveTimes time front (bs ++ b ∷ [])
-times_more time front [] b times is = (subst (λ (x : List Block). b.header.time ≡ time_behind x time) (append-nil front) is, tt)
-times_more time front (c ∷ cs) b times is =
-    (times.0, times_more time (front ++ c ∷ []) cs b times.1 (subst (λ (x : List Block). b.header.time ≡ time_behind x time) (sym (append_assoc front (c ∷ []) cs)) is))
+pub times_more : (times : Times) (front bs : List Block) (b : Block) → HaveTimes times front bs → HasTime times (front ++ bs) b
+    → HaveTimes times front (bs ++ b ∷ [])
+times_more times front [] b have is = (subst (λ (x : List Block). HasTime times x b) (append-nil front) is, tt)
+times_more times front (c ∷ cs) b have is =
+    let behind : HasTime times ((front ++ c ∷ []) ++ cs) b =
+    subst (λ (x : List Block). HasTime times x b) (sym (append_assoc front (c ∷ []) cs)) is in
+    (have.0, times_more times (front ++ c ∷ []) cs b have.1 behind)
 
 pub once_more : (bs : List Block) (b : Block) → InSessionOrder bs → AllByRecursion (λ c. Before c.info.place b) bs → InSessionOrder (bs ++ b ∷ [])
 once_more [] b order before = (tt, tt)

@@ -11,10 +11,12 @@ use Rattle.ledger_model.specs.Journal.{journal_bytes}
 use Rattle.ledger_model.specs.Recovered.{has_no_line_feed}
 use Rattle.ledger_model.specs.declared.script.Job.{Job}
 use Rattle.ledger_model.specs.Script.{Placed, all_placed}
-use Rattle.ledger_claims.specs.Fits.{RunRecord, FitsBlocks, mask_of}
+use Rattle.ledger_claims.specs.Fits.{RunRecord, one_time, IsTimeIn, FitsBlocks}
 use Rattle.ledger_claims.specs.Attempts.{Standing, Seals, Attempted, HoldsBehind, LeavesPart, LeavesStore}
 use Rattle.ledger_claims.specs.Stores.{HasJournal, Holding, HoldingWithRest}
-use Rattle.ledger_claims.specs.Top.{Stored, HoldsRun}
+use Rattle.outside.specs.Told.{StoreTold, held}
+use Rattle.ledger_claims.specs.Calls.{Span}
+use Rattle.ledger_claims.specs.Top.{HoldsRun}
 use Rattle.ledger_claims.specs.SoFar.{SoFar, standing, extended, LeavesRun}
 use Rattle.ledger_claims.proofs.BlocksFit.{FitsBlocks-same, FitsBlocks-next}
 use Rattle.ledger_claims.proofs.Parts.{is_left}
@@ -58,52 +60,58 @@ module _ (t : RunRecord) (done : List Placed) (p : Placed) (rest : List Placed) 
   as_before : (held kept : Option (List ℕ)) → LeavesRun t before held → kept ≡ held → LeavesRun u after kept
   as_before held kept left same = subst (λ (x : Option (List ℕ)). LeavesRun u after x) (sym same) (LeavesRun-later held left)
 
-  module _ (law : (v : Value) → has_no_line_feed (value_text v) ≡ true) (so : SoFar t done (p ∷ rest) last) where
-    of_part : (held : Option (List ℕ)) → LeavesPart (standing t last) t.time p held → LeavesRun u after held
+  module _ (time : TimeParts) (among : IsTimeIn t.times time) (law : (v : Value) → has_no_line_feed (value_text v) ≡ true)
+      (so : SoFar t done (p ∷ rest) last) where
+    of_part : (held : Option (List ℕ)) → LeavesPart (standing t last) time p held → LeavesRun u after held
     of_part held part =
-        let left : LeavesRun t before held = is_left t done p rest last before held law so part in
+        let left : LeavesRun t before held = is_left t time among done p rest last before held law so part in
         LeavesRun-later held left
 
-    before_or_part : (held kept : Option (List ℕ)) → LeavesRun t before held → (kept ≡ held) ⊎ LeavesPart (standing t last) t.time p kept → LeavesRun u after kept
+    before_or_part : (held kept : Option (List ℕ)) → LeavesRun t before held → (kept ≡ held) ⊎ LeavesPart (standing t last) time p kept
+        → LeavesRun u after kept
     before_or_part held kept left (inl same) = as_before held kept left same
     before_or_part held kept left (inr part) = of_part kept part
 
-    of_sealed : (tx : TxId) (block : ℕ) (kept : Option (List ℕ)) → Seals (standing t last) t.time p tx block now → HoldsBehind now.blocks [] kept → LeavesRun u after kept
+    of_sealed : (tx : TxId) (block : ℕ) (kept : Option (List ℕ)) → Seals (standing t last) time p tx block now → HoldsBehind now.blocks [] kept
+        → LeavesRun u after kept
     of_sealed tx block kept seals holds = record {
       blocks = now.blocks;
       fits =
           subst (λ (x : List Block). FitsBlocks (record u { after = x; closed = after })) (sym seals.blocks)
-          (FitsBlocks-next t done p rest last seals.sealed u.outcomes after so seals.is_next);
+          (FitsBlocks-next t time among done p rest last seals.sealed u.outcomes after so seals.is_next);
       holding = behind-HoldingWithRest now.blocks kept holds;
     }
 
--- A transaction leaves the journal of the run as far as it came, where the store held such a journal before.
-pub LeavesRun-on : (t : RunRecord) (done : List Placed) (p : Placed) (rest : List Placed) (last : ℕ) (o : Outcome) (now : Standing) (closed before after : ℕ) (held kept : Option (List ℕ))
-    → ((v : Value) → has_no_line_feed (value_text v) ≡ true) → SoFar t done (p ∷ rest) last → Attempted (standing t last) t.time p o now
-    → LeavesStore (standing t last) t.time p o now held kept → LeavesRun t before held → LeavesRun (extended t now.blocks p o closed) after kept
-LeavesRun-on t done p rest last (Committed tx block) now closed before after held kept law so attempted leaves left =
-    of_sealed t done p rest last (Committed tx block) now closed before after law so tx block kept attempted leaves
-LeavesRun-on t done p rest last (Conflict tx since named) now closed before after held kept law so attempted leaves left = absurd attempted
-LeavesRun-on t done p rest last (Refused tx since statement cause) now closed before after held kept law so attempted leaves left =
-    as_before t done p rest last (Refused tx since statement cause) now closed before after held kept left leaves
-LeavesRun-on t done p rest last (DigestDiffers tx since mine given) now closed before after held kept law so attempted leaves left = absurd attempted
-LeavesRun-on t done p rest last (StoreFault tx count) now closed before after held kept law so attempted leaves left =
-    before_or_part t done p rest last (StoreFault tx count) now closed before after law so held kept left leaves
-LeavesRun-on t done p rest last (JournalFull tx blocks) now closed before after held kept law so attempted leaves left =
-    as_before t done p rest last (JournalFull tx blocks) now closed before after held kept left leaves
-LeavesRun-on t done p rest last (IdsSpent spent) now closed before after held kept law so attempted leaves left =
-    as_before t done p rest last (IdsSpent spent) now closed before after held kept left leaves
-LeavesRun-on t done p rest last (Aborted tx since) now closed before after held kept law so attempted leaves left =
-    as_before t done p rest last (Aborted tx since) now closed before after held kept left leaves
-LeavesRun-on t done p rest last OutOfMemory now closed before after held kept law so attempted leaves left =
-    before_or_part t done p rest last OutOfMemory now closed before after law so held kept left leaves
+-- A transaction with this time leaves the journal of the run as far as it came, where the store held such a journal before.
+module _ (t : RunRecord) (time : TimeParts) (among : IsTimeIn t.times time) (done : List Placed) (p : Placed) (rest : List Placed) (last : ℕ)
+    (now : Standing) (closed before after : ℕ) (held kept : Option (List ℕ)) (law : (v : Value) → has_no_line_feed (value_text v) ≡ true)
+    (so : SoFar t done (p ∷ rest) last) (left : LeavesRun t before held) where
+  pub LeavesRun-on : (o : Outcome) → Attempted (standing t last) time p o now → LeavesStore (standing t last) time p o now held kept
+      → LeavesRun (extended t now.blocks p o closed) after kept
+  LeavesRun-on (Committed tx block) attempted leaves =
+      of_sealed t done p rest last (Committed tx block) now closed before after time among law so tx block kept attempted leaves
+  LeavesRun-on (Conflict tx since named) attempted leaves = absurd attempted
+  LeavesRun-on (Refused tx since statement cause) attempted leaves =
+      as_before t done p rest last (Refused tx since statement cause) now closed before after held kept left leaves
+  LeavesRun-on (DigestDiffers tx since mine given) attempted leaves = absurd attempted
+  LeavesRun-on (StoreFault tx count) attempted leaves =
+      before_or_part t done p rest last (StoreFault tx count) now closed before after time among law so held kept left leaves
+  LeavesRun-on (JournalFull tx blocks) attempted leaves =
+      as_before t done p rest last (JournalFull tx blocks) now closed before after held kept left leaves
+  LeavesRun-on (IdsSpent spent) attempted leaves =
+      as_before t done p rest last (IdsSpent spent) now closed before after held kept left leaves
+  LeavesRun-on (Aborted tx since) attempted leaves =
+      as_before t done p rest last (Aborted tx since) now closed before after held kept left leaves
+  LeavesRun-on OutOfMemory attempted leaves =
+      before_or_part t done p rest last OutOfMemory now closed before after time among law so held kept left leaves
 
 -- what a run leaves that stops
-pub HoldsRun-left : (time : TimeParts) (script : List (List Job)) (s : Stored) (t : RunRecord) → HasJournal t.before s.held_before → t.mask ≡ mask_of 0 t.before
-    → t.time ≡ time → t.jobs ≡ all_placed script → t.opened ≡ s.faults_before → LeavesRun t s.faults_after s.held_after → HoldsRun time script s
-HoldsRun-left time script s t has masks times jobs opens left = record {
-  told = record t { after = left.blocks; closed = s.faults_after };
-  of_run = record { found = has; mask_is = masks; time_is = times; jobs = jobs; opened = opens; closed = refl };
+pub HoldsRun-left : (time : TimeParts) (script : List (List Job)) (s : Span StoreTold) (t : RunRecord) → HasJournal t.before (held s.before)
+    → t.given ≡ Some 0 → t.times ≡ one_time time → t.workers ≡ 1 → t.jobs ≡ all_placed script → t.opened ≡ s.before.faults
+    → LeavesRun t s.after.faults (held s.after) → HoldsRun time script s
+HoldsRun-left time script s t has masks times one jobs opens left = record {
+  told = record t { after = left.blocks; closed = s.after.faults };
+  of_run = record { found = has; given = masks; times = times; workers = one; jobs = jobs; opened = opens; closed = refl };
   fits = left.fits;
   holding = left.holding;
 }

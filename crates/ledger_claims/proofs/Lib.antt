@@ -1,4 +1,3 @@
-pub mod Tests
 pub mod Lists
 pub mod Histories
 pub mod NextBlocks
@@ -13,21 +12,5 @@ pub mod Runs
 pub mod Found
 pub mod Parts
 pub mod Left
+pub mod NextUndamaged
 mod SoFarRows
-mod Depths
-mod MadeShapes
-mod MadeLists
-mod MadeHashes
-mod MadeIds
-mod MadeParts
-pub mod MadeJournals
-mod MadeStates
-mod MadeTables
-mod MadeProgress
-mod MadeStatements
-mod MadeRuns
-mod MadeFollows
-mod MadeWhole
-pub mod MadeUndamaged
-mod MadeRows
-mod MadeViews

@@ -2,6 +2,7 @@
 use Rattle.std.proofs.Common.{◌≡◌, ℕ, ◌+◌, ◌-◌, ◌^◌, ◌<◌, ◌≤◌, List, [], ◌∷◌, ◌++◌, length, take, drop, slice_get, Some, refl, sym, ap, subst, ◌∙◌, arith, append-nil, take_all}
 use Rattle.std.specs.Prelude.{IfSome}
 use Rattle.std.specs.List.{AllByRecursion}
+use Rattle.ion_values.specs.declared.time.TimeParts.{TimeParts}
 use Rattle.ql_types.specs.Ids.{raw_id}
 use Rattle.ql_types.specs.declared.TxId.{TxId}
 use Rattle.ledger_model.specs.declared.block.Block.{Block}
@@ -12,10 +13,11 @@ use Rattle.ledger_model.specs.declared.outcome.Refusal.{Refusal}
 use Rattle.ledger_model.specs.State.{state}
 use Rattle.ledger_model.specs.Run.{run}
 use Rattle.ledger_model.specs.Script.{Placed}
-use Rattle.ledger_claims.specs.Fits.{RunRecord, made, FitsBlocks, HasNumber, IsFresh, ran_on, stood_before, HasNoBlock, Holds, greatest, attempts, told_id, told_count}
+use Rattle.ledger_claims.specs.Fits.{RunRecord, made, IsTimeIn, FitsBlocks, HasNumber, IsFresh, ran_on, stood_before, HasNoBlock, Holds, greatest, attempts, told_id, told_count}
 use Rattle.ledger_claims.specs.Attempts.{Standing, IsNext, Draws, ran_next, Attempted, TellsFaults}
 use Rattle.ledger_claims.specs.SoFar.{IsBehind, SoFar, standing, extended}
-use Rattle.ledger_claims.proofs.Lists.{all_mapped, slice_get_seam, reaches}
+use Rattle.made_blocks.proofs.Lists.{all_like}
+use Rattle.ledger_claims.proofs.Lists.{slice_get_seam, reaches}
 use Rattle.ledger_claims.proofs.Places.{behind_differs}
 use Rattle.ledger_claims.proofs.NextBlocks.{next-id, next-place}
 use Rattle.ledger_claims.proofs.Numbers.{TellsNext, CountsOn, attempts-least}
@@ -23,7 +25,8 @@ use Rattle.ledger_claims.proofs.Growing.{Grows, grown, as_many}
 use Rattle.ledger_claims.proofs.BlocksFit.{FitsBlocks-kept, FitsBlocks-next, each_behind}
 use Rattle.ledger_claims.proofs.OneMore.{attempts_one, SoFar-more}
 
-module _ (t : RunRecord) (done : List Placed) (p : Placed) (rest : List Placed) (last : ℕ) (so : SoFar t done (p ∷ rest) last) where
+module _ (t : RunRecord) (time : TimeParts) (among : IsTimeIn t.times time) (done : List Placed) (p : Placed) (rest : List Placed) (last : ℕ)
+    (so : SoFar t done (p ∷ rest) last) where
   abbrev s : Standing
   s = standing t last
 
@@ -50,7 +53,7 @@ module _ (t : RunRecord) (done : List Placed) (p : Placed) (rest : List Placed) 
       next-HasNoBlock : HasNoBlock u p
       next-HasNoBlock =
           subst (λ (x : List Block). AllByRecursion (λ b. b.info.place ≡ p.place → ⊥) (drop (length t.before) x)) (sym same)
-          (all_mapped (λ (b : Block). IsBehind b.info.place p) (λ b. b.info.place ≡ p.place → ⊥)
+          (all_like (λ (b : Block). IsBehind b.info.place p) (λ b. b.info.place ≡ p.place → ⊥)
           (λ b behind. behind_differs b.info.place p behind) (made t) (each_behind p rest (made t) so.behind))
 
       next-IsFresh : (since : ℕ) → since ≡ length t.after → IsFresh u since
@@ -103,7 +106,7 @@ module _ (t : RunRecord) (done : List Placed) (p : Placed) (rest : List Placed) 
     ran_there : (o : Outcome) → now.blocks ≡ t.after → (since : ℕ) → since ≡ length t.after → ran_on (with_outcome o) p (last + 1) since ≡ ran_next s p
     ran_there o same since is = next-ran now.blocks (with_outcome o).outcomes closed same since is
 
-    after_Refused : (tx : TxId) (since statement : ℕ) (cause : Refusal) → Attempted s t.time p (Refused tx since statement cause) now → closed ≡ t.closed
+    after_Refused : (tx : TxId) (since statement : ℕ) (cause : Refusal) → Attempted s time p (Refused tx since statement cause) now → closed ≡ t.closed
         → Further (Refused tx since statement cause)
     after_Refused tx since statement cause h fine =
         let o : Outcome = Refused tx since statement cause in
@@ -117,7 +120,7 @@ module _ (t : RunRecord) (done : List Placed) (p : Placed) (rest : List Placed) 
         })
         (omega (arith, h.2)) refl fine
 
-    after_Aborted : (tx : TxId) (since : ℕ) → Attempted s t.time p (Aborted tx since) now → closed ≡ t.closed → Further (Aborted tx since)
+    after_Aborted : (tx : TxId) (since : ℕ) → Attempted s time p (Aborted tx since) now → closed ≡ t.closed → Further (Aborted tx since)
     after_Aborted tx since h fine =
         let o : Outcome = Aborted tx since in
         drew o tx now closed h.0 h.1 later
@@ -132,7 +135,7 @@ module _ (t : RunRecord) (done : List Placed) (p : Placed) (rest : List Placed) 
         })
         (omega (arith, h.2)) refl fine
 
-    after_StoreFault : (tx : TxId) (count : ℕ) → Attempted s t.time p (StoreFault tx count) now → (t.closed < closed) × (count ≡ closed) → Further (StoreFault tx count)
+    after_StoreFault : (tx : TxId) (count : ℕ) → Attempted s time p (StoreFault tx count) now → (t.closed < closed) × (count ≡ closed) → Further (StoreFault tx count)
     after_StoreFault tx count h rose =
         let o : Outcome = StoreFault tx count in
         drew o tx now closed h.0 h.1 later
@@ -146,7 +149,7 @@ module _ (t : RunRecord) (done : List Placed) (p : Placed) (rest : List Placed) 
         })
         tt refl rose
 
-    after_JournalFull : (tx : TxId) (blocks : ℕ) → Attempted s t.time p (JournalFull tx blocks) now → closed ≡ t.closed → Further (JournalFull tx blocks)
+    after_JournalFull : (tx : TxId) (blocks : ℕ) → Attempted s time p (JournalFull tx blocks) now → closed ≡ t.closed → Further (JournalFull tx blocks)
     after_JournalFull tx blocks h fine =
         let o : Outcome = JournalFull tx blocks in
         drew o tx now closed h.0 h.1 later
@@ -160,7 +163,7 @@ module _ (t : RunRecord) (done : List Placed) (p : Placed) (rest : List Placed) 
         })
         tt refl fine
 
-    after_IdsSpent : (spent : ℕ) → Attempted s t.time p (IdsSpent spent) now → closed ≡ t.closed → Further (IdsSpent spent)
+    after_IdsSpent : (spent : ℕ) → Attempted s time p (IdsSpent spent) now → closed ≡ t.closed → Further (IdsSpent spent)
     after_IdsSpent spent h fine =
         let o : Outcome = IdsSpent spent in
         let same : now.blocks ≡ t.after = ap (λ (x : Standing). x.blocks) h.0 in
@@ -168,22 +171,22 @@ module _ (t : RunRecord) (done : List Placed) (p : Placed) (rest : List Placed) 
         kept o now closed same later (omega arith) (omega arith)
         (record { greatest_last = h.2; used = omega (arith, so.not_past, h.1); blockless = blockless o same }) tt tt fine
 
-    after_OutOfMemory : Attempted s t.time p OutOfMemory now → closed ≡ t.closed → Further OutOfMemory
+    after_OutOfMemory : Attempted s time p OutOfMemory now → closed ≡ t.closed → Further OutOfMemory
     after_OutOfMemory h fine =
         kept OutOfMemory now closed h.0.blocks later (omega (arith, h.0.last)) (omega (arith, h.0.last)) (blockless OutOfMemory h.0.blocks) tt tt fine
 
-    after_Committed : (tx : TxId) (block : ℕ) → Attempted s t.time p (Committed tx block) now → closed ≡ t.closed → Further (Committed tx block)
+    after_Committed : (tx : TxId) (block : ℕ) → Attempted s time p (Committed tx block) now → closed ≡ t.closed → Further (Committed tx block)
     after_Committed tx block h fine =
         let o : Outcome = Committed tx block in
         let b : Block = h.sealed in
-        let id : tx.raw ≡ raw_id t.mask (last + 1) 0 = ap (λ (x : TxId). x.raw) h.id ∙ next-id s t.time p b h.is_next in
-        let place : b.info.place ≡ p.place = next-place s t.time p b h.is_next in
+        let id : tx.raw ≡ raw_id t.mask (last + 1) 0 = ap (λ (x : TxId). x.raw) h.id ∙ next-id s time p b h.is_next in
+        let place : b.info.place ≡ p.place = next-place s time p b h.is_next in
         let room : length t.after < 2 ^ 32 - 1 = h.is_next.room in
         let there : slice_get now.blocks block ≡ Some b =
         (λ i. slice_get (h.blocks i) (h.place i)) ∙ slice_get_seam t.after b [] in
         let fits : FitsBlocks (with_outcome o) =
         subst (λ (x : List Block). FitsBlocks (extended t x p o closed)) (sym h.blocks)
-        (FitsBlocks-next t done p rest last b (with_outcome o).outcomes closed so h.is_next) in
+        (FitsBlocks-next t time among done p rest last b (with_outcome o).outcomes closed so h.is_next) in
         SoFar-more t done p rest last so o now.blocks (b ∷ []) closed now.last
         (record { begins = so.blocks.begins; behind = h.blocks; later = later; room = λ full. absurd (omega arith) })
         (place, tt) fits (omega (arith, h.last)) (omega (arith, h.last))
@@ -198,7 +201,7 @@ module _ (t : RunRecord) (done : List Placed) (p : Placed) (rest : List Placed) 
         })
         (omega (arith, h.place)) (id, omega (arith, h.last)) fine
 
-    further : (o : Outcome) → Attempted s t.time p o now → TellsFaults t.closed o closed → Further o
+    further : (o : Outcome) → Attempted s time p o now → TellsFaults t.closed o closed → Further o
     further (Committed tx block) h faults = after_Committed tx block h faults
     further (Conflict tx since named) h faults = absurd h
     further (Refused tx since statement cause) h faults = after_Refused tx since statement cause h faults
@@ -210,7 +213,8 @@ module _ (t : RunRecord) (done : List Placed) (p : Placed) (rest : List Placed) 
     further OutOfMemory h faults = after_OutOfMemory h faults
 
 -- A transaction of the next job takes the run one job further.
-pub extends : (t : RunRecord) (done : List Placed) (p : Placed) (rest : List Placed) (last : ℕ) (o : Outcome) (now : Standing) (closed : ℕ)
-    → SoFar t done (p ∷ rest) last → t.closed ≤ closed → Attempted (standing t last) t.time p o now
+pub extends : (t : RunRecord) (time : TimeParts) → IsTimeIn t.times time → (done : List Placed) (p : Placed) (rest : List Placed) (last : ℕ)
+    (o : Outcome) (now : Standing) (closed : ℕ) → SoFar t done (p ∷ rest) last → t.closed ≤ closed → Attempted (standing t last) time p o now
     → TellsFaults t.closed o closed → SoFar (extended t now.blocks p o closed) (done ++ p ∷ []) rest now.last
-extends t done p rest last o now closed so later attempted faults = further t done p rest last so now closed later o attempted faults
+extends t time among done p rest last o now closed so later attempted faults =
+    further t time among done p rest last so now closed later o attempted faults

@@ -9,6 +9,7 @@ use Rattle.ledger_model.specs.declared.block.Header.{Header}
 use Rattle.ledger_model.specs.declared.script.Request.{Request}
 use Rattle.ledger_model.specs.State.{state, draft_of, recorded_in}
 use Rattle.ledger_model.specs.Run.{Begun, Progress, run, ran, final_revisions}
+use Rattle.ledger_model.specs.Journal.{said_in}
 use Rattle.ledger_model.specs.Legal.{asked_in, Means}
 use Rattle.ledger_model.specs.Making.{block_of, header_of, revision_of, time_behind}
 use Rattle.ledger_model.specs.Script.{Placed}
@@ -63,6 +64,6 @@ module _ (s : Standing) (time : TimeParts) (p : Placed) (b : Block) (is : IsNext
   pub next-IsOfJob : IsOfJob b p
   next-IsOfJob = record {
     place = next-place;
-    asked = ap (λ (x : Block). asked_in x.info.said) block_is ∙ said_of_run (next s) (state s.blocks) p.job.statements is.made.progress is.made.runs;
+    asked = ap (λ (x : Block). asked_in (said_in x.info.said)) block_is ∙ said_of_run (next s) (state s.blocks) p.job.statements is.made.progress is.made.runs;
     commits = is.commits;
   }

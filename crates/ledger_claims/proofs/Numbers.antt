@@ -1,5 +1,6 @@
 -- The numbers of transactions, and lists of numbers that differ.
 use Rattle.std.proofs.Common.{◌≡◌, ℕ, ◌+◌, ◌*◌, ◌/◌, ◌^◌, ◌<◌, ◌≤◌, max, Bool, true, false, not, ◌||◌, ◌==◌, List, [], ◌∷◌, ◌++◌, length, refl, sym, ap, subst, ◌∙◌, arith, append_assoc, append-nil}
+use Rattle.std.proofs.lemmas.Bool.{and_parts}
 use Rattle.std.specs.List.{AllByRecursion, list_any}
 use Rattle.std.proofs.lemmas.Bool.Decides.{nat_tests}
 use Rattle.ql_types.specs.Ids.{raw_id, transaction_in}
@@ -10,8 +11,7 @@ use Rattle.ledger_model.specs.Follows.{all_differ}
 use Rattle.ledger_model.specs.Script.{Placed}
 use Rattle.ledger_claims.specs.Fits.{greatest, greatest_count, attempts, told_id, told_ids, told_count, told_counts}
 use Rattle.ledger_claims.specs.SoFar.{IsDrawn, HasRisen}
-use Rattle.ledger_claims.proofs.Tests.{both}
-use Rattle.ledger_claims.proofs.Lists.{all_append, all_front, all_rest, all_mapped}
+use Rattle.made_blocks.proofs.Lists.{all_append, all_front, all_rest, all_like}
 
 -- ---- ids
 
@@ -68,7 +68,7 @@ none_more x y (z ∷ zs) e h = none_step (x == z) (list_any (λ w. x == w) zs) (
 pub differ_more : (xs : List ℕ) (x : ℕ) → all_differ xs ≡ true → AllByRecursion (λ y. y ≡ x → ⊥) xs → all_differ (xs ++ x ∷ []) ≡ true
 differ_more [] x e h = refl
 differ_more (y ∷ ys) x e h =
-    let parts = both (not (list_any (λ z. y == z) ys)) (all_differ ys) e in
+    let parts = and_parts (not (list_any (λ z. y == z) ys)) (all_differ ys) e in
     rw (none_more y x ys (apart y x h.0) parts.0, differ_more ys x parts.1 h.1) refl
 
 -- ---- the ids that are told
@@ -92,7 +92,7 @@ TellsNext mask last now (x ∷ y ∷ more) = ⊥
 
 module _ (mask last now : ℕ) (later : last ≤ now) (xs : List ℕ) (drawn : AllByRecursion (IsDrawn mask last) xs) where
   still_drawn : AllByRecursion (IsDrawn mask now) xs
-  still_drawn = all_mapped (IsDrawn mask last) (IsDrawn mask now) (IsDrawn-later mask last now later) xs drawn
+  still_drawn = all_like (IsDrawn mask last) (IsDrawn mask now) (IsDrawn-later mask last now later) xs drawn
 
   pub drawn_more : (new : List ℕ) → TellsNext mask last now new → AllByRecursion (IsDrawn mask now) (xs ++ new)
   drawn_more [] h = subst (λ (zs : List ℕ). AllByRecursion (IsDrawn mask now) zs) (sym (append-nil xs)) still_drawn
@@ -104,7 +104,7 @@ module _ (mask last now : ℕ) (later : last ≤ now) (xs : List ℕ) (drawn : A
   pub ids_more : (new : List ℕ) → TellsNext mask last now new → all_differ xs ≡ true → all_differ (xs ++ new) ≡ true
   ids_more [] h e = ap all_differ (append-nil xs) ∙ e
   ids_more (x ∷ []) h e =
-      differ_more xs x e (all_mapped (IsDrawn mask last) (λ y. y ≡ x → ⊥) (λ y was same. drawn_before mask last y was (same ∙ h.0)) xs drawn)
+      differ_more xs x e (all_like (IsDrawn mask last) (λ y. y ≡ x → ⊥) (λ y was same. drawn_before mask last y was (same ∙ h.0)) xs drawn)
   ids_more (x ∷ y ∷ more) h e = absurd h
 
 -- the numbers in front are smaller
@@ -151,7 +151,7 @@ greatest_on opened closed after xs (x ∷ y ∷ more) is h = absurd h
 
 module _ (opened closed after : ℕ) (opens : opened ≤ closed) (later : closed ≤ after) (xs : List ℕ) (risen : AllByRecursion (HasRisen opened closed) xs) where
   still_risen : AllByRecursion (HasRisen opened after) xs
-  still_risen = all_mapped (HasRisen opened closed) (HasRisen opened after) (HasRisen-later opened closed after later) xs risen
+  still_risen = all_like (HasRisen opened closed) (HasRisen opened after) (HasRisen-later opened closed after later) xs risen
 
   pub risen_more : (new : List ℕ) → CountsOn closed after new → AllByRecursion (HasRisen opened after) (xs ++ new)
   risen_more [] h = subst (λ (zs : List ℕ). AllByRecursion (HasRisen opened after) zs) (sym (append-nil xs)) still_risen
@@ -163,5 +163,5 @@ module _ (opened closed after : ℕ) (opens : opened ≤ closed) (later : closed
   pub counts_more : (new : List ℕ) → CountsOn closed after new → all_differ xs ≡ true → all_differ (xs ++ new) ≡ true
   counts_more [] h e = ap all_differ (append-nil xs) ∙ e
   counts_more (x ∷ []) h e =
-      differ_more xs x e (all_mapped (HasRisen opened closed) (λ y. y ≡ x → ⊥) (λ y was same. risen_before opened closed y x (omega (arith, h.0, h.1)) was same) xs risen)
+      differ_more xs x e (all_like (HasRisen opened closed) (λ y. y ≡ x → ⊥) (λ y was same. risen_before opened closed y x (omega (arith, h.0, h.1)) was same) xs risen)
   counts_more (x ∷ y ∷ more) h e = absurd h

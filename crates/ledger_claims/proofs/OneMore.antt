@@ -8,9 +8,10 @@ use Rattle.ledger_model.specs.declared.outcome.Outcome.{Outcome}
 use Rattle.ledger_model.specs.declared.outcome.PlacedOutcome.{PlacedOutcome}
 use Rattle.ledger_model.specs.Follows.{all_differ}
 use Rattle.ledger_model.specs.Script.{Placed}
-use Rattle.ledger_claims.specs.Fits.{RunRecord, made, FitsBlocks, Holds, EachHolds, RunsBefore, AllBefore, stood_before, stood_behind, attempts, greatest_count, told_id, told_ids, told_count, told_counts}
+use Rattle.ledger_claims.specs.Fits.{RunRecord, made, FitsBlocks, Holds, EachHolds, RunsBefore, HaveOneWorker, AllBefore, stood_before, stood_behind, attempts, greatest_count, told_id, told_ids, told_count, told_counts}
 use Rattle.ledger_claims.specs.SoFar.{IsBehind, InOrder, AreBehind, IsDrawn, HasRisen, SoFar, extended}
-use Rattle.ledger_claims.proofs.Lists.{all_append, all_both, all_mapped}
+use Rattle.made_blocks.proofs.Lists.{all_append, all_like}
+use Rattle.ledger_claims.proofs.Lists.{all_both}
 use Rattle.ledger_claims.proofs.Places.{InOrder-rest, InOrder-front, behind_differs, behind_own}
 use Rattle.ledger_claims.proofs.Numbers.{attempts-append, told_ids-more, told_counts-more, TellsNext, CountsOn, each_told, one_greater, greatest_on, drawn_more, ids_more, risen_more, counts_more}
 use Rattle.ledger_claims.proofs.Growing.{Grows, IsNotOf, IsWithin, made_on, all_within, EachHolds-on, EachHolds-more}
@@ -29,7 +30,7 @@ AreOf p bs = AllByRecursion (λ b. b.info.place ≡ p.place) bs
 
 -- blocks of a job aren't those of another place
 others : (p q : Placed) (bs : List Block) → (q.place ≡ p.place → ⊥) → AreOf p bs → AllByRecursion (IsNotOf q) bs
-others p q bs differs own = all_mapped (λ (b : Block). b.info.place ≡ p.place) (IsNotOf q) (λ b is same. differs (sym same ∙ is)) bs own
+others p q bs differs own = all_like (λ (b : Block). b.info.place ≡ p.place) (IsNotOf q) (λ b is same. differs (sym same ∙ is)) bs own
 
 pub attempts_one : (done : List Placed) (p : Placed) (rest : List Placed) → attempts (done ++ p ∷ rest) ≡ attempts done + (p.job.retries + 1) + attempts rest
 attempts_one done p rest = omega (arith, attempts-append done (p ∷ rest))
@@ -51,19 +52,21 @@ module _ (t : RunRecord) (done : List Placed) (p : Placed) (rest : List Placed) 
       (all_append (λ b. AllByRecursion (IsBehind b.info.place) rest) (made t) more (others_behind p rest (made t) so.behind)
       (behind_own p rest more (InOrder-rest done (p ∷ rest) order) own))
 
-  outcomes_on : Holds u t.outcomes p outcome → AllBefore t.mask t.outcomes outcome → EachHolds u [] (done ++ p ∷ []) u.outcomes
+  outcomes_on : Holds u t.outcomes p outcome → AllBefore t t.outcomes p outcome → EachHolds u [] (done ++ p ∷ []) u.outcomes
   outcomes_on holds before =
       let differ : AllByRecursion (λ q. AllByRecursion (IsNotOf q) more) done =
-      all_mapped (λ (q : Placed). IsBehind q.place p) (λ q. AllByRecursion (IsNotOf q) more)
+      all_like (λ (q : Placed). IsBehind q.place p) (λ q. AllByRecursion (IsNotOf q) more)
       (λ q behind. others p q more (behind_differs q.place p behind) own) done (InOrder-front done p rest order) in
       EachHolds-more u p new refl [] done t.outcomes (EachHolds-on t blocks more u.outcomes closed g [] done t.outcomes differ so.outcomes) (holds, before)
 
   -- the jobs in front ran before this one
-  all_before : IfSome (stood_before outcome) (λ n. length t.after ≤ n) → TellsNext t.mask last now (told_id outcome) → AllBefore t.mask t.outcomes outcome
+  all_before : IfSome (stood_before outcome) (λ n. length t.after ≤ n) → TellsNext t.mask last now (told_id outcome)
+      → AllBefore t t.outcomes p outcome
   all_before stood tells =
-      all_both (λ o. AllByRecursion (IsDrawn t.mask last) (told_id o.outcome)) (λ o. IsWithin (length t.after) o.outcome) (λ o. RunsBefore t.mask o.outcome outcome)
-      (λ o was within. record {
-        numbers = all_mapped (IsDrawn t.mask last) (λ m. AllByRecursion (λ n. transaction_in t.mask m < transaction_in t.mask n) (told_id outcome))
+      all_both (λ o. AllByRecursion (IsDrawn t.mask last) (told_id o.outcome)) (λ o. IsWithin (length t.after) o.outcome)
+      (λ o. HaveOneWorker t.workers o.place.session p.place.session → RunsBefore t.mask o.outcome outcome)
+      (λ o was within _. record {
+        numbers = all_like (IsDrawn t.mask last) (λ m. AllByRecursion (λ n. transaction_in t.mask m < transaction_in t.mask n) (told_id outcome))
             (λ m drawn. one_greater t.mask last now m (told_id outcome) drawn tells) (told_id o.outcome) was;
         blocks = stood_on (length t.after) (stood_behind o.outcome) (stood_before outcome) within stood;
       })

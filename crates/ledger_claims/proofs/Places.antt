@@ -6,7 +6,7 @@ use Rattle.ledger_model.specs.declared.block.Block.{Block}
 use Rattle.ledger_model.specs.declared.script.Job.{Job}
 use Rattle.ledger_model.specs.Script.{Placed, placed_from, all_placed_from, all_placed}
 use Rattle.ledger_claims.specs.SoFar.{IsBehind, InOrder, AreBehind}
-use Rattle.ledger_claims.proofs.Lists.{all_append, all_mapped}
+use Rattle.made_blocks.proofs.Lists.{all_append, all_like}
 
 -- ---- the jobs of a script are in order
 
@@ -29,7 +29,7 @@ all_later : (session least : ℕ) (script : List (List Job)) → least ≤ sessi
 all_later session least [] h = tt
 all_later session least (jobs ∷ more) h =
     all_append (IsOfLater least) (placed_from session 1 jobs) (all_placed_from (session + 1) more)
-    (all_mapped (IsFrom session 1) (IsOfLater least) (λ p of. omega (arith, of.0)) (placed_from session 1 jobs) (all_from session 1 1 jobs (omega arith)))
+    (all_like (IsFrom session 1) (IsOfLater least) (λ p of. omega (arith, of.0)) (placed_from session 1 jobs) (all_from session 1 1 jobs (omega arith)))
     (all_later (session + 1) least more (omega arith))
 
 behind_same : (session transaction : ℕ) (p : Placed) → IsFrom session (transaction + 1) p → IsBehind (record { session = session; transaction = transaction }) p
@@ -41,7 +41,7 @@ behind_later place p later same = absurd (omega arith)
 session-InOrder : (session transaction : ℕ) (jobs : List Job) → InOrder (placed_from session transaction jobs)
 session-InOrder session transaction [] = tt
 session-InOrder session transaction (j ∷ js) = (
-  all_mapped (IsFrom session (transaction + 1)) (IsBehind (record { session = session; transaction = transaction }))
+  all_like (IsFrom session (transaction + 1)) (IsBehind (record { session = session; transaction = transaction }))
       (behind_same session transaction) (placed_from session (transaction + 1) js) (all_from session (transaction + 1) (transaction + 1) js (omega arith)),
   session-InOrder session (transaction + 1) js,
 )
@@ -56,8 +56,8 @@ sessions-InOrder session [] = tt
 sessions-InOrder session (jobs ∷ more) =
     let later = all_placed_from (session + 1) more in
     InOrder-append (placed_from session 1 jobs) later (session-InOrder session 1 jobs) (sessions-InOrder (session + 1) more)
-    (all_mapped (IsFrom session 1) (λ p. AllByRecursion (IsBehind p.place) later)
-    (λ p of. all_mapped (IsOfLater (session + 1)) (IsBehind p.place)
+    (all_like (IsFrom session 1) (λ p. AllByRecursion (IsBehind p.place) later)
+    (λ p of. all_like (IsOfLater (session + 1)) (IsBehind p.place)
     (λ q after. behind_later p.place q (omega (arith, of.0, after))) later (all_later (session + 1) (session + 1) more (omega arith)))
     (placed_from session 1 jobs) (all_from session 1 1 jobs (omega arith)))
 
@@ -88,5 +88,5 @@ behind_differs place p behind same =
 -- blocks of the job itself have those behind it behind them
 pub behind_own : (p : Placed) (rest : List Placed) (bs : List Block) → InOrder (p ∷ rest) → AllByRecursion (λ b. b.info.place ≡ p.place) bs → AreBehind bs rest
 behind_own p rest bs order own =
-    all_mapped (λ (b : Block). b.info.place ≡ p.place) (λ b. AllByRecursion (IsBehind b.info.place) rest)
+    all_like (λ (b : Block). b.info.place ≡ p.place) (λ b. AllByRecursion (IsBehind b.info.place) rest)
     (λ b is. subst (λ (x : Place). AllByRecursion (IsBehind x) rest) (sym is) order.0) bs own

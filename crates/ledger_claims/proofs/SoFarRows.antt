@@ -1,5 +1,6 @@
 -- Rows on the order of jobs, and the run of one job from its start to its end.
-use Rattle.std.proofs.Common.{◌≡◌, List, ◌≤◌, ℕ, ◌+◌, ◌<◌, false, [], ◌∷◌, refl, ap, ◌∙◌, None, lit<, arith}
+use Rattle.std.proofs.Common.{◌≡◌, List, ◌≤◌, ℕ, ◌+◌, ◌<◌, false, [], ◌∷◌, refl, ap, ◌∙◌, None, Some, sym, lit<, arith}
+use native.Mathlib.Nat.{mod-one}
 use Rattle.ion_values.specs.declared.time.TimeParts.{TimeParts}
 use Rattle.ql_types.specs.declared.TxId.{TxId}
 use Rattle.ledger_model.specs.declared.script.Job.{Job}
@@ -10,7 +11,7 @@ use Rattle.ledger_model.specs.declared.outcome.PlacedOutcome.{PlacedOutcome}
 use Rattle.ledger_model.specs.declared.outcome.Refusal.{Refusal}
 use Rattle.ledger_model.specs.Damages.{Undamaged}
 use Rattle.ledger_model.specs.Script.{Placed}
-use Rattle.ledger_claims.specs.Fits.{RunRecord, Fits, EachHolds, greatest, greatest_count, told_counts, mask_of}
+use Rattle.ledger_claims.specs.Fits.{RunRecord, one_time, Fits, HaveOneWorker, EachHolds, greatest, greatest_count, told_counts, mask_of}
 use Rattle.ledger_claims.specs.Attempts.{Standing, Attempted, TellsFaults}
 use Rattle.ledger_claims.specs.SoFar.{InOrder, SoFar, extended}
 use Rattle.ledger_claims.proofs.Found.{found-IsStanding}
@@ -37,8 +38,10 @@ twice order = let bad : 1 < 1 = order.0.0 refl in omega arith
 
 abbrev begun : TimeParts → List Block → Placed → ℕ → RunRecord
 begun time blocks p opened = record {
+  given = Some 0;
   mask = mask_of 0 blocks;
-  time = time;
+  times = one_time time;
+  workers = 1;
   jobs = p ∷ [];
   opened = opened;
   closed = opened;
@@ -55,8 +58,8 @@ one_run : (time : TimeParts) (blocks : List Block) (p : Placed) (opened closed :
 one_run time blocks p opened closed o now undamaged later attempted faults =
     let t : RunRecord = begun time blocks p opened in
     let is = found-IsStanding 0 blocks undamaged in
-    let first : SoFar t [] (p ∷ []) (stood blocks).last = starts t (stood blocks) (tt, tt) refl refl refl is refl refl refl in
-    let on = goes_on t [] p [] (stood blocks).last o now closed first is later attempted faults in
+    let first : SoFar t [] (p ∷ []) (stood blocks).last = starts t (stood blocks) (tt, tt) refl refl refl refl is refl refl refl in
+    let on = goes_on t time refl [] p [] (stood blocks).last o now closed first is later attempted faults in
     ends (extended t now.blocks p o closed) (p ∷ []) now.last on.0
 
 -- ---- what doesn't fit
@@ -64,15 +67,19 @@ one_run time blocks p opened closed o now undamaged later attempted faults =
 abbrev tells : Placed → Outcome → PlacedOutcome
 tells p o = record { place = p.place; outcome = o }
 
+-- one worker runs all sessions
+of_one_worker : (first second : ℕ) → HaveOneWorker 1 first second
+of_one_worker first second = mod-one first ∙ sym (mod-one second)
+
 -- a session that was run backwards: the first job is refused for the table that the second one made
-backwards : (t : RunRecord) (p q : Placed) (a b : TxId) (cause : Refusal)
+backwards : (t : RunRecord) (p q : Placed) (a b : TxId) (cause : Refusal) → HaveOneWorker t.workers p.place.session q.place.session
     → EachHolds t [] (p ∷ q ∷ []) (tells p (Refused a 1 1 cause) ∷ tells q (Committed b 0) ∷ []) → ⊥
-backwards t p q a b cause each = let bad : 1 ≤ 0 = each.3.2.0.blocks in omega arith
+backwards t p q a b cause one each = let bad : 1 ≤ 0 = (each.3.2.0 one).blocks in omega arith
 
 -- a job that was refused on fewer blocks than the one in front left
-overtaken : (t : RunRecord) (p q : Placed) (a b : TxId) (cause : Refusal)
+overtaken : (t : RunRecord) (p q : Placed) (a b : TxId) (cause : Refusal) → HaveOneWorker t.workers p.place.session q.place.session
     → EachHolds t [] (p ∷ q ∷ []) (tells p (Committed a 0) ∷ tells q (Refused b 0 1 cause) ∷ []) → ⊥
-overtaken t p q a b cause each = let bad : 0 + 1 ≤ 0 = each.3.2.0.blocks in omega arith
+overtaken t p q a b cause one each = let bad : 0 + 1 ≤ 0 = (each.3.2.0 one).blocks in omega arith
 
 -- a failure of the store that no outcome tells
 untold : (t : RunRecord) → Fits t → told_counts t.outcomes ≡ [] → t.opened < t.closed → ⊥

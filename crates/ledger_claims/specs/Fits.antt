@@ -1,11 +1,13 @@
 -- What a run claims of the blocks that it leaves and of the outcomes that it tells: the blocks are one serial history,
 -- and each outcome is true of it.
-use Rattle.std.specs.Prelude.{◌≡◌, ℕ, ◌+◌, ◌^◌, ◌<◌, ◌≤◌, ◌-◌, max, List, [], ◌∷◌, ◌++◌, length, take, drop, slice_get, Option, Some, None, IfSome, Contains, true, false}
+use Rattle.std.specs.Prelude.{◌≡◌, ℕ, ◌+◌, ◌^◌, ◌%◌, ◌<◌, ◌≤◌, ◌-◌, max, ℤ, List, [], ◌∷◌, ◌++◌, length, take, drop, slice_get, Option, Some, None, IfSome, Contains, true, false}
 use Rattle.std.specs.List.{AllByRecursion}
 use Rattle.ion_values.specs.declared.time.TimeParts.{TimeParts}
+use Rattle.ion_time.specs.Millis.{BeginsAt, nearest}
 use Rattle.ql_types.specs.Ids.{raw_id, transaction_in}
 use Rattle.ql_types.specs.declared.Place.{Place}
 use Rattle.ql_types.specs.declared.TxId.{TxId}
+use Rattle.ledger_model.specs.Journal.{said_in}
 use Rattle.ledger_model.specs.declared.block.Block.{Block}
 use Rattle.ledger_model.specs.declared.outcome.Outcome.{Outcome}
 use Rattle.ledger_model.specs.declared.outcome.Outcome.TheVariants.{Committed, Conflict, Refused, DigestDiffers, StoreFault, JournalFull, IdsSpent, Aborted, OutOfMemory}
@@ -19,11 +21,21 @@ use Rattle.ledger_model.specs.Damages.{Undamaged}
 use Rattle.ledger_model.specs.Making.{time_behind}
 use Rattle.ledger_model.specs.Script.{Placed}
 
--- what a run was told and what it left: the mask of the ids, the time of its blocks, the script's jobs in order, how
--- often the store had failed before and after, the blocks before and after, and the outcomes in the script's order
+-- Where the times of a run's blocks come from: one time, or what a clock answered, in milliseconds since 1970 in UTC, where
+-- it tells that.
+pub data Times : Type 0 where
+  one_time : TimeParts → Times
+  answered : List ℤ → Times
+  untold : Times
+
+-- What a run was told and what it left: the mask that the words give, where they do, and that of the ids; where the times
+-- of its blocks come from; how many workers it has; the script's jobs in order; how often the store had failed before and
+-- after; the blocks before and after; and the outcomes in the script's order.
 pub record RunRecord : Type 0 where
+  pub given : Option ℕ
   pub mask : ℕ
-  pub time : TimeParts
+  pub times : Times
+  pub workers : ℕ
   pub jobs : List Placed
   pub opened : ℕ
   pub closed : ℕ
@@ -42,15 +54,32 @@ abbrev pub mask_of : ℕ → List Block → ℕ
 mask_of given [] = given
 mask_of given (b ∷ bs) = b.header.address.strand.raw
 
--- each block is as late as the one before it, or has this time where that is later
-abbrev pub HaveTimes : TimeParts → List Block → List Block → Type 0
-HaveTimes time before [] = Unit {0}
-HaveTimes time before (b ∷ bs) = (b.header.time ≡ time_behind before time) × HaveTimes time (before ++ b ∷ []) bs
+-- so the ids have the journal's own mask, or the one that the words give
+abbrev pub HasMask : RunRecord → Type 0
+HasMask t = IfSome t.given (λ given. t.mask ≡ mask_of given t.before)
+
+-- The time is the one time, or that of an answer of the clock, taken to the nearest millisecond of the years 0001 to 9999.
+-- Nothing is said where a clock doesn't tell its answers.
+abbrev pub IsTimeIn : Times → TimeParts → Type 0
+IsTimeIn (one_time own) time = time ≡ own
+IsTimeIn (answered answers) time = (ms : ℤ) × Contains answers ms × BeginsAt (nearest ms) time
+IsTimeIn untold time = Unit {0}
+
+-- the block is as late as the one before it, or has one of these times where that is later
+pub record HasTime (times : Times) (before : List Block) (b : Block) : Type 0 where
+  pub time : TimeParts
+  pub among : IsTimeIn times time
+  pub is : b.header.time ≡ time_behind before time
+
+-- so is each of these blocks behind those in front
+abbrev pub HaveTimes : Times → List Block → List Block → Type 0
+HaveTimes times before [] = Unit {0}
+HaveTimes times before (b ∷ bs) = HasTime times before b × HaveTimes times (before ++ b ∷ []) bs
 
 -- the block is that of this job: it has the job's place and statements, and the job is to be committed
 pub record IsOfJob (b : Block) (p : Placed) : Type 0 where
   pub place : b.info.place ≡ p.place
-  pub asked : asked_in b.info.said ≡ p.job.statements
+  pub asked : asked_in (said_in b.info.said) ≡ p.job.statements
   pub commits : p.job.abort ≡ false
 
 pub record IsOfSomeJob (jobs : List Placed) (b : Block) : Type 0 where
@@ -71,9 +100,10 @@ InSessionOrder (b ∷ bs) = AllByRecursion (Before b.info.place) bs × InSession
 pub record FitsBlocks (t : RunRecord) : Type 0 where
   pub begins : take (length t.before) t.after ≡ t.before
   pub undamaged : Undamaged t.after
+  pub masked : HasMask t
   pub strand : mask_of t.mask t.after ≡ t.mask
   pub serial : Legal t.mask t.after (length t.before)
-  pub times : HaveTimes t.time t.before (made t)
+  pub times : HaveTimes t.times t.before (made t)
   pub of_jobs : AllByRecursion (IsOfSomeJob t.jobs) (made t)
   pub once : InSessionOrder (made t)
 
@@ -228,15 +258,21 @@ Holds t done p (IdsSpent last) = IsSpent t done p last
 Holds t done p (Aborted tx since) = IsAborted t p tx since
 Holds t done p OutOfMemory = HasNoBlock t p
 
--- the transactions with these outcomes ran before one with this outcome
-abbrev pub AllBefore : ℕ → List PlacedOutcome → Outcome → Type 0
-AllBefore mask done outcome = AllByRecursion (λ o. RunsBefore mask o.outcome outcome) done
+-- Of so many workers one runs both of these sessions: the sessions are dealt to the workers in turn.
+abbrev pub HaveOneWorker : ℕ → ℕ → ℕ → Type 0
+HaveOneWorker workers first second = first % workers ≡ second % workers
 
--- An outcome for each job, in order, behind those of the jobs in front. One after another, these all ran before it.
+-- the transactions with these outcomes that the job's worker runs ran before the job's own, which has this outcome
+abbrev pub AllBefore : RunRecord → List PlacedOutcome → Placed → Outcome → Type 0
+AllBefore t done p outcome =
+    AllByRecursion
+    (λ o. HaveOneWorker t.workers o.place.session p.place.session → RunsBefore t.mask o.outcome outcome) done
+
+-- An outcome for each job, in order, behind those of the jobs in front. Those of the same worker ran before it.
 abbrev pub EachHolds : RunRecord → List PlacedOutcome → List Placed → List PlacedOutcome → Type 0
 EachHolds t done [] [] = Unit {0}
 EachHolds t done (p ∷ ps) (o ∷ os) =
-    (o.place ≡ p.place) × Holds t done p o.outcome × AllBefore t.mask done o.outcome × EachHolds t (done ++ o ∷ []) ps os
+    (o.place ≡ p.place) × Holds t done p o.outcome × AllBefore t done p o.outcome × EachHolds t (done ++ o ∷ []) ps os
 EachHolds t done [] (o ∷ os) = ⊥
 EachHolds t done (p ∷ ps) [] = ⊥
 

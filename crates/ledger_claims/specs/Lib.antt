@@ -1,8 +1,8 @@
 pub mod Attempts
+pub mod Calls
 pub mod Fits
 pub mod Lines
 pub mod SoFar
-pub mod Makes
 pub mod Stores
 pub mod Streams
 pub mod Top

@@ -1,5 +1,6 @@
 -- What a run finds and leaves in its store, where the store tells it.
-use Rattle.std.specs.Prelude.{◌≡◌, ℕ, true, List, ◌++◌, length, Option, Some, IfSome}
+use Rattle.std.specs.Prelude.{◌≡◌, ℕ, true, List, ◌++◌, length, Option, IfSome}
+use Rattle.outside.specs.Told.{StoreTold}
 use Rattle.ledger_model.specs.declared.block.Block.{Block}
 use Rattle.ledger_model.specs.Journal.{journal_bytes}
 use Rattle.ledger_model.specs.Recovered.{has_no_line_feed, IsJournal}
@@ -12,10 +13,11 @@ HasJournal blocks held = IfSome held (λ bytes. (rest : List ℕ) × IsJournal b
 abbrev pub Holding : List Block → Option (List ℕ) → Type 0
 Holding blocks held = IfSome held (λ bytes. bytes ≡ journal_bytes blocks)
 
--- the store tells its synced length, and it is that of all its bytes
-abbrev pub IsSynced : Option (List ℕ) → Option ℕ → Type 0
-IsSynced held synced = IfSome held (λ bytes. synced ≡ Some (length bytes))
+-- all bytes of the store are synced
+abbrev pub IsSynced : StoreTold → Type 0
+IsSynced told = IfSome told.content (λ content. content.synced ≡ length content.bytes)
 
 -- the store holds the journal of these blocks, and behind it perhaps a rest that is no whole line
 abbrev pub HoldingWithRest : List Block → Option (List ℕ) → Type 0
-HoldingWithRest blocks held = IfSome held (λ bytes. (rest : List ℕ) × (bytes ≡ journal_bytes blocks ++ rest) × (has_no_line_feed rest ≡ true))
+HoldingWithRest blocks held =
+    IfSome held (λ bytes. (rest : List ℕ) × (bytes ≡ journal_bytes blocks ++ rest) × (has_no_line_feed rest ≡ true))

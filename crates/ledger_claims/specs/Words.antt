@@ -62,3 +62,17 @@ pub record IsRun (words : List (String Global)) (time : TimeParts) : Type 0 wher
   pub word : List ℕ
   pub words_are : map string_bytes words ≡ codes "run" ∷ codes "--plain-ids" ∷ codes "--at" ∷ word ∷ []
   pub time_is : time_of word ≡ Some time
+
+-- ---- what the words ask for
+
+-- the commands so far: a run, with the time of its blocks
+pub data Command : Type 0 where
+  run : TimeParts → Command
+
+abbrev pub Asks : List (String Global) → Command → Type 0
+Asks words (run time) = IsRun words time
+
+-- the words ask for this command, or for none
+abbrev pub AskedFor : List (String Global) → Option Command → Type 0
+AskedFor words (Some command) = Asks words command
+AskedFor words None = (command : Command) → ¬ Asks words command

@@ -5,7 +5,9 @@ use Rattle.std.proofs.lemmas.List.{take-append-le}
 use Rattle.std.proofs.Math.Seq.{take-add, take-append-add}
 use Rattle.std.specs.Io.KnownBytes.{Appends}
 use Rattle.std.proofs.KnownBytes.{Appends-trans}
-use Rattle.ledger_claims.specs.Streams.{BreaksOff}
+use Rattle.outside.specs.Told.{SinkTold}
+use Rattle.ledger_claims.specs.Calls.{span}
+use Rattle.ledger_claims.specs.Streams.{Writes, BreaksOff}
 use Rattle.ledger_cli.specs.Ends.{count_line}
 use Rattle.std.specs.Fmt.{decimal}
 
@@ -20,35 +22,36 @@ pub length-taken : (p : List ℕ) (n : ℕ) → length (take n p) ≤ n
 length-taken p n = grind (arith, common_steps)
 
 -- a piece that broke off behind another one is a text that broke off
-pub breaks_behind : (a b c : Option (List ℕ)) (p q : List ℕ) → Appends a b p → BreaksOff b c q → BreaksOff a c (p ++ q)
+pub breaks_behind : (a b c : SinkTold) (p q : List ℕ) → Writes (span a b) p → BreaksOff (span b c) q → BreaksOff (span a c) (p ++ q)
 breaks_behind a b c p q before off = (
   length p + off.0,
   omega (arith, length-append p q, off.1),
-  subst (λ (bs : List ℕ). Appends a c bs) (sym (take-append-add p q off.0)) (Appends-trans a b c p (take off.0 q) before off.2),
+  subst (λ (bs : List ℕ). Writes (span a c) bs) (sym (take-append-add p q off.0))
+      (Appends-trans a.written b.written c.written p (take off.0 q) before off.2),
 )
 
 -- a piece in front of another one, too
-pub breaks_before : (a b : Option (List ℕ)) (p q : List ℕ) → BreaksOff a b p → BreaksOff a b (p ++ q)
+pub breaks_before : (a b : SinkTold) (p q : List ℕ) → BreaksOff (span a b) p → BreaksOff (span a b) (p ++ q)
 breaks_before a b p q off = (
   off.0,
   omega (arith, length-append p q, off.1),
-  subst (λ (bs : List ℕ). Appends a b bs) (sym (take-append-le off.0 p q (omega (arith, off.1)))) off.2,
+  subst (λ (bs : List ℕ). Writes (span a b) bs) (sym (take-append-le off.0 p q (omega (arith, off.1)))) off.2,
 )
 
 -- a text, a count, and a bracket with a line feed
 line_of : (front : List ℕ) (count : ℕ) → (front ++ decimal count) ++ (125 ∷ 10 ∷ []) ≡ count_line front count
 line_of front count = sym (append_assoc (front ++ decimal count) (125 ∷ []) (10 ∷ []))
 
-module _ (a b c d : Option (List ℕ)) (front begun digits : List ℕ) (count : ℕ) (same : begun ≡ front) (is : digits ≡ decimal count) where
+module _ (a b c d : SinkTold) (front begun digits : List ℕ) (count : ℕ) (same : begun ≡ front) (is : digits ≡ decimal count) where
   line_is : (begun ++ digits) ++ (125 ∷ 10 ∷ []) ≡ count_line front count
   line_is = (λ i. (same i ++ is i) ++ (125 ∷ 10 ∷ [])) ∙ line_of front count
 
-  pub count_broken_second : Appends a b begun → BreaksOff b c digits → BreaksOff a c (count_line front count)
+  pub count_broken_second : Writes (span a b) begun → BreaksOff (span b c) digits → BreaksOff (span a c) (count_line front count)
   count_broken_second one off =
-      subst (λ (x : List ℕ). BreaksOff a c x) line_is
+      subst (λ (x : List ℕ). BreaksOff (span a c) x) line_is
       (breaks_before a c (begun ++ digits) (125 ∷ 10 ∷ []) (breaks_behind a b c begun digits one off))
 
-  pub count_broken_last : Appends a b begun → Appends b c digits → BreaksOff c d (125 ∷ 10 ∷ []) → BreaksOff a d (count_line front count)
+  pub count_broken_last : Writes (span a b) begun → Writes (span b c) digits → BreaksOff (span c d) (125 ∷ 10 ∷ []) → BreaksOff (span a d) (count_line front count)
   count_broken_last one two off =
-      subst (λ (x : List ℕ). BreaksOff a d x) line_is
-      (breaks_behind a c d (begun ++ digits) (125 ∷ 10 ∷ []) (Appends-trans a b c begun digits one two) off)
+      subst (λ (x : List ℕ). BreaksOff (span a d) x) line_is
+      (breaks_behind a c d (begun ++ digits) (125 ∷ 10 ∷ []) (Appends-trans a.written b.written c.written begun digits one two) off)

@@ -1,23 +1,27 @@
 -- A script that is served can be run: its sessions and its jobs can be counted in 32 bits.
-use Rattle.std.proofs.Common.{◌≡◌, ◌+◌, ◌<◌, ◌≤◌, ◌^◌, ℕ, zero, suc, true, nat_le, List, [], ◌∷◌, length, take, Option, Some, None, Result, Ok, Err, refl, sym, ap, subst, arith, if◌then◌else◌}
+use Rattle.std.proofs.Common.{◌≡◌, ◌+◌, ◌<◌, ◌≤◌, ◌^◌, ℕ, zero, suc, nat_le, List, [], ◌∷◌, length, take, Option, Some, None, Result, Ok, Err, refl, sym, ap, subst, arith, if◌then◌else◌}
 use Rattle.std.specs.Prelude.{IfOk}
 use Rattle.std.specs.List.{All, AllByRecursion}
 use Rattle.std.specs.Option.{ok_or, unwrap_or}
-use Rattle.std.proofs.lemmas.Bool.{cond_both}
+use Rattle.ion_grammar.specs.Read.{read_text}
+use Rattle.std.proofs.lemmas.Bool.{cond_both, leb-true}
 use Rattle.std.proofs.lemmas.Grind.{common_steps}
 use Rattle.ion_values.specs.declared.value.Value.{Value}
-use Rattle.ion_grammar.specs.Short.{all_short}
 use Rattle.ledger_model.specs.declared.script.Job.{Job}
 use Rattle.ledger_model.specs.declared.script.ScriptFault.{ScriptFault}
 use Rattle.ledger_model.specs.declared.script.ScriptKind.TheVariants as kind
 use Rattle.ledger_model.specs.Values.{list_in}
 use Rattle.ledger_model.specs.ReadScript.{if_read, fault_at, placed_at, read_each, read_placed, read_session, read_script}
-use Rattle.ledger_model.specs.Unbuilt.{Judged, unbuilt, served, is_served_script, judged_script}
+use Rattle.ledger_model.specs.Unbuilt.{Judged, too_long, judged_script, judged_text, judged}
 use Rattle.script_form.specs.Answers.{IsCountable}
-use Rattle.script_form.proofs.Countable.{countable}
-use Rattle.ledger_cli.specs.declared.served.Judgement.{Judgement}
-use Rattle.ledger_cli.specs.declared.served.Judgement.TheVariants as judgement
-use Rattle.ledger_cli.specs.Judgements.{IsRunnable, AreRunnable, ServesRunnable, judged_of}
+use Rattle.outside.specs.Told.{SourceTold}
+use Rattle.ledger_claims.specs.Calls.{Span}
+use Rattle.ledger_claims.specs.Streams.{Taken, WasRead}
+use Rattle.ledger_cli.specs.declared.lines.BadInput.TheVariants as cause
+use Rattle.ledger_cli.specs.declared.stop.Stop.{Stop}
+use Rattle.ledger_cli.specs.declared.stop.Stop.TheVariants as stop
+use Rattle.ledger_cli.specs.Inputs.{IsFine, IsReadStop, IsUnread, ReadsScript}
+use Rattle.ledger_cli.specs.Judgements.{IsRunnable, AreRunnable, JudgesTo}
 
 -- ---- lists
 
@@ -93,26 +97,51 @@ few_script values all =
     (few_each (take 1024 values) 1 (first_ones IsCountable 1024 values (each_of IsCountable values all)))
     (as_many read_session (take 1024 values) 1)
 
-read_runnable : (n : ℕ) (values : List Value) → n < 2 ^ 32 → all_short n values ≡ true → IfOk (read_script values) AreRunnable
-read_runnable n values fits short = few_script values (countable n values fits short)
+runnable_is : (values : List Value) (script : List (List Job)) → All IsCountable values → read_script values ≡ Ok script → AreRunnable script
+runnable_is values script all is = subst (λ (r : Result (List (List Job)) ScriptFault). IfOk r AreRunnable) is (few_script values all)
 
--- ---- what is judged
+-- the script that was read, where it is handed on
+pub handed_on : {E : Type 0} (values : List Value) (script : List (List Job)) (r : Result (List (List Job)) E) → All IsCountable values
+    → read_script values ≡ Ok script → IfOk r (λ given. given ≡ script) → IfOk r AreRunnable
+handed_on values script (Ok given) all is same =
+    subst (λ (x : List (List Job)). AreRunnable x) (sym same) (runnable_is values script all is)
+handed_on values script (Err e) all is same = tt
 
-same_script : (a b : List (List Job)) → served a ≡ served b → a ≡ b
-same_script a b e = cc
+-- what it is judged
+pub judged_so : (values : List Value) (script : List (List Job)) (r : Result (List (List Job)) Stop) → read_script values ≡ Ok script
+    → JudgesTo r (judged_script (Ok script)) → JudgesTo r (judged_script (read_script values))
+judged_so values script r is h = subst (λ (x : Result (List (List Job)) ScriptFault). JudgesTo r (judged_script x)) (sym is) h
 
-serves : (j : Judgement) (r : Result (List (List Job)) ScriptFault) → judged_of j ≡ judged_script r → IfOk r AreRunnable → ServesRunnable j
-serves judgement.TooLong r is runs = tt
-serves (judgement.Faulty f) r is runs = tt
-serves (judgement.Misspelt f) r is runs = tt
-serves judgement.Unbuilt r is runs = tt
-serves (judgement.Served script) (Err e) is runs = let bad : ⊥ = cc in absurd bad
-serves (judgement.Served script) (Ok read) is runs =
-    cond_both (is_served_script read) (served read) unbuilt (λ (x : Judged). served script ≡ x → AreRunnable script)
-    (λ _ e. subst (λ (x : List (List Job)). AreRunnable x) (sym (same_script script read e)) runs) (λ _ e. let bad : ⊥ = cc in absurd bad) is
+-- ---- the script that is read from a source
 
--- what the values of an input are judged, which are those of a text that isn't too long
-pub judged_runnable : {E : Type 0} (n : ℕ) (values : List Value) (r : Result Judgement E) → n ≤ 16777216 → all_short n values ≡ true
-    → IfOk r (λ j. judged_of j ≡ judged_script (read_script values)) → IfOk r ServesRunnable
-judged_runnable n values (Ok j) fits short is = serves j (read_script values) is (read_runnable n values (omega (arith, fits)) short)
-judged_runnable n values (Err e) fits short is = tt
+-- an input that is judged so gives the script, or the cause why not
+pub reads_input : (source : Span SourceTold) (input : List ℕ) (r : Result (List (List Job)) Stop) → WasRead source input → IsFine source
+    → JudgesTo r (judged input) → IfOk r AreRunnable → ReadsScript r source
+reads_input source input (Ok script) read fine is runs = (record { input = input; read = read; judged_is = is }, runs, fine)
+reads_input source input (Err (stop.BadInput cause.TooLong)) read fine is runs = (record { input = input; taken = read.taken; judged_is = is }, fine)
+reads_input source input (Err (stop.BadInput (cause.Faulty fault))) read fine is runs = (record { input = input; read = read; judged_is = is }, fine)
+reads_input source input (Err (stop.BadInput (cause.Misspelt fault))) read fine is runs = (record { input = input; read = read; judged_is = is }, fine)
+reads_input source input (Err (stop.BadInput cause.Unbuilt)) read fine is runs = (record { input = input; read = read; judged_is = is }, fine)
+reads_input source input (Err (stop.Damaged sequence kind)) read fine is runs = absurd is
+reads_input source input (Err stop.SourceFailed) read fine is runs = absurd is
+reads_input source input (Err stop.StoreFailed) read fine is runs = absurd is
+reads_input source input (Err stop.OutOfMemory) read fine is runs = fine
+
+-- an input that is too long
+too_long_input : (input : List ℕ) → 16777216 < length input → judged input ≡ too_long
+too_long_input input long = cond_both (nat_le (length input) 16777216) (judged_text (read_text 80 input)) too_long (λ (j : Judged). j ≡ too_long)
+    (λ fits. let bad : ⊥ = omega (arith, long, leb-true (length input) 16777216 fits) in absurd bad) (λ _. refl)
+
+-- an input that wasn't read
+pub unread_input : (source : Span SourceTold) (why : Stop) → IsUnread why source
+    → (why ≡ stop.BadInput cause.TooLong → (input : List ℕ) × Taken source input × (16777216 < length input)) → IsReadStop why source
+unread_input source (stop.BadInput cause.TooLong) is long =
+    let (input, taken, more) = long refl in
+    (record { input = input; taken = taken; judged_is = too_long_input input more }, is.1)
+unread_input source (stop.BadInput (cause.Faulty fault)) is long = let bad : ⊥ = cc in absurd bad
+unread_input source (stop.BadInput (cause.Misspelt fault)) is long = let bad : ⊥ = cc in absurd bad
+unread_input source (stop.BadInput cause.Unbuilt) is long = let bad : ⊥ = cc in absurd bad
+unread_input source (stop.Damaged sequence kind) is long = absurd is
+unread_input source stop.SourceFailed is long = is
+unread_input source stop.StoreFailed is long = absurd is
+unread_input source stop.OutOfMemory is long = is

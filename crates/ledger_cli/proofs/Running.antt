@@ -1,6 +1,6 @@
 -- The run of a script from one transaction to the next, from its begin to its end.
 use Rattle.std.proofs.Common.{◌≡◌, ℕ, ◌+◌, ◌<◌, ◌≤◌, Bool, true, false, List, [], ◌∷◌, ◌++◌, length, take, drop, drop-cons, get_or, refl, sym, ap, ap₂, subst, ◌∙◌, arith, Option, Some, None, ◌⊎◌, inl, inr, zero, suc}
-use Rattle.std.specs.Prelude.{IfSome, IsSome, OnErr, option_map, Result, Ok, Err}
+use Rattle.std.specs.Prelude.{OnErr, option_map, Result, Ok, Err}
 use Rattle.std.specs.List.{AllByRecursion}
 use Rattle.std.proofs.Math.Seq.{take-append_seam}
 use Rattle.std.proofs.lemmas.List.{drop_all}
@@ -15,21 +15,25 @@ use Rattle.ledger_model.specs.declared.script.Job.{Job}
 use Rattle.ledger_model.specs.Journal.{line, journal_bytes}
 use Rattle.ledger_model.specs.Recovered.{has_no_line_feed}
 use Rattle.ledger_model.specs.Script.{Placed, placed_from, all_placed, all_placed_from}
-use Rattle.ledger_claims.specs.Fits.{RunRecord, Fits, greatest, mask_of}
+use Rattle.ledger_claims.specs.Fits.{RunRecord, one_time, HasMask, IsTimeIn, Fits, greatest, mask_of}
 use Rattle.ledger_claims.specs.Attempts.{Standing, IsStanding, Attempted, TellsFaults, HoldsBehind, LeavesPart, LeavesStore}
 use Rattle.ledger_claims.specs.SoFar.{InOrder, SoFar, LeavesRun, standing, extended}
 use Rattle.ledger_claims.specs.Stores.{HasJournal, Holding, HoldingWithRest, IsSynced}
-use Rattle.ledger_claims.specs.Top.{Stored, IsReportOf, HoldsRun}
+use Rattle.outside.specs.Told.{StoreTold, held}
+use Rattle.ledger_claims.specs.Calls.{Span, span}
+use Rattle.ledger_claims.specs.Top.{IsReportOf, HoldsRun}
 use Rattle.ledger_claims.proofs.BlocksFit.{FitsBlocks-same}
 use Rattle.ledger_claims.proofs.Left.{journal-HoldingWithRest, all-HoldingWithRest, LeavesRun-here, LeavesRun-on, HoldsRun-left}
 use Rattle.ledger_claims.proofs.Places.{InOrder-all_placed}
 use Rattle.ledger_claims.proofs.Runs.{starts, goes_on, ends}
 use Rattle.ledger_core.specs.Faults.{IsSettleFault}
 use Rattle.ledger_core.specs.Loads.{IsLoaded}
-use Rattle.ledger_core.specs.Tails.{AllSynced, MayBeCut, TellsSynced}
+use Rattle.ledger_core.specs.Tails.{MayBeCut}
 use Rattle.ledger_core.specs.declared.keeping.SettleFault.{SettleFault}
 use Rattle.ledger_core.specs.declared.keeping.SettleFault.TheVariants as settle
-use Rattle.ledger_cli.specs.Runs.{Come, IsRunning, IsStopped, IsKept, IsReported, IsStop, BeginsWith, record_of}
+use Rattle.ledger_cli.specs.Runs.{Come, IsRunning, IsKept, IsReported, BeginsWith, record_of}
+use Rattle.ledger_cli.specs.Judgements.{job_count}
+use Rattle.ledger_cli.specs.Stops.{IsTailStop, settle_stop}
 
 -- ---- the bytes begin with the journal's lines
 
@@ -67,30 +71,26 @@ told p o = record { place = p.place; outcome = o }
 
 module _ (t : RunRecord) (time : TimeParts) (p : Placed) (rest : List Placed) (c d : Come) (o : Outcome)
     (law : (v : Value) → has_no_line_feed (value_text v) ≡ true)
-    (attempted : Attempted c.stands time p o d.stands) (faults : TellsFaults c.faults o d.faults) (leaves : LeavesStore c.stands time p o d.stands c.held d.held)
-    (later : c.faults ≤ d.faults) (outcomes : d.outcomes ≡ c.outcomes ++ told p o ∷ []) (runs : IsRunning t time (p ∷ rest) c) where
+    (attempted : Attempted c.stands time p o d.stands) (faults : TellsFaults c.store.faults o d.store.faults) (leaves : LeavesStore c.stands time p o d.stands (held c.store) (held d.store))
+    (later : c.store.faults ≤ d.store.faults) (outcomes : d.outcomes ≡ c.outcomes ++ told p o ∷ []) (runs : IsRunning t time (p ∷ rest) c) where
   abbrev u : RunRecord
   u = record_of t c
 
   abbrev v : RunRecord
-  v = extended u d.stands.blocks p o d.faults
+  v = extended u d.stands.blocks p o d.store.faults
 
-  as_told : Attempted (standing u c.stands.last) t.time p o d.stands
-  as_told =
-      subst (λ (x : TimeParts). Attempted (standing u c.stands.last) x p o d.stands) (sym runs.timed)
-      (subst (λ (x : Standing). Attempted x time p o d.stands) runs.stands_so attempted)
+  as_told : Attempted (standing u c.stands.last) time p o d.stands
+  as_told = subst (λ (x : Standing). Attempted x time p o d.stands) runs.stands_so attempted
 
-  as_left : LeavesStore (standing u c.stands.last) t.time p o d.stands c.held d.held
-  as_left =
-      subst (λ (x : TimeParts). LeavesStore (standing u c.stands.last) x p o d.stands c.held d.held) (sym runs.timed)
-      (subst (λ (x : Standing). LeavesStore x time p o d.stands c.held d.held) runs.stands_so leaves)
+  as_left : LeavesStore (standing u c.stands.last) time p o d.stands (held c.store) (held d.store)
+  as_left = subst (λ (x : Standing). LeavesStore x time p o d.stands (held c.store) (held d.store)) runs.stands_so leaves
 
   same_record : v ≡ record_of t d
-  same_record = λ i. record t { after = d.stands.blocks; outcomes = sym outcomes i; closed = d.faults }
+  same_record = λ i. record t { after = d.stands.blocks; outcomes = sym outcomes i; closed = d.store.faults }
 
   one_further : SoFar v (runs.done ++ p ∷ []) rest d.stands.last × IsStanding d.stands × (d.stands ≡ standing v d.stands.last)
   one_further =
-      goes_on u runs.done p rest c.stands.last o d.stands d.faults runs.so_far
+      goes_on u time runs.timed runs.done p rest c.stands.last o d.stands d.store.faults runs.so_far
       (subst (λ (x : Standing). IsStanding x) runs.stands_so runs.sound) later as_told faults
 
   pub runs_on : IsRunning t time rest d
@@ -100,9 +100,10 @@ module _ (t : RunRecord) (time : TimeParts) (p : Placed) (rest : List Placed) (c
     so_far = subst (λ (x : RunRecord). SoFar x (runs.done ++ p ∷ []) rest d.stands.last) same_record one_further.0;
     stands_so = subst (λ (x : RunRecord). d.stands ≡ standing x d.stands.last) same_record one_further.2;
     sound = one_further.1;
-    left = subst (λ (x : RunRecord). LeavesRun x d.faults d.held) same_record
-        (LeavesRun-on u runs.done p rest c.stands.last o d.stands d.faults c.faults d.faults c.held d.held law runs.so_far as_told as_left runs.left);
-    begins = begins_on c.stands time p d.stands c.held d.held runs.begins o attempted leaves;
+    left = subst (λ (x : RunRecord). LeavesRun x d.store.faults (held d.store)) same_record
+        (LeavesRun-on u time runs.timed runs.done p rest c.stands.last d.stands d.store.faults c.store.faults d.store.faults
+        (held c.store) (held d.store) law runs.so_far runs.left o as_told as_left);
+    begins = begins_on c.stands time p d.stands (held c.store) (held d.store) runs.begins o attempted leaves;
   }
 
 -- ---- the jobs of a session, and the sessions
@@ -134,6 +135,14 @@ sessions_left at script jobs d within is =
     ∙ ap (λ n. all_placed_from n (jobs ∷ drop (at + 1) script)) same
     ∙ ap (λ n. placed_from (at + 1) 1 jobs ++ all_placed_from n (drop (at + 1) script)) next
 
+-- how many jobs are left
+pub count_left : (at : ℕ) (script : List (List Job)) (jobs d : List Job) → at < length script → jobs ≡ get_or script at d
+    → job_count (drop at script) ≡ length jobs + job_count (drop (at + 1) script)
+count_left at script jobs d within is =
+    let first : drop at script ≡ get_or script at d ∷ drop (suc at) script = drop-cons script at d within in
+    let step : suc at ≡ at + 1 = omega arith in
+    ap job_count (first ∙ ap₂ (λ (x : List Job) (n : ℕ). x ∷ drop n script) (sym is) step)
+
 -- none is left
 pub jobs_done : (session at : ℕ) (jobs : List Job) (rest : List Placed) → length jobs ≤ at → placed_from session (1 + at) (drop at jobs) ++ rest ≡ rest
 jobs_done session at jobs rest past = ap (λ (x : List Job). placed_from session (1 + at) x ++ rest) (drop_all at jobs past)
@@ -146,10 +155,6 @@ pub on_err : {A E Q : Type 0} (r : Result A E) → Q → OnErr r Q
 on_err (Ok x) q = tt
 on_err (Err e) q = q
 
--- a run that came no further stopped there
-pub stopped_at : (t : RunRecord) (time : TimeParts) (rest : List Placed) (c d : Come) → d ≡ c → IsRunning t time rest c → IsStopped t time d
-stopped_at t time rest c d same runs = (rest, subst (λ (x : Come). IsRunning t time rest x) (sym same) runs)
-
 pub all_at : {A : Type 0} (P : A → Type 0) (xs : List A) (k : ℕ) (d : A) → AllByRecursion P xs → k < length xs → P (get_or xs k d)
 all_at P [] k d h within = absurd (omega (arith, within))
 all_at P (x ∷ xs) zero d h within = h.0
@@ -158,28 +163,29 @@ all_at P (x ∷ xs) (suc k) d h within = all_at P xs k d h.1 (omega (arith, with
 -- ---- the begin
 
 -- no job is done
-pub runs_begun : (t : RunRecord) (time : TimeParts) (script : List (List Job)) (c : Come) → t.before ≡ c.stands.blocks → t.mask ≡ c.stands.mask → t.time ≡ time
-    → t.jobs ≡ all_placed script → c.faults ≡ t.opened → c.outcomes ≡ [] → IsStanding c.stands → c.stands.last ≡ greatest c.stands.mask c.stands.blocks
-    → HasJournal c.stands.blocks c.held → IsRunning t time (all_placed script) c
-runs_begun t time script c before masks times jobs opens none sound last has =
+pub runs_begun : (t : RunRecord) (time : TimeParts) (script : List (List Job)) (c : Come) → t.before ≡ c.stands.blocks
+    → t.mask ≡ c.stands.mask → HasMask t → IsTimeIn t.times time → t.jobs ≡ all_placed script → c.store.faults ≡ t.opened
+    → c.outcomes ≡ [] → IsStanding c.stands → c.stands.last ≡ greatest c.stands.mask c.stands.blocks
+    → HasJournal c.stands.blocks (held c.store) → IsRunning t time (all_placed script) c
+runs_begun t time script c before masks masked timed jobs opens none sound last has =
     let u : RunRecord = record_of t c in
     let so : SoFar u [] u.jobs c.stands.last =
-    starts u c.stands (subst (λ (x : List Placed). InOrder x) (sym jobs) (InOrder-all_placed script)) (sym before) none opens sound (sym before) (sym masks)
-    (last ∙ (λ i. greatest (sym masks i) (sym before i))) in
+    starts u c.stands (subst (λ (x : List Placed). InOrder x) (sym jobs) (InOrder-all_placed script)) masked (sym before) none opens sound
+    (sym before) (sym masks) (last ∙ (λ i. greatest (sym masks i) (sym before i))) in
     record {
-      timed = times;
+      timed = timed;
       done = [];
       so_far = subst (λ (x : List Placed). SoFar u [] x c.stands.last) jobs so;
       stands_so = λ i. record { mask = sym masks i; last = c.stands.last; blocks = c.stands.blocks };
       sound = sound;
-      left = LeavesRun-here u c.faults c.held so.blocks (journal-HoldingWithRest c.stands.blocks c.held has);
-      begins = begins_journal c.stands.blocks c.held has;
+      left = LeavesRun-here u c.store.faults (held c.store) so.blocks (journal-HoldingWithRest c.stands.blocks (held c.store) has);
+      begins = begins_journal c.stands.blocks (held c.store) has;
     }
 
 -- ---- the end
 
 -- the whole run was told
-pub runs_ended : (t : RunRecord) (time : TimeParts) (c : Come) (now : Standing) (closed : ℕ) → IsRunning t time [] c → now ≡ c.stands → closed ≡ c.faults
+pub runs_ended : (t : RunRecord) (time : TimeParts) (c : Come) (now : Standing) (closed : ℕ) → IsRunning t time [] c → now ≡ c.stands → closed ≡ c.store.faults
     → Fits (record t { after = now.blocks; outcomes = c.outcomes; closed = closed })
 runs_ended t time c now closed runs same fine =
     subst (λ (x : Standing). Fits (record t { after = x.blocks; outcomes = c.outcomes; closed = closed })) (sym same)
@@ -187,10 +193,10 @@ runs_ended t time c now closed runs same fine =
     (ends (record_of t c) runs.done c.stands.last runs.so_far))
 
 -- what a run leaves that stopped
-pub stopped_leaves : (t : RunRecord) (time : TimeParts) (rest : List Placed) (c : Come) → IsRunning t time rest c → LeavesRun t c.faults c.held
+pub stopped_leaves : (t : RunRecord) (time : TimeParts) (rest : List Placed) (c : Come) → IsRunning t time rest c → LeavesRun t c.store.faults (held c.store)
 stopped_leaves t time rest c runs = record {
   blocks = runs.left.blocks;
-  fits = FitsBlocks-same (record (record_of t c) { after = runs.left.blocks; closed = c.faults }) t.outcomes c.faults runs.left.fits;
+  fits = FitsBlocks-same (record (record_of t c) { after = runs.left.blocks; closed = c.store.faults }) t.outcomes c.store.faults runs.left.fits;
   holding = runs.left.holding;
 }
 
@@ -216,10 +222,10 @@ cut_holds blocks (Some bytes) begins =
     ap (λ (x : List ℕ). take (length (journal_bytes blocks)) x) begins.1 ∙ take-append_seam (journal_bytes blocks) begins.0
 
 pub cut_leaves : (t : RunRecord) (time : TimeParts) (rest : List Placed) (c : Come) (closed : ℕ) (kept : Option (List ℕ)) → IsRunning t time rest c
-    → MayBeCut c.held kept (length (journal_bytes c.stands.blocks)) → LeavesRun t closed kept
-cut_leaves t time rest c closed kept runs (inl same) = leaves_later t c.faults closed c.held kept same (stopped_leaves t time rest c runs)
+    → MayBeCut (held c.store) kept (length (journal_bytes c.stands.blocks)) → LeavesRun t closed kept
+cut_leaves t time rest c closed kept runs (inl same) = leaves_later t c.store.faults closed (held c.store) kept same (stopped_leaves t time rest c runs)
 cut_leaves t time rest c closed kept runs (inr cut) =
-    leaves_all t time rest c closed kept runs (subst (λ (x : Option (List ℕ)). Holding c.stands.blocks x) (sym cut) (cut_holds c.stands.blocks c.held runs.begins))
+    leaves_all t time rest c closed kept runs (subst (λ (x : Option (List ℕ)). Holding c.stands.blocks x) (sym cut) (cut_holds c.stands.blocks (held c.store) runs.begins))
 
 -- where the report finds no memory
 pub settled_leaves : (t : RunRecord) (time : TimeParts) (rest : List Placed) (c : Come) (now : Standing) (closed : ℕ) (kept : Option (List ℕ)) → IsRunning t time rest c
@@ -229,35 +235,12 @@ settled_leaves t time rest c now closed kept runs same holds =
 
 -- ---- what is synced
 
-tells_synced : (held : Option (List ℕ)) (synced : Option ℕ) → IsSynced held synced → TellsSynced held synced
-tells_synced None synced is = tt
-tells_synced (Some bytes) synced is = subst (λ (x : Option ℕ). IsSome x) (sym is) refl
+synced_by : (marked : Bool) (was now : StoreTold) → (marked ≡ false → IsSynced was) → (marked ≡ true → IsSynced now) → (marked ≡ false → now ≡ was) → IsSynced now
+synced_by true was now is all same = all refl
+synced_by false was now is all same = subst (λ (x : StoreTold). IsSynced x) (sym (same refl)) (is refl)
 
-pub kept_begun : (c : Come) → IsSynced c.held c.synced → IsKept c
-kept_begun c is = record { tells = tells_synced c.held c.synced is; synced = λ _. is }
-
--- a store that was cut or not tells its synced length still
-told_still : (was kept : Option (List ℕ)) (told : Option ℕ) (size : ℕ) → TellsSynced was told → MayBeCut was kept size → IfSome kept (λ _. IsSome told)
-told_still was None told size tells cut = tt
-told_still None (Some bytes) told size tells (inl same) = let bad : ⊥ = cc in absurd bad
-told_still None (Some bytes) told size tells (inr cut) = let bad : ⊥ = cc in absurd bad
-told_still (Some held) (Some bytes) told size tells cut = tells
-
-synced_all : (kept : Option (List ℕ)) (told synced : Option ℕ) → IfSome kept (λ _. IsSome told) → AllSynced told kept synced → IsSynced kept synced
-synced_all None told synced tells all = tt
-synced_all (Some bytes) None synced tells all = let bad : ⊥ = cc in absurd bad
-synced_all (Some bytes) (Some n) synced tells all = all
-
-synced_by : (marked : Bool) (was kept : Option (List ℕ)) (told synced : Option ℕ) (size : ℕ) → TellsSynced was told → (marked ≡ false → IsSynced was told)
-    → MayBeCut was kept size → (marked ≡ true → AllSynced told kept synced) → (marked ≡ false → (kept ≡ was) × (synced ≡ told)) → IsSynced kept synced
-synced_by true was kept told synced size tells is cut all same = synced_all kept told synced (told_still was kept told size tells cut) (all refl)
-synced_by false was kept told synced size tells is cut all same =
-    let both = same refl in
-    subst (λ (x : Option ℕ). IsSynced kept x) (sym both.1) (subst (λ (x : Option (List ℕ)). IsSynced x told) (sym both.0) (is refl))
-
-pub kept_settled : (c : Come) (kept : Option (List ℕ)) (synced : Option ℕ) (size : ℕ) → MayBeCut c.held kept size → (c.marked ≡ true → AllSynced c.synced kept synced)
-    → (c.marked ≡ false → (kept ≡ c.held) × (synced ≡ c.synced)) → IsKept c → IsSynced kept synced
-kept_settled c kept synced size cut all same is = synced_by c.marked c.held kept c.synced synced size is.tells is.synced cut all same
+pub kept_settled : (c : Come) (now : StoreTold) → (c.marked ≡ true → IsSynced now) → (c.marked ≡ false → now ≡ c.store) → IsKept c → IsSynced now
+kept_settled c now all same is = synced_by c.marked c.store now is all same
 
 -- the same run, told of an equal script and an equal state
 pub runs_same : (t : RunRecord) (time : TimeParts) (script given : List (List Job)) (c d : Come) → given ≡ script → d ≡ c → IsRunning t time (all_placed script) c
@@ -266,18 +249,20 @@ runs_same t time script given c d same come runs =
     subst (λ (x : List (List Job)). IsRunning t time (all_placed x) d) (sym same) (subst (λ (x : Come). IsRunning t time (all_placed script) x) (sym come) runs)
 
 -- a failure after a later time is one after an earlier time
-pub fault_later : (why : SettleFault) (before between after : ℕ) (last_failed : Bool) → before ≤ between → IsSettleFault why between after last_failed
-    → IsStop why before after last_failed
-fault_later (settle.StoreFault count) before between after last_failed later h = (omega (arith, later, h.0, h.1), h.2)
-fault_later settle.OutOfMemory before between after last_failed later h = tt
+pub stop_later : (why : SettleFault) (before between after : StoreTold) → before.faults ≤ between.faults → IsSettleFault why between after
+    → IsTailStop (settle_stop why) (span before after)
+stop_later (settle.StoreFault count) before between after later h = record { rose = omega (arith, later, h.rose, h.count_is); last = h.last }
+stop_later settle.OutOfMemory before between after later h = tt
 
 -- ---- the whole run
 
 -- the record of a run that begins with what was loaded
 abbrev pub loaded : TimeParts → List (List Job) → ℕ → Standing → RunRecord
 loaded time script opened found = record {
+  given = Some 0;
   mask = found.mask;
-  time = time;
+  times = one_time time;
+  workers = 1;
   jobs = all_placed script;
   opened = opened;
   closed = opened;
@@ -290,30 +275,31 @@ loaded_journal : (held : Option (List ℕ)) (blocks : List Block) (marked : Bool
 loaded_journal None blocks marked is = tt
 loaded_journal (Some bytes) blocks marked is = (is.0, is.1)
 
-module _ (time : TimeParts) (script : List (List Job)) (s : Stored) (found : Standing) (marked : Bool) (journal : IsLoaded s.held_before found.blocks marked)
+module _ (time : TimeParts) (script : List (List Job)) (s : Span StoreTold) (found : Standing) (marked : Bool) (journal : IsLoaded (held s.before) found.blocks marked)
     (mask : found.mask ≡ mask_of 0 found.blocks) where
   abbrev t : RunRecord
-  t = loaded time script s.faults_before found
+  t = loaded time script s.before.faults found
 
   -- the run begins
-  pub loaded_begun : (c : Come) → c.stands ≡ found → c.outcomes ≡ [] → c.faults ≡ s.faults_before → c.held ≡ s.held_before → IsStanding found
+  pub loaded_begun : (c : Come) → c.stands ≡ found → c.outcomes ≡ [] → c.store.faults ≡ s.before.faults → held c.store ≡ held s.before → IsStanding found
       → found.last ≡ greatest found.mask found.blocks → IsRunning t time (all_placed script) c
-  loaded_begun c same none opens held sound last =
-      runs_begun t time script c (ap (λ (x : Standing). x.blocks) (sym same)) (ap (λ (x : Standing). x.mask) (sym same)) refl refl opens none
+  loaded_begun c same none opens bytes sound last =
+      runs_begun t time script c (ap (λ (x : Standing). x.blocks) (sym same)) (ap (λ (x : Standing). x.mask) (sym same)) mask refl refl opens none
       (subst (λ (x : Standing). IsStanding x) (sym same) sound)
       (subst (λ (x : Standing). x.last ≡ greatest x.mask x.blocks) (sym same) last)
-      (subst (λ (x : Standing). HasJournal x.blocks c.held) (sym same)
-      (subst (λ (x : Option (List ℕ)). HasJournal found.blocks x) (sym held) (loaded_journal s.held_before found.blocks marked journal)))
+      (subst (λ (x : Standing). HasJournal x.blocks (held c.store)) (sym same)
+      (subst (λ (x : Option (List ℕ)). HasJournal found.blocks x) (sym bytes) (loaded_journal (held s.before) found.blocks marked journal)))
 
-  pub loaded_reported : (text : List ℕ) → IsReported t s.held_after s.faults_after text
-      → (IsSynced s.held_before s.synced_before → IsSynced s.held_after s.synced_after) → IsReportOf time script s text
+  pub loaded_reported : (text : List ℕ) → IsReported t s.after text
+      → (IsSynced s.before → IsSynced s.after) → IsReportOf time script s text
   loaded_reported text reported synced = record {
-    told = record t { after = reported.blocks; outcomes = reported.outcomes; closed = s.faults_after };
+    told = record t { after = reported.blocks; outcomes = reported.outcomes; closed = s.after.faults };
     done = record {
       of_run = record {
-        found = loaded_journal s.held_before found.blocks marked journal;
-        mask_is = mask;
-        time_is = refl;
+        found = loaded_journal (held s.before) found.blocks marked journal;
+        given = refl;
+        times = refl;
+        workers = refl;
         jobs = refl;
         opened = refl;
         closed = refl;
@@ -325,5 +311,5 @@ module _ (time : TimeParts) (script : List (List Job)) (s : Stored) (found : Sta
     text_is = reported.text_is;
   }
 
-  pub loaded_left : LeavesRun t s.faults_after s.held_after → HoldsRun time script s
-  loaded_left left = HoldsRun-left time script s t (loaded_journal s.held_before found.blocks marked journal) mask refl refl refl left
+  pub loaded_left : LeavesRun t s.after.faults (held s.after) → HoldsRun time script s
+  loaded_left left = HoldsRun-left time script s t (loaded_journal (held s.before) found.blocks marked journal) refl refl refl refl refl left

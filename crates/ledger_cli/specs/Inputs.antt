@@ -1,9 +1,35 @@
--- How often a source failed while an input was read.
-use Rattle.std.specs.Prelude.{◌≡◌, ℕ, ◌<◌, Result, Err}
-use Rattle.ledger_cli.specs.declared.input.InputFault.{InputFault}
-use Rattle.ledger_cli.specs.declared.input.InputFault.TheVariants.{Failed}
+-- What is so of a source whose input is read, and of the script that it spells.
+use Rattle.std.specs.Prelude.{◌≡◌, ◌<◌, List, Result, Ok, Err}
+use Rattle.ledger_model.specs.declared.script.Job.{Job}
+use Rattle.outside.specs.Told.{SourceTold}
+use Rattle.ledger_claims.specs.Calls.{Span}
+use Rattle.ledger_claims.specs.Top.{HasScript, IsBadInput}
+use Rattle.ledger_cli.specs.Judgements.{AreRunnable, cause_of}
+use Rattle.ledger_cli.specs.declared.lines.BadInput.TheVariants as bad
+use Rattle.ledger_cli.specs.declared.stop.Stop.{Stop}
+use Rattle.ledger_cli.specs.declared.stop.Stop.TheVariants as stop
 
--- it failed where that is the answer, and else it didn't
-abbrev pub CountsReads : {A : Type 0} → Result A InputFault → ℕ → ℕ → Type 0
-CountsReads (Err Failed) before after = before < after
-CountsReads other before after = after ≡ before
+-- the source didn't fail
+abbrev pub IsFine : Span SourceTold → Type 0
+IsFine source = source.after.faults ≡ source.before.faults
+
+-- why an input wasn't read: it is too long, or the source failed, or memory was wanted
+abbrev pub IsUnread : Stop → Span SourceTold → Type 0
+IsUnread (stop.BadInput cause) source = (cause ≡ bad.TooLong) × IsFine source
+IsUnread (stop.Damaged sequence kind) source = ⊥
+IsUnread stop.SourceFailed source = source.before.faults < source.after.faults
+IsUnread stop.StoreFailed source = ⊥
+IsUnread stop.OutOfMemory source = IsFine source
+
+-- why there is no script: the source failed only where that is the cause, and a store is not asked
+abbrev pub IsReadStop : Stop → Span SourceTold → Type 0
+IsReadStop (stop.BadInput cause) source = IsBadInput (cause_of cause) source × IsFine source
+IsReadStop (stop.Damaged sequence kind) source = ⊥
+IsReadStop stop.SourceFailed source = source.before.faults < source.after.faults
+IsReadStop stop.StoreFailed source = ⊥
+IsReadStop stop.OutOfMemory source = IsFine source
+
+-- there is a script that is served, or a cause why not
+abbrev pub ReadsScript : Result (List (List Job)) Stop → Span SourceTold → Type 0
+ReadsScript (Ok script) source = HasScript source script × AreRunnable script × IsFine source
+ReadsScript (Err why) source = IsReadStop why source

@@ -1,5 +1,5 @@
--- What a judgement of the input in memory stands for, and what is so of a script that is run.
-use Rattle.std.specs.Prelude.{◌<◌, ◌^◌, List, length}
+-- What an input in memory is judged, and what is so of a script that is run.
+use Rattle.std.specs.Prelude.{◌≡◌, ℕ, ◌+◌, ◌<◌, ◌^◌, List, [], ◌∷◌, length, Result, Ok, Err}
 use Rattle.std.specs.List.{AllByRecursion}
 use Rattle.ledger_model.specs.declared.script.Job.{Job}
 use Rattle.ledger_model.specs.Unbuilt.{Judged, too_long, faulty, misspelt, unbuilt, served}
@@ -7,21 +7,29 @@ use Rattle.ledger_claims.specs.Lines.{BadInput}
 use Rattle.ledger_claims.specs.Lines as bad
 use Rattle.ledger_cli.specs.declared.lines.BadInput as held
 use Rattle.ledger_cli.specs.declared.lines.BadInput.TheVariants as cause
-use Rattle.ledger_cli.specs.declared.served.Judgement.{Judgement}
-use Rattle.ledger_cli.specs.declared.served.Judgement.TheVariants as judgement
+use Rattle.ledger_cli.specs.declared.stop.Stop.{Stop}
+use Rattle.ledger_cli.specs.declared.stop.Stop.TheVariants as stop
 
-abbrev pub judged_of : Judgement → Judged
-judged_of judgement.TooLong = too_long
-judged_of (judgement.Faulty fault) = faulty fault
-judged_of (judgement.Misspelt fault) = misspelt fault
-judged_of judgement.Unbuilt = unbuilt
-judged_of (judgement.Served script) = served script
+abbrev pub judged_of : held.BadInput → Judged
+judged_of cause.TooLong = too_long
+judged_of (cause.Faulty fault) = faulty fault
+judged_of (cause.Misspelt fault) = misspelt fault
+judged_of cause.Unbuilt = unbuilt
 
 abbrev pub cause_of : held.BadInput → BadInput
 cause_of cause.TooLong = bad.too_long
 cause_of (cause.Faulty fault) = bad.faulty fault
 cause_of (cause.Misspelt fault) = bad.misspelt fault
 cause_of cause.Unbuilt = bad.unbuilt
+
+-- what an input is judged is told by its script, or by why it is refused; nothing is said where memory was wanted
+abbrev pub JudgesTo : Result (List (List Job)) Stop → Judged → Type 0
+JudgesTo (Ok script) judgement = judgement ≡ served script
+JudgesTo (Err (stop.BadInput cause)) judgement = judgement ≡ judged_of cause
+JudgesTo (Err (stop.Damaged sequence kind)) judgement = ⊥
+JudgesTo (Err stop.SourceFailed) judgement = ⊥
+JudgesTo (Err stop.StoreFailed) judgement = ⊥
+JudgesTo (Err stop.OutOfMemory) judgement = Unit {0}
 
 -- these transactions can be counted in 32 bits
 pub record IsRunnable (jobs : List Job) : Type 0 where
@@ -32,7 +40,7 @@ pub record AreRunnable (script : List (List Job)) : Type 0 where
   pub sessions : AllByRecursion IsRunnable script
   pub few : length script < 2 ^ 32
 
--- a script that is served is such
-abbrev pub ServesRunnable : Judgement → Type 0
-ServesRunnable (judgement.Served script) = AreRunnable script
-ServesRunnable _ = Unit {0}
+-- how many transactions a script has
+abbrev pub job_count : List (List Job) → ℕ
+job_count [] = 0
+job_count (jobs ∷ sessions) = length jobs + job_count sessions

@@ -1,42 +1,56 @@
 //! The run of a script on the journal that a store keeps.
-ghost use Rattle.std.specs.Prelude.{◌≡◌, ◌<◌, ◌≤◌, ◌⊎◌, [], ◌∷◌, ◌++◌, List, Err, IfOk, IfErr, OnOk, OnErr, vec_capacity, vec_len};
-ghost use Rattle.ledger_model.specs.Script.{Placed, placed_from, all_placed};
+ghost use Rattle.std.specs.Prelude.{◌≡◌, ◌+◌, ◌<◌, ◌≤◌, ◌⊎◌, [], ◌∷◌, ◌++◌, Err, IfOk, IfErr, IfSome, OnOk, OnErr, length, vec_capacity, vec_len};
+ghost use Rattle.ledger_model.specs.Script.{placed_from, all_placed};
+ghost use Rattle.outside.specs.Told.{held};
+ghost use Rattle.ledger_claims.specs.Calls.{span};
 ghost use Rattle.ledger_claims.specs.Fits.{RunRecord};
 ghost use Rattle.ledger_claims.specs.SoFar.{LeavesRun};
 ghost use Rattle.ledger_claims.specs.Stores.{IsSynced};
-ghost use Rattle.ledger_claims.specs.Top.{IsReportOf, HoldsRun, stored};
-ghost use Rattle.ledger_cli.specs.Judgements.{IsRunnable, AreRunnable};
-ghost use Rattle.ledger_cli.specs.Runs.{IsRunning, IsStopped, IsKept, IsReported, IsSettled, IsStop, IsRunFault, cause_of, come, told};
+ghost use Rattle.ledger_claims.specs.Top.{IsReportOf, HoldsRun};
+ghost use Rattle.ledger_cli.specs.Judgements.{IsRunnable, AreRunnable, job_count};
+ghost use Rattle.ledger_cli.specs.Runs.{IsRunning, IsKept, IsReported, Passes, come};
+ghost use Rattle.ledger_cli.specs.Stops.{IsRunStop, IsTailStop, load_stop};
 
+use crate::returned::Returned;
+use crate::stop::Stop;
 use ion_values::{IonTime, OutOfMemory, Text};
 use journal_text::written_on_one_line;
-use ledger_core::{LoadCause, LoadFault, SettleFault, Tail};
-use ledger_model::{Damage, Job, PlacedOutcome, Script, Session};
+use ledger_core::{LoadFault, Tail};
+use ledger_model::{Job, PlacedOutcome, Script, Session};
 use lists::Sequence;
 use outside::JournalStore;
 use ql_types::{IdMask, Place};
 use script_form::report;
 use std::alloc::Global;
 
-/// Why a run has no report.
-#[derive(Clone, Copy, Debug, PartialEq, Eq)]
-pub enum RunFault {
-    /// The first damaged line of the journal, counted from 0, and the check that it fails first.
-    Damaged { sequence: u64, kind: Damage },
-    /// The store failed when the journal was read, or when it was to be cut at the end.
-    StoreFailed,
-    OutOfMemory,
-}
-
 /// The report of a run, or why there is none, and the store and the clock that it was given.
-#[derive(Drop)]
-pub struct Ran<S, C> {
-    pub report: Result<Text, RunFault>,
-    pub store: S,
-    pub clock: C,
+pub type Ran<S, C> = Returned<Result<Text, Stop>, S, C>;
+
+/// How many transactions the sessions have, where that fits.
+fn count_jobs(sessions: &[Session]) -> Option<usize>
+    ensures { IfSome result (λ count. count ≡ job_count sessions.now) }
+{
+    let mut count = 0usize;
+    'sessions: for jobs in sessions {
+        count = count.checked_add(jobs.as_slice().len())?;
+    }
+    Some(count)
 }
 
-/// Runs a job as the next transaction and keeps its outcome. The room for the outcome is made before, so that none is lost.
+/// A list with room for the outcomes of all transactions of the script.
+fn make_room(alloc: Global, script: &Script) -> Result<Vec<PlacedOutcome>, OutOfMemory>
+    ensures none { IfOk result (λ outcomes. outcomes.items ≡ []) }
+    ensures room { IfOk result (λ outcomes. vec_len outcomes + job_count script.now ≤ vec_capacity outcomes) }
+{
+    let mut outcomes = Vec::new(alloc);
+    let Some(count) = count_jobs(script.as_slice()) else {
+        return Err(OutOfMemory);
+    };
+    outcomes.reserve(count)?;
+    Ok(outcomes)
+}
+
+/// Runs a job as the next transaction and keeps its outcome.
 fn run_job<S: JournalStore, C>(
     alloc: Global,
     job: &Job,
@@ -44,24 +58,27 @@ fn run_job<S: JournalStore, C>(
     time: IonTime,
     tail: &mut Tail<S, C>,
     outcomes: &mut Vec<PlacedOutcome>,
-) -> Result<(), OutOfMemory>
-    ensures runs { OnOk result ((t : RunRecord) (rest : List Placed) → IsRunning t time (record { place = place; job = job.now } ∷ rest) (come tail.old.standing tail.old.marked (S.bytes tail.old.store) (S.synced tail.old.store) (S.fault_count tail.old.store) outcomes.old.items) → IsRunning t time rest (come tail.new.standing tail.new.marked (S.bytes tail.new.store) (S.synced tail.new.store) (S.fault_count tail.new.store) outcomes.new.items)) }
-    ensures kept { OnOk result (IsKept (come tail.old.standing tail.old.marked (S.bytes tail.old.store) (S.synced tail.old.store) (S.fault_count tail.old.store) outcomes.old.items) → IsKept (come tail.new.standing tail.new.marked (S.bytes tail.new.store) (S.synced tail.new.store) (S.fault_count tail.new.store) outcomes.new.items)) }
-    ensures same { OnErr result ((tail.new ≡ tail.old) × (outcomes.new.items ≡ outcomes.old.items)) }
-    ensures later { S.fault_count tail.old.store ≤ S.fault_count tail.new.store }
+)
+    requires { vec_len outcomes.old < vec_capacity outcomes.old }
+    ensures runs { Passes time (record { place = place; job = job.now } ∷ []) (come S.told tail.old outcomes.old.items)
+        (come S.told tail.new outcomes.new.items) }
+    ensures kept { IsKept (come S.told tail.old outcomes.old.items) → IsKept (come S.told tail.new outcomes.new.items) }
+    ensures one { vec_len outcomes.new ≡ vec_len outcomes.old + 1 }
+    ensures room { vec_capacity outcomes.old ≤ vec_capacity outcomes.new }
+    ensures later { (S.told tail.old.store).faults ≤ (S.told tail.new.store).faults }
     ensures clock { tail.new.clock ≡ tail.old.clock }
 {
     written_on_one_line();
-    outcomes.reserve(1)?;
     let outcome = tail.attempt(alloc, job, place, time);
     keep(outcomes, PlacedOutcome { place, outcome });
-    Ok(())
 }
 
 /// Keeps an outcome. There is room for it.
 fn keep(outcomes: &mut Vec<PlacedOutcome>, outcome: PlacedOutcome)
     requires { vec_len outcomes.old < vec_capacity outcomes.old }
-    ensures { outcomes.new.items ≡ outcomes.old.items ++ outcome ∷ [] }
+    ensures items { outcomes.new.items ≡ outcomes.old.items ++ outcome ∷ [] }
+    ensures one { vec_len outcomes.new ≡ vec_len outcomes.old + 1 }
+    ensures room { vec_capacity outcomes.old ≤ vec_capacity outcomes.new }
 {
     outcomes.push(outcome).unwrap();
 }
@@ -74,12 +91,15 @@ fn run_session<S: JournalStore, C>(
     time: IonTime,
     tail: &mut Tail<S, C>,
     outcomes: &mut Vec<PlacedOutcome>,
-) -> Result<(), OutOfMemory>
-    requires { IsRunnable jobs.now }
-    ensures runs { OnOk result ((t : RunRecord) (rest : List Placed) → IsRunning t time (placed_from session 1 jobs.now ++ rest) (come tail.old.standing tail.old.marked (S.bytes tail.old.store) (S.synced tail.old.store) (S.fault_count tail.old.store) outcomes.old.items) → IsRunning t time rest (come tail.new.standing tail.new.marked (S.bytes tail.new.store) (S.synced tail.new.store) (S.fault_count tail.new.store) outcomes.new.items)) }
-    ensures stopped { OnErr result ((t : RunRecord) (rest : List Placed) → IsRunning t time (placed_from session 1 jobs.now ++ rest) (come tail.old.standing tail.old.marked (S.bytes tail.old.store) (S.synced tail.old.store) (S.fault_count tail.old.store) outcomes.old.items) → IsStopped t time (come tail.new.standing tail.new.marked (S.bytes tail.new.store) (S.synced tail.new.store) (S.fault_count tail.new.store) outcomes.new.items)) }
-    ensures kept { OnOk result (IsKept (come tail.old.standing tail.old.marked (S.bytes tail.old.store) (S.synced tail.old.store) (S.fault_count tail.old.store) outcomes.old.items) → IsKept (come tail.new.standing tail.new.marked (S.bytes tail.new.store) (S.synced tail.new.store) (S.fault_count tail.new.store) outcomes.new.items)) }
-    ensures later { S.fault_count tail.old.store ≤ S.fault_count tail.new.store }
+)
+    requires few { IsRunnable jobs.now }
+    requires room { vec_len outcomes.old + length jobs.now ≤ vec_capacity outcomes.old }
+    ensures runs { Passes time (placed_from session 1 jobs.now) (come S.told tail.old outcomes.old.items)
+        (come S.told tail.new outcomes.new.items) }
+    ensures kept { IsKept (come S.told tail.old outcomes.old.items) → IsKept (come S.told tail.new outcomes.new.items) }
+    ensures all { vec_len outcomes.new ≡ vec_len outcomes.old + length jobs.now }
+    ensures room { vec_capacity outcomes.old ≤ vec_capacity outcomes.new }
+    ensures later { (S.told tail.old.store).faults ≤ (S.told tail.new.store).faults }
     ensures clock { tail.new.clock ≡ tail.old.clock }
 {
     'jobs: for (at, job) in jobs.iter().enumerate() {
@@ -87,9 +107,8 @@ fn run_session<S: JournalStore, C>(
             session,
             transaction: at as u32 + 1,
         };
-        run_job(alloc, job, place, time, tail, outcomes)?;
+        run_job(alloc, job, place, time, tail, outcomes);
     }
-    Ok(())
 }
 
 /// Runs the sessions, one after another, each whole.
@@ -99,37 +118,41 @@ fn run_sessions<S: JournalStore, C>(
     time: IonTime,
     tail: &mut Tail<S, C>,
     outcomes: &mut Vec<PlacedOutcome>,
-) -> Result<(), OutOfMemory>
-    requires { AreRunnable sessions.now }
-    ensures runs { OnOk result ((t : RunRecord) → IsRunning t time (all_placed sessions.now) (come tail.old.standing tail.old.marked (S.bytes tail.old.store) (S.synced tail.old.store) (S.fault_count tail.old.store) outcomes.old.items) → IsRunning t time [] (come tail.new.standing tail.new.marked (S.bytes tail.new.store) (S.synced tail.new.store) (S.fault_count tail.new.store) outcomes.new.items)) }
-    ensures stopped { OnErr result ((t : RunRecord) → IsRunning t time (all_placed sessions.now) (come tail.old.standing tail.old.marked (S.bytes tail.old.store) (S.synced tail.old.store) (S.fault_count tail.old.store) outcomes.old.items) → IsStopped t time (come tail.new.standing tail.new.marked (S.bytes tail.new.store) (S.synced tail.new.store) (S.fault_count tail.new.store) outcomes.new.items)) }
-    ensures kept { OnOk result (IsKept (come tail.old.standing tail.old.marked (S.bytes tail.old.store) (S.synced tail.old.store) (S.fault_count tail.old.store) outcomes.old.items) → IsKept (come tail.new.standing tail.new.marked (S.bytes tail.new.store) (S.synced tail.new.store) (S.fault_count tail.new.store) outcomes.new.items)) }
-    ensures later { S.fault_count tail.old.store ≤ S.fault_count tail.new.store }
+)
+    requires few { AreRunnable sessions.now }
+    requires room { vec_len outcomes.old + job_count sessions.now ≤ vec_capacity outcomes.old }
+    ensures runs { (t : RunRecord)
+        → IsRunning t time (all_placed sessions.now) (come S.told tail.old outcomes.old.items)
+        → IsRunning t time [] (come S.told tail.new outcomes.new.items) }
+    ensures kept { IsKept (come S.told tail.old outcomes.old.items) → IsKept (come S.told tail.new outcomes.new.items) }
+    ensures later { (S.told tail.old.store).faults ≤ (S.told tail.new.store).faults }
     ensures clock { tail.new.clock ≡ tail.old.clock }
 {
     'sessions: for (at, jobs) in sessions.iter().enumerate() {
-        run_session(alloc, at as u32 + 1, jobs.as_slice(), time, tail, outcomes)?;
+        run_session(alloc, at as u32 + 1, jobs.as_slice(), time, tail, outcomes);
     }
-    Ok(())
 }
 
-/// Runs the script, cuts away what stands behind the journal, and answers the report.
+/// Runs the script, cuts away what stands behind the journal, and answers the report. The room for all outcomes is made before
+/// the first transaction, so that none is lost.
 fn run_and_report<S: JournalStore, C>(
     alloc: Global,
     script: &Script,
     time: IonTime,
     tail: &mut Tail<S, C>,
-) -> Result<Text, SettleFault>
+) -> Result<Text, Stop>
     requires { AreRunnable script.now }
-    ensures done { IfOk result (λ text. (t : RunRecord) → IsRunning t time (all_placed script.now) (come tail.old.standing tail.old.marked (S.bytes tail.old.store) (S.synced tail.old.store) (S.fault_count tail.old.store) []) → IsReported t (S.bytes tail.new.store) (S.fault_count tail.new.store) text) }
-    ensures kept { OnOk result (IsKept (come tail.old.standing tail.old.marked (S.bytes tail.old.store) (S.synced tail.old.store) (S.fault_count tail.old.store) []) → IsSynced (S.bytes tail.new.store) (S.synced tail.new.store)) }
-    ensures left { OnErr result ((t : RunRecord) → IsRunning t time (all_placed script.now) (come tail.old.standing tail.old.marked (S.bytes tail.old.store) (S.synced tail.old.store) (S.fault_count tail.old.store) []) → LeavesRun t (S.fault_count tail.new.store) (S.bytes tail.new.store)) }
-    ensures fault { IfErr result (λ fault. IsStop fault (S.fault_count tail.old.store) (S.fault_count tail.new.store) (S.last_failed tail.new.store)) }
-    ensures later { S.fault_count tail.old.store ≤ S.fault_count tail.new.store }
+    ensures done { IfOk result (λ text. (t : RunRecord)
+        → IsRunning t time (all_placed script.now) (come S.told tail.old [])
+        → IsReported t (S.told tail.new.store) text) }
+    ensures kept { OnOk result (IsKept (come S.told tail.old []) → IsSynced (S.told tail.new.store)) }
+    ensures left { OnErr result ((t : RunRecord) → IsRunning t time (all_placed script.now) (come S.told tail.old [])
+        → LeavesRun t (S.told tail.new.store).faults (held (S.told tail.new.store))) }
+    ensures stop { IfErr result (λ stop. IsTailStop stop (span (S.told tail.old.store) (S.told tail.new.store))) }
     ensures clock { tail.new.clock ≡ tail.old.clock }
 {
-    let mut outcomes = Vec::new(alloc);
-    run_sessions(alloc, script.as_slice(), time, tail, &mut outcomes)?;
+    let mut outcomes = make_room(alloc, script)?;
+    run_sessions(alloc, script.as_slice(), time, tail, &mut outcomes);
     tail.settle()?;
     let text = report(alloc, tail.blocks(), &Sequence::from_vec(outcomes))?;
     Ok(text)
@@ -143,35 +166,24 @@ fn run_on<S: JournalStore, C>(
     tail: Tail<S, C>,
 ) -> Ran<S, C>
     requires { AreRunnable script.now }
-    ensures done { IfOk result.report (λ text. (t : RunRecord) → IsRunning t time (all_placed script.now) (come tail.standing tail.marked (S.bytes tail.store) (S.synced tail.store) (S.fault_count tail.store) []) → IsReported t (S.bytes result.store) (S.fault_count result.store) text) }
-    ensures kept { OnOk result.report (IsKept (come tail.standing tail.marked (S.bytes tail.store) (S.synced tail.store) (S.fault_count tail.store) []) → IsSynced (S.bytes result.store) (S.synced result.store)) }
-    ensures left { OnErr result.report ((t : RunRecord) → IsRunning t time (all_placed script.now) (come tail.standing tail.marked (S.bytes tail.store) (S.synced tail.store) (S.fault_count tail.store) []) → LeavesRun t (S.fault_count result.store) (S.bytes result.store)) }
-    ensures fault { IfErr result.report (λ fault. IsSettled fault (S.fault_count tail.store) (S.fault_count result.store) (S.last_failed result.store)) }
+    ensures done { IfOk result.came (λ text. (t : RunRecord)
+        → IsRunning t time (all_placed script.now) (come S.told tail [])
+        → IsReported t (S.told result.store) text) }
+    ensures kept { OnOk result.came (IsKept (come S.told tail []) → IsSynced (S.told result.store)) }
+    ensures left { OnErr result.came ((t : RunRecord) → IsRunning t time (all_placed script.now) (come S.told tail [])
+        → LeavesRun t (S.told result.store).faults (held (S.told result.store))) }
+    ensures stop { IfErr result.came (λ stop. IsTailStop stop (span (S.told tail.store) (S.told result.store))) }
     ensures clock { result.clock ≡ tail.clock }
 {
     let mut tail = tail;
-    let report = run_and_report(alloc, script, time, &mut tail);
+    let came = run_and_report(alloc, script, time, &mut tail);
     let (_blocks, store, clock) = tail.into_parts();
-    Ran {
-        report: told(report),
-        store,
-        clock,
-    }
-}
-
-fn told(report: Result<Text, SettleFault>) -> Result<Text, RunFault>
-    ensures { result ≡ told report }
-{
-    match report {
-        Ok(text) => Ok(text),
-        Err(SettleFault::StoreFault { .. }) => Err(RunFault::StoreFailed),
-        Err(SettleFault::OutOfMemory) => Err(RunFault::OutOfMemory),
-    }
+    Returned { came, store, clock }
 }
 
 /// What there is where no journal was loaded.
 fn unloaded<S, C>(fault: LoadFault<S, C>) -> Ran<S, C>
-    ensures report { result.report ≡ Err (cause_of fault.cause) }
+    ensures came { result.came ≡ Err (load_stop fault.cause) }
     ensures store { result.store ≡ fault.store }
     ensures clock { result.clock ≡ fault.clock }
 {
@@ -180,20 +192,10 @@ fn unloaded<S, C>(fault: LoadFault<S, C>) -> Ran<S, C>
         store,
         clock,
     } = fault;
-    Ran {
-        report: Err(cause_of(cause)),
+    Returned {
+        came: Err(Stop::from(cause)),
         store,
         clock,
-    }
-}
-
-fn cause_of(cause: LoadCause) -> RunFault
-    ensures { result ≡ cause_of cause }
-{
-    match cause {
-        LoadCause::Damaged { sequence, kind } => RunFault::Damaged { sequence, kind },
-        LoadCause::StoreFault { .. } => RunFault::StoreFailed,
-        LoadCause::OutOfMemory => RunFault::OutOfMemory,
     }
 }
 
@@ -207,9 +209,11 @@ pub fn run_script<S: JournalStore, C>(
     clock: C,
 ) -> Ran<S, C>
     requires { AreRunnable script.now }
-    ensures done { IfOk result.report (λ text. IsReportOf time script.now (stored (S.bytes store) (S.bytes result.store) (S.synced store) (S.synced result.store) (S.fault_count store) (S.fault_count result.store)) text) }
-    ensures left { OnErr result.report ((S.bytes result.store ≡ S.bytes store) ⊎ HoldsRun time script.now (stored (S.bytes store) (S.bytes result.store) (S.synced store) (S.synced result.store) (S.fault_count store) (S.fault_count result.store))) }
-    ensures fault { IfErr result.report (λ fault. IsRunFault fault (stored (S.bytes store) (S.bytes result.store) (S.synced store) (S.synced result.store) (S.fault_count store) (S.fault_count result.store)) (S.last_failed result.store)) }
+    ensures done { IfOk result.came (λ text. IsReportOf time script.now (span (S.told store) (S.told result.store))
+        text) }
+    ensures left { OnErr result.came ((held (S.told result.store) ≡ held (S.told store))
+        ⊎ HoldsRun time script.now (span (S.told store) (S.told result.store))) }
+    ensures stop { IfErr result.came (λ stop. IsRunStop stop (span (S.told store) (S.told result.store))) }
     ensures clock { result.clock ≡ clock }
 {
     match Tail::reload(alloc, store, clock, IdMask { bits: 0 }) {

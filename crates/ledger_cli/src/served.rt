@@ -1,14 +1,16 @@
-//! What an input is judged, and which scripts are served so far.
+//! The script that an input spells, and which scripts are served so far.
 ghost use Rattle.std.specs.Prelude.{◌≡◌, Ok, IfOk};
 ghost use Rattle.std.specs.List.{All, list_all};
 ghost use Rattle.ledger_model.specs.ReadScript.{read_script};
 ghost use Rattle.ledger_model.specs.Unbuilt.{is_served, is_served_job, is_served_script, judged_script, judged};
 ghost use Rattle.script_form.specs.Answers.{IsCountable};
-ghost use Rattle.ledger_cli.specs.Judgements.{ServesRunnable, judged_of};
+ghost use Rattle.ledger_cli.specs.Judgements.{AreRunnable, JudgesTo};
 
 use crate::input::LONGEST;
+use crate::lines::BadInput;
+use crate::stop::Stop;
 use ion_text::{ReadFault, read_stream};
-use ion_values::{IonFault, OutOfMemory, Value};
+use ion_values::{OutOfMemory, Value};
 use ledger_core::is_served;
 use ledger_model::{Job, Request, Script, ScriptFault};
 use script_form::{ScriptAnswer, read_script};
@@ -16,20 +18,6 @@ use std::alloc::Global;
 
 /// The deepest nesting of an input.
 const DEEPEST: u32 = 80;
-
-/// What an input is judged.
-#[derive(Drop)]
-pub enum Judgement {
-    /// It is longer than the longest.
-    TooLong,
-    /// It is no Ion text that is read.
-    Faulty(IonFault),
-    /// Its values spell no script.
-    Misspelt(ScriptFault),
-    /// It spells a script that isn't served so far.
-    Unbuilt,
-    Served(Script),
-}
 
 /// Whether all of the statements are served.
 fn are_served(alloc: Global, asked: &[Request]) -> Result<bool, OutOfMemory>
@@ -73,10 +61,11 @@ fn is_served_script(alloc: Global, script: &Script) -> Result<bool, OutOfMemory>
     Ok(true)
 }
 
-/// What the values of an input are judged.
-fn judge_values(alloc: Global, values: &[Value]) -> Result<Judgement, OutOfMemory>
+/// The script that the values of an input spell, where such scripts are served.
+fn judge_values(alloc: Global, values: &[Value]) -> Result<Script, Stop>
     requires { All IsCountable values.now }
-    ensures { IfOk result (λ judgement. judged_of judgement ≡ judged_script (read_script values.now)) }
+    ensures judged { JudgesTo result (judged_script (read_script values.now)) }
+    ensures runnable { IfOk result AreRunnable }
 {
     match read_script(alloc, values) {
         Ok(script) => judge_script(alloc, script),
@@ -86,38 +75,38 @@ fn judge_values(alloc: Global, values: &[Value]) -> Result<Judgement, OutOfMemor
                 transaction,
                 kind,
             },
-        ) => Ok(Judgement::Misspelt(ScriptFault {
+        ) => Err(Stop::BadInput(BadInput::Misspelt(ScriptFault {
             session,
             transaction,
             kind,
-        })),
-        Err(ScriptAnswer::OutOfMemory) => Err(OutOfMemory),
+        }))),
+        Err(ScriptAnswer::OutOfMemory) => Err(Stop::OutOfMemory),
     }
 }
 
-/// What a script is judged.
-fn judge_script(alloc: Global, script: Script) -> Result<Judgement, OutOfMemory>
-    ensures { IfOk result (λ judgement. judged_of judgement ≡ judged_script (Ok script)) }
+/// The script, where it is served.
+fn judge_script(alloc: Global, script: Script) -> Result<Script, Stop>
+    ensures judged { JudgesTo result (judged_script (Ok script)) }
+    ensures same { IfOk result (λ given. given ≡ script) }
 {
     if is_served_script(alloc, &script)? {
-        Ok(Judgement::Served(script))
+        Ok(script)
     } else {
-        Ok(Judgement::Unbuilt)
+        Err(Stop::BadInput(BadInput::Unbuilt))
     }
 }
 
-/// What an input is judged: whether it is too long, where it is no Ion text or no script, or the script that it spells,
-/// where such scripts are served.
-pub fn judge(alloc: Global, input: &[u8]) -> Result<Judgement, OutOfMemory>
-    ensures judged { IfOk result (λ judgement. judged_of judgement ≡ judged input.now) }
-    ensures runnable { IfOk result ServesRunnable }
+/// The script that an input spells, where it isn't too long and such scripts are served.
+pub fn judge(alloc: Global, input: &[u8]) -> Result<Script, Stop>
+    ensures judged { JudgesTo result (judged input.now) }
+    ensures runnable { IfOk result AreRunnable }
 {
     if input.len() > LONGEST {
-        return Ok(Judgement::TooLong);
+        return Err(Stop::BadInput(BadInput::TooLong));
     }
     match read_stream(alloc, input, DEEPEST) {
         Ok(values) => judge_values(alloc, values.as_slice()),
-        Err(ReadFault::Ion(fault)) => Ok(Judgement::Faulty(fault)),
-        Err(ReadFault::OutOfMemory) => Err(OutOfMemory),
+        Err(ReadFault::Ion(fault)) => Err(Stop::BadInput(BadInput::Faulty(fault))),
+        Err(ReadFault::OutOfMemory) => Err(Stop::OutOfMemory),
     }
 }

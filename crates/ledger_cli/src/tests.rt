@@ -569,9 +569,7 @@ fn failing_store(rt: HostRuntime) -> Result<(), Fail> {
 struct Wanting;
 
 impl Source for Wanting {
-    ghost left = { λ _. None };
-
-    ghost fault_count = { λ _. 0 };
+    ghost told = { λ _. record { left = None; faults = 0 } };
 
     fn faults(&self) -> u64 {
         0

@@ -11,17 +11,17 @@ use Rattle.ledger_model.specs.declared.block.Block.{Block}
 use Rattle.ledger_model.specs.declared.outcome.Outcome.{Outcome}
 use Rattle.ledger_model.specs.declared.outcome.Outcome.TheVariants.{Committed, Conflict, Refused, DigestDiffers, StoreFault, JournalFull, IdsSpent, Aborted, OutOfMemory}
 use Rattle.ledger_model.specs.declared.outcome.Refusal.{Refusal}
-use Rattle.ledger_model.specs.Run.{Begun, Progress, ran, refused}
+use Rattle.ledger_model.specs.Run.{Begun, Progress, Ran, ran, refused, unserved, unread, unread_ran}
 use Rattle.ledger_model.specs.Making.{block_of}
 use Rattle.ledger_model.specs.Damages.{Undamaged, UndamagedBehind, strand_of}
 use Rattle.ledger_model.specs.Journal.{journal_bytes}
 use Rattle.ledger_model.specs.Script.{Placed}
 use Rattle.ledger_model.specs.Whole.{place_fits}
 use Rattle.ledger_claims.specs.Attempts.{Standing, IsStanding, IsNext, IsNextBlock, Seals, Draws, Attempted, LeavesStore, HoldsBehind, LeavesPart, next, ran_next}
-use Rattle.ledger_claims.specs.Makes.{CanMake, IsWithinAll}
+use Rattle.made_blocks.specs.Makes.{CanMake, IsWithinAll}
 use Rattle.ledger_claims.specs.Stores.{Holding}
-use Rattle.ledger_claims.proofs.MadeJournals.{passes_all}
-use Rattle.ledger_claims.proofs.MadeUndamaged.{next_is_undamaged}
+use Rattle.made_blocks.proofs.Journals.{passes_all}
+use Rattle.ledger_claims.proofs.NextUndamaged.{next_is_undamaged}
 use Rattle.ledger_claims.proofs.Standings.{Attempted-IsStanding}
 use Rattle.ledger_core.specs.Tails.{MayHoldPart, joined}
 use Rattle.ledger_core.specs.declared.transaction.Transaction.{Transaction}
@@ -55,7 +55,7 @@ holds_alone : (blocks : List Block) (held : Option (List ℕ)) → Holding block
 holds_alone blocks None h = tt
 holds_alone blocks (Some bytes) h = h ∙ sym (append-nil (journal_bytes blocks))
 
-module _ (s : Standing) (time : TimeParts) (p : Placed) (progress : Progress) (is : IsStanding s) (can : CanMake s.mask time p) (counted : s.last + 1 < 2 ^ 64)
+module _ (s : Standing) (time : TimeParts) (p : Placed) (progress : Progress) (is : IsStanding s) (can : CanMake s.mask time p.place) (counted : s.last + 1 < 2 ^ 64)
     (ranges : IsWithinAll progress) (runs : ran_next s p ≡ ran progress) (commits : p.job.abort ≡ false) (b : Block) (b_is : b ≡ block_of (next s) s.blocks p.place time progress) where
   next_made : HasRoom s → IsNextBlock s time p b
   next_made room = record {
@@ -130,33 +130,68 @@ place_within p session transaction =
     and_from (nat_lt p.session (2 ^ 32)) (nat_lt p.transaction (2 ^ 32)) (lt-ltb p.session (2 ^ 32) session) (lt-ltb p.transaction (2 ^ 32) transaction)
 
 pub can_make : (s : Standing) (time : TimeParts) (p : Placed) → s.mask < 2 ^ 128 → IsTrue (is_time time) → IsTrue (place_fits p.place)
-    → CanMake s.mask time p
+    → CanMake s.mask time p.place
 can_make s time p mask timed placed = record { mask_fits = mask; timed = timed; placed = placed }
 
-module _ (s : Standing) (time : TimeParts) (p : Placed) (t : Transaction) (tx : TxId) (is : IsStanding s) (can : CanMake s.mask time p) (n : IsNext s tx)
-    (ranges : IsWithinAll (progress_of t)) (runs : ran (progress_of t) ≡ ran_next s p) (begun : begun_of t ≡ next s) (commits : p.job.abort ≡ false) where
-  block_is : next_block t s.blocks p.place time ≡ block_of (next s) s.blocks p.place time (progress_of t)
-  block_is = ap (λ (b : Begun). block_of b s.blocks p.place time (progress_of t)) begun
+-- how the statements ended, with what they read
+read_in : (p : Progress) (r : Ran) → ran p ≡ unread_ran r → (q : Progress) × (r ≡ ran q) × (p ≡ unread q)
+read_in p (ran q) e = let same : p ≡ unread q = cc in (q, refl, same)
+read_in p (refused statement cause) e = let bad : ⊥ = cc in absurd bad
+read_in p unserved e = let bad : ⊥ = cc in absurd bad
+
+refused_in : (statement : ℕ) (cause : Refusal) (r : Ran) → refused statement cause ≡ unread_ran r → r ≡ refused statement cause
+refused_in statement cause (ran q) e = let bad : ⊥ = cc in absurd bad
+refused_in statement cause (refused other why) e = sym e
+refused_in statement cause unserved e = let bad : ⊥ = cc in absurd bad
+
+within_read : (p q : Progress) → p ≡ unread q → IsWithinAll p → IsWithinAll q
+within_read p q e h =
+    let r : IsWithinAll (unread q) = subst IsWithinAll e h in
+    record { said = r.said; schema = r.schema; log = r.log }
+
+module _ (s : Standing) (time : TimeParts) (p : Placed) (t : Transaction) (tx : TxId) (is : IsStanding s) (can : CanMake s.mask time p.place) (n : IsNext s tx)
+    (ranges : IsWithinAll (progress_of t)) (runs : ran (progress_of t) ≡ unread_ran (ran_next s p)) (begun : begun_of t ≡ next s) (commits : p.job.abort ≡ false) where
+  whole : (q : Progress) × (ran_next s p ≡ ran q) × (progress_of t ≡ unread q)
+  whole = read_in (progress_of t) (ran_next s p) runs
+
+  read : Progress
+  read = whole.0
+
+  read_ranges : IsWithinAll read
+  unfolding read
+  read_ranges = within_read (progress_of t) whole.0 whole.2 ranges
+
+  read_runs : ran_next s p ≡ ran read
+  unfolding read
+  read_runs = whole.1
+
+  block_is : next_block t s.blocks p.place time ≡ block_of (next s) s.blocks p.place time read
+  unfolding read
+  block_is =
+      ap (λ (b : Begun). block_of b s.blocks p.place time (progress_of t)) begun
+      ∙ ap (λ (q : Progress). block_of (next s) s.blocks p.place time q) whole.2
 
   pub done_stands : HasRoom s → IsStanding (joined (drawn s) (next_block t s.blocks p.place time))
   done_stands room =
-      next_stands s time p (progress_of t) is can n.counted ranges (sym runs) commits (next_block t s.blocks p.place time) block_is tx n room
+      next_stands s time p read is can n.counted read_ranges read_runs commits (next_block t s.blocks p.place time) block_is tx n room
 
   pub done_attempted : (o : Outcome) (now : Standing) → Commits tx (drawn s) (next_block t s.blocks p.place time) o now → Attempted s time p o now
   done_attempted o now c =
-      commit_is s time p (progress_of t) is can n.counted ranges (sym runs) commits (next_block t s.blocks p.place time) block_is tx o now n c
+      commit_is s time p read is can n.counted read_ranges read_runs commits (next_block t s.blocks p.place time) block_is tx o now n c
 
   pub done_leaves : (o : Outcome) (now : Standing) (held held_after : Option (List ℕ)) → Commits tx (drawn s) (next_block t s.blocks p.place time) o now
       → CommitLeaves s.blocks (next_block t s.blocks p.place time) o held held_after → LeavesStore s time p o now held held_after
   done_leaves o now held held_after c l =
-      commit_leaves s time p (progress_of t) is can n.counted ranges (sym runs) commits (next_block t s.blocks p.place time) block_is tx o now held held_after c l
+      commit_leaves s time p read is can n.counted read_ranges read_runs commits (next_block t s.blocks p.place time) block_is tx o now held held_after c l
 
 -- ---- a transaction that isn't committed
 
 pub aborted : (s now : Standing) (time : TimeParts) (p : Placed) (t : Transaction) (tx : TxId) (since : ℕ) → IsNext s tx → now ≡ drawn s
-    → since ≡ length s.blocks → p.job.abort ≡ true → ran (progress_of t) ≡ ran_next s p → Attempted s time p (Aborted tx since) now
-aborted s now time p t tx since n e place aborts runs = (n, draws s now e, place, aborts, (progress_of t, sym runs))
+    → since ≡ length s.blocks → p.job.abort ≡ true → ran (progress_of t) ≡ unread_ran (ran_next s p) → Attempted s time p (Aborted tx since) now
+aborted s now time p t tx since n e place aborts runs =
+    let whole = read_in (progress_of t) (ran_next s p) runs in
+    (n, draws s now e, place, aborts, (whole.0, whole.1))
 
 pub refused_at : (s now : Standing) (time : TimeParts) (p : Placed) (tx : TxId) (since statement : ℕ) (cause : Refusal) → IsNext s tx
-    → now ≡ drawn s → since ≡ length s.blocks → refused statement cause ≡ ran_next s p → Attempted s time p (Refused tx since statement cause) now
-refused_at s now time p tx since statement cause n e place runs = (n, draws s now e, place, sym runs)
+    → now ≡ drawn s → since ≡ length s.blocks → refused statement cause ≡ unread_ran (ran_next s p) → Attempted s time p (Refused tx since statement cause) now
+refused_at s now time p tx since statement cause n e place runs = (n, draws s now e, place, refused_in statement cause (ran_next s p) runs)

@@ -6,14 +6,15 @@ use Rattle.ledger_model.specs.declared.outcome.Outcome.{Outcome}
 use Rattle.ledger_model.specs.declared.script.Request.{Request}
 use Rattle.ledger_model.specs.Script.{Placed}
 use Rattle.ledger_model.specs.State.{state}
-use Rattle.ledger_model.specs.Run.{ran, run}
+use Rattle.ledger_model.specs.Run.{ran, run, unread_ran}
 use Rattle.ledger_claims.specs.Attempts.{Standing, IsStanding, IsNext, Attempted, TellsFaults, LeavesStore, next, ran_next}
-use Rattle.ledger_claims.specs.Makes.{CanMake, IsWithinAll}
+use Rattle.made_blocks.specs.Makes.{CanMake, IsWithinAll}
 use Rattle.ledger_claims.specs.Stores.{Holding, IsSynced}
-use Rattle.ledger_core.specs.declared.transaction.Ran as held
+use Rattle.ledger_core.specs.declared.transaction.Ran as ended
 use Rattle.ledger_core.specs.declared.transaction.Transaction.{Transaction}
 use Rattle.ledger_core.specs.Transactions.{IsBegun, begun_of, progress_of, ran_of}
-use Rattle.ledger_core.specs.Tails.{TailHeld, TellsSynced, joined}
+use Rattle.outside.specs.Told.{StoreTold, held}
+use Rattle.ledger_core.specs.Tails.{TailHeld, joined}
 use Rattle.ledger_core.specs.Attempting.{Commits, CommitLeaves, IsKept, begun_last, drawn, next_block}
 use Rattle.ledger_core.proofs.Attempts.{done_stands, done_attempted, done_leaves}
 
@@ -22,72 +23,60 @@ abbrev pub drawn_tail : {S C : Type 0} → TailHeld S C → TailHeld S C
 drawn_tail h = record h { standing = drawn h.standing }
 
 -- behind the lines of the blocks the store holds nothing, or a rest that is marked to be cut
-abbrev pub IsClean : {S C : Type 0} → (S → Option (List ℕ)) → TailHeld S C → Type 0
-IsClean bytes t = (t.marked ≡ true) ⊎ Holding t.standing.blocks (bytes t.store)
-
-abbrev pub Tells : {S C : Type 0} → (S → Option (List ℕ)) → (S → Option ℕ) → TailHeld S C → Type 0
-Tells bytes synced t = TellsSynced (bytes t.store) (synced t.store)
+abbrev pub IsClean : {S C : Type 0} → (S → StoreTold) → TailHeld S C → Type 0
+IsClean told t = (t.marked ≡ true) ⊎ Holding t.standing.blocks (held (told t.store))
 
 -- where nothing is marked to be cut, all bytes are synced
-abbrev pub AreSynced : {S C : Type 0} → (S → Option (List ℕ)) → (S → Option ℕ) → TailHeld S C → Type 0
-AreSynced bytes synced t = t.marked ≡ false → IsSynced (bytes t.store) (synced t.store)
+abbrev pub AreSynced : {S C : Type 0} → (S → StoreTold) → TailHeld S C → Type 0
+AreSynced told t = t.marked ≡ false → IsSynced (told t.store)
 
 -- how a commit ends: nothing was changed, a cut is marked, or the store holds the lines of the blocks, all synced
-abbrev pub Ended : {S C : Type 0} → (S → Option (List ℕ)) → (S → Option ℕ) → TailHeld S C → TailHeld S C → Type 0
-Ended bytes synced m n = (n ≡ m) ⊎ (n.marked ≡ true) ⊎ IsKept n.standing.blocks (bytes m.store) (synced m.store) (bytes n.store) (synced n.store)
+abbrev pub Ended : {S C : Type 0} → (S → StoreTold) → TailHeld S C → TailHeld S C → Type 0
+Ended told m n = (n ≡ m) ⊎ (n.marked ≡ true) ⊎ IsKept n.standing.blocks (told n.store)
 
 -- ---- after the draw
 
-pub drawn_clean : {S C : Type 0} (bytes : S → Option (List ℕ)) (h m : TailHeld S C) → m ≡ drawn_tail h → IsClean bytes h → IsClean bytes m
-drawn_clean {S} {C} bytes h m e clean = subst (λ (t : TailHeld S C). IsClean bytes t) (sym e) clean
+pub drawn_clean : {S C : Type 0} (told : S → StoreTold) (h m : TailHeld S C) → m ≡ drawn_tail h → IsClean told h → IsClean told m
+drawn_clean {S} {C} told h m e clean = subst (λ (t : TailHeld S C). IsClean told t) (sym e) clean
 
-pub drawn_tells : {S C : Type 0} (bytes : S → Option (List ℕ)) (synced : S → Option ℕ) (h m : TailHeld S C) → m ≡ drawn_tail h
-    → Tells bytes synced h → Tells bytes synced m
-drawn_tells {S} {C} bytes synced h m e tells = subst (λ (t : TailHeld S C). Tells bytes synced t) (sym e) tells
-
-pub drawn_synced : {S C : Type 0} (bytes : S → Option (List ℕ)) (synced : S → Option ℕ) (h m : TailHeld S C) → m ≡ drawn_tail h
-    → AreSynced bytes synced h → AreSynced bytes synced m
-drawn_synced {S} {C} bytes synced h m e all = subst (λ (t : TailHeld S C). AreSynced bytes synced t) (sym e) all
+pub drawn_synced : {S C : Type 0} (told : S → StoreTold) (h m : TailHeld S C) → m ≡ drawn_tail h → AreSynced told h → AreSynced told m
+drawn_synced {S} {C} told h m e all = subst (λ (t : TailHeld S C). AreSynced told t) (sym e) all
 
 -- ---- after the commit
 
-pub commit_clean : {S C : Type 0} (bytes : S → Option (List ℕ)) (synced : S → Option ℕ) (h m n : TailHeld S C) → m ≡ drawn_tail h → IsClean bytes h
-    → Ended bytes synced m n → IsClean bytes n
-commit_clean bytes synced h m n e clean (inl same) = drawn_clean bytes h n (same ∙ e) clean
-commit_clean bytes synced h m n e clean (inr (inl marked)) = inl marked
-commit_clean bytes synced h m n e clean (inr (inr kept)) = inr kept.0
+pub commit_clean : {S C : Type 0} (told : S → StoreTold) (h m n : TailHeld S C) → m ≡ drawn_tail h → IsClean told h
+    → Ended told m n → IsClean told n
+commit_clean told h m n e clean (inl same) = drawn_clean told h n (same ∙ e) clean
+commit_clean told h m n e clean (inr (inl marked)) = inl marked
+commit_clean told h m n e clean (inr (inr kept)) = inr kept.0
 
-pub commit_tells : {S C : Type 0} (bytes : S → Option (List ℕ)) (synced : S → Option ℕ) (h m n : TailHeld S C) → m ≡ drawn_tail h
-    → (Tells bytes synced m → Tells bytes synced n) → Tells bytes synced h → Tells bytes synced n
-commit_tells bytes synced h m n e more tells = more (drawn_tells bytes synced h m e tells)
-
-pub commit_synced : {S C : Type 0} (bytes : S → Option (List ℕ)) (synced : S → Option ℕ) (h m n : TailHeld S C) → m ≡ drawn_tail h
-    → Ended bytes synced m n → Tells bytes synced h → AreSynced bytes synced h → AreSynced bytes synced n
-commit_synced bytes synced h m n e (inl same) tells all = drawn_synced bytes synced h n (same ∙ e) all
-commit_synced bytes synced h m n e (inr (inl marked)) tells all = λ un. absurd (true≢false (sym marked ∙ un))
-commit_synced bytes synced h m n e (inr (inr kept)) tells all = λ un. kept.1 (drawn_tells bytes synced h m e tells)
+pub commit_synced : {S C : Type 0} (told : S → StoreTold) (h m n : TailHeld S C) → m ≡ drawn_tail h
+    → Ended told m n → AreSynced told h → AreSynced told n
+commit_synced told h m n e (inl same) all = drawn_synced told h n (same ∙ e) all
+commit_synced told h m n e (inr (inl marked)) all = λ un. absurd (true≢false (sym marked ∙ un))
+commit_synced told h m n e (inr (inr kept)) all = λ un. kept.1
 
 pub commit_later : {S C : Type 0} (count : S → ℕ) (h m n : TailHeld S C) → m ≡ drawn_tail h → count m.store ≤ count n.store → count h.store ≤ count n.store
 commit_later {S} {C} count h m n e later = subst (λ (t : TailHeld S C). count t.store ≤ count n.store) e later
 
 -- ---- the statements of the next transaction
 
-pub run_next : {S C : Type 0} (h d : TailHeld S C) (p : Placed) (r : held.Ran) (asked : List Request) → d ≡ drawn_tail h → asked ≡ p.job.statements
-    → ran_of r ≡ run (begun_last d.standing) (state d.standing.blocks) asked → ran_of r ≡ ran_next h.standing p
+pub run_next : {S C : Type 0} (h d : TailHeld S C) (p : Placed) (r : ended.Ran) (asked : List Request) → d ≡ drawn_tail h → asked ≡ p.job.statements
+    → ran_of r ≡ unread_ran (run (begun_last d.standing) (state d.standing.blocks) asked) → ran_of r ≡ unread_ran (ran_next h.standing p)
 run_next {S} {C} h d p r asked e same runs =
-    subst (λ (t : TailHeld S C). ran_of r ≡ run (begun_last t.standing) (state t.standing.blocks) p.job.statements) e
-    (subst (λ (rs : List Request). ran_of r ≡ run (begun_last d.standing) (state d.standing.blocks) rs) same runs)
+    subst (λ (t : TailHeld S C). ran_of r ≡ unread_ran (run (begun_last t.standing) (state t.standing.blocks) p.job.statements)) e
+    (subst (λ (rs : List Request). ran_of r ≡ unread_ran (run (begun_last d.standing) (state d.standing.blocks) rs)) same runs)
 
-pub begun_next : {S C : Type 0} (h d : TailHeld S C) (r : held.Ran) → d ≡ drawn_tail h → IsBegun r (begun_last d.standing) → IsBegun r (next h.standing)
+pub begun_next : {S C : Type 0} (h d : TailHeld S C) (r : ended.Ran) → d ≡ drawn_tail h → IsBegun r (begun_last d.standing) → IsBegun r (next h.standing)
 begun_next {S} {C} h d r e begun = subst (λ (t : TailHeld S C). IsBegun r (begun_last t.standing)) e begun
 
 -- all statements of the job were done, as the next transaction, and the job isn't given up
 pub record IsDone (s : Standing) (time : TimeParts) (p : Placed) (t : Transaction) (tx : TxId) : Type 0 where
   pub stands : IsStanding s
-  pub can : CanMake s.mask time p
+  pub can : CanMake s.mask time p.place
   pub drawn_id : IsNext s tx
   pub ranges : IsWithinAll (progress_of t)
-  pub runs : ran (progress_of t) ≡ ran_next s p
+  pub runs : ran (progress_of t) ≡ unread_ran (ran_next s p)
   pub begun : begun_of t ≡ next s
   pub commits : p.job.abort ≡ false
 

@@ -8,7 +8,7 @@ use Rattle.std.proofs.lemmas.Str.{utf8_valid_len-IsUtf8}
 use Rattle.ion_values.specs.declared.value.Value.{Value}
 use Rattle.ion_values.specs.Within.{all_true, text_within, within}
 use Rattle.ledger_model.specs.declared.block.Said.{Said}
-use Rattle.ledger_claims.specs.Makes.{said_within}
+use Rattle.made_blocks.specs.Makes.{said_within}
 
 -- a text that is lent is UTF-8
 pub text-in : (text given : List ℕ) → given ≡ text → IsUtf8 given → IsTrue (text_within text)

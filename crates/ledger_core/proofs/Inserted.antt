@@ -14,7 +14,7 @@ use Rattle.ledger_model.specs.declared.outcome.Refusal.{Refusal}
 use Rattle.ledger_model.specs.declared.script.Request.{Request}
 use Rattle.ledger_model.specs.State as state
 use Rattle.ledger_model.specs.Values.{named_id}
-use Rattle.ledger_model.specs.Run.{Begun, Progress, Effect, and_then, changed_by, documents_in, if_documents, inserted, new_document, next_id, not_stored, nothing, on_table, recorded, reserved, stored, unless}
+use Rattle.ledger_model.specs.Run.{unread, unread_result, Begun, Progress, Effect, and_then, changed_by, documents_in, if_documents, inserted, new_document, next_id, not_stored, nothing, on_table, recorded, reserved, stored, unless}
 use Rattle.ledger_core.specs.declared.catalog.Catalog.{Catalog}
 use Rattle.ledger_core.specs.Catalogs.{Lists}
 use Rattle.ledger_core.specs.Transactions.{found, table_in}
@@ -38,7 +38,10 @@ one_of b table p v = (next_row b p, with_document b table p v)
 
 nothing-more : (rows : List Value) (p : Progress) → grown rows p (Ok nothing) ≡ Ok (rows, p)
 nothing-more rows p =
-    λ i. Ok (append-nil rows i, record { said = p.said; schema = append-nil p.schema i; log = append-nil p.log i; made = add-zero p.made i })
+    λ i. Ok (
+      append-nil rows i,
+      record { said = p.said; schema = append-nil p.schema i; log = append-nil p.log i; made = add-zero p.made i; footprint = append-nil p.footprint i },
+    )
 
 -- one effect and then another, behind what there was
 one-more : (rows : List Value) (p : Progress) (e : Effect) (r : Result Effect Refusal) → grown rows p (and_then e r) ≡ grown (rows ++ e.rows) (changed_by p e) r
@@ -51,6 +54,7 @@ one-more rows p e (Ok f) =
         schema = sym (append_assoc p.schema e.schema f.schema) i;
         log = sym (append_assoc p.log e.log f.log) i;
         made = sym (add_assoc p.made e.made f.made) i;
+        footprint = sym (append_assoc p.footprint e.footprint f.footprint) i;
       },
     )
 
@@ -127,7 +131,7 @@ not-all-stored b c table rows p q vs i v OutOfMemory within is begun so_far one 
 pub one-stored : (b : Begun) (table : TableId) (p : Progress) (v kept row : Value) (raw : ℕ) (lent log : List Draft) (cause : Option Refusal) → cause ≡ cause_for lent v
     → cause ≡ None → lent ≡ p.log → raw ≡ next_id b p → kept ≡ v → row ≡ named_id (codes "documentId") raw
     → log ≡ p.log ++ record { table = table; id = record { raw = raw }; version = 0; content = Kept kept } ∷ []
-    → stored_one b table p v ≡ Ok (row, record { said = p.said; schema = p.schema; log = log; made = p.made + 1 })
+    → stored_one b table p v ≡ Ok (row, record { said = p.said; schema = p.schema; log = log; made = p.made + 1; footprint = p.footprint })
 one-stored b table p v kept row raw lent log cause is none lent_is raw_is kept_is row_is log_is =
     let free : not_stored p v ≡ None = ap (λ (ds : List Draft). cause_for ds v) (sym lent_is) ∙ sym is ∙ none in
     let row_now : next_row b p ≡ row = sym (row_is ∙ ap (named_id (codes "documentId")) raw_is) in
@@ -136,12 +140,12 @@ one-stored b table p v kept row raw lent log cause is none lent_is raw_is kept_i
     ∙ ap (λ (n : ℕ). p.log ++ record { table = table; id = record { raw = n }; version = 0; content = Kept kept } ∷ []) raw_is
     ∙ ap (λ (x : Value). p.log ++ record { table = table; id = record { raw = next_id b p }; version = 0; content = Kept x } ∷ []) kept_is) in
     ap (λ (x : Option Refusal). without x (Ok (next_row b p, with_document b table p v))) free
-    ∙ (λ i. Ok (row_now i, record { said = p.said; schema = append-nil p.schema i; log = log_now i; made = p.made + 1 }))
+    ∙ (λ i. Ok (row_now i, record { said = p.said; schema = append-nil p.schema i; log = log_now i; made = p.made + 1; footprint = append-nil p.footprint i }))
 
 -- ---- what was stored, said
 
 pub grown-recorded : (p m q : Progress) (r : Request) (rows : List Value) (wanted : Result Effect Refusal) → grown [] p wanted ≡ Ok (rows, m)
-    → q.said ≡ said_more m.said r rows → q.schema ≡ m.schema → q.log ≡ m.log → q.made ≡ m.made → recorded p r wanted ≡ Ok q
+    → q.said ≡ said_more m.said r rows → q.schema ≡ m.schema → q.log ≡ m.log → q.made ≡ m.made → unread_result (recorded p r wanted) ≡ Ok (unread q)
 grown-recorded p m q r rows (Err cause) is said schema log made = let bad : ⊥ = cc in absurd bad
 grown-recorded p m q r rows (Ok e) is said schema log made =
     let both : (e.rows, changed_by p e) ≡ (rows, m) = cc in

@@ -2,7 +2,7 @@
 use Rattle.std.proofs.Common.{◌≡◌, ◌∙◌, ℕ, Bool, true, false, List, [], ◌∷◌, ◌++◌, length, take, append-nil, refl, sym, ap, subst, true≢false, inl, inr, Option, Some, None, ◌⊎◌}
 use Rattle.std.specs.Prelude.{option_map, IfSome}
 use Rattle.std.proofs.Math.Seq.{take-length}
-use Rattle.ledger_core.specs.Tails.{AllSynced, HoldsMarked, HoldsPart, MayBeCut, cleared}
+use Rattle.ledger_core.specs.Tails.{HoldsMarked, HoldsPart, MayBeCut, cleared}
 
 -- a whole piece is the front part of itself
 pub all_kept : (before now : Option (List ℕ)) (piece : List ℕ) → now ≡ option_map (λ held. held ++ piece) before
@@ -15,15 +15,6 @@ pub behind : (clear : List ℕ → List ℕ) (line : List ℕ) (before cut now :
     → now ≡ option_map (λ held. held ++ line) cut → now ≡ option_map (λ held. clear held ++ line) before
 behind clear line None cut now e f = f ∙ ap (option_map (λ held. held ++ line)) e
 behind clear line (Some x) cut now e f = f ∙ ap (option_map (λ held. held ++ line)) e
-
--- a sync behind a cut, if there was one, and an append
-pub carried : (marked : Bool) (line : List ℕ) (cut now : Option (List ℕ)) (before between after : Option ℕ)
-    → (marked ≡ true → AllSynced before cut between) → (marked ≡ false → between ≡ before)
-    → now ≡ option_map (λ held. held ++ line) cut → AllSynced between now after → AllSynced before now after
-carried marked line cut now None between after on un e all = tt
-carried false line cut now (Some s) between after on un e all = subst (λ (t : Option ℕ). AllSynced t now after) (un refl) all
-carried true line None now (Some s) between after on un e all = subst (λ (b : Option (List ℕ)). AllSynced (Some s) b after) (sym e) tt
-carried true line (Some x) now (Some s) between after on un e all = subst (λ (t : Option ℕ). AllSynced t now after) (on refl) all
 
 -- ---- what is held behind the journal
 

@@ -2,7 +2,8 @@
 use Rattle.std.proofs.Common.{◌≡◌, ◌∙◌, ℕ, zero, suc, ◌+◌, ◌≤◌, List, [], ◌∷◌, ◌++◌, length, take, refl, sym, ap, subst, Option, Some, None, arith, length-take}
 use Rattle.std.specs.Prelude.{IfSome}
 use Rattle.std.proofs.Math.Seq.{take-add}
-use Rattle.outside.specs.Store.{ReadsAt}
+use Rattle.outside.specs.Store.{Content, ReadsAt}
+use Rattle.ledger_core.proofs.Syncs.{bytes_of}
 
 -- a front part that ends within the first list
 pub take-inside : (n : ℕ) (xs ys : List ℕ) → n ≤ length xs → take n (xs ++ ys) ≡ take n xs
@@ -25,9 +26,10 @@ next-of bytes all out new count front within reads n =
     let long : length new ≡ length all + count = ap length whole ∙ long-of bytes (length all + count) (omega (arith, within, reads.within)) in
     whole ∙ ap (λ m. take m bytes) (sym long)
 
-pub front-next : (held now : Option (List ℕ)) (all out new : List ℕ) (size at count : ℕ) → now ≡ held → at ≡ length all → length all ≤ size
-    → IsFront size all held → IfSome now (λ bytes. ReadsAt bytes at out count) → new ≡ all ++ take count out → IsFront size new held
+pub front-next : (held : Option (List ℕ)) (now : Option Content) (all out new : List ℕ) (size at count : ℕ) → bytes_of now ≡ held → at ≡ length all → length all ≤ size
+    → IsFront size all held → IfSome now (λ content. ReadsAt content.bytes at out count) → new ≡ all ++ take count out → IsFront size new held
 front-next None now all out new size at count same place within front reads n = tt
-front-next (Some bytes) now all out new size at count same place within front reads n =
+front-next (Some bytes) None all out new size at count same place within front reads n = cc
+front-next (Some bytes) (Some content) all out new size at count same place within front reads n =
     let there : ReadsAt bytes at out count = subst (λ (b : Option (List ℕ)). IfSome b (λ bs. ReadsAt bs at out count)) same reads in
     (front.0, next-of bytes all out new count front.1 (omega (arith, within, front.0)) (subst (λ (m : ℕ). ReadsAt bytes m out count) place there) n)

@@ -17,7 +17,7 @@ use Rattle.ledger_model.specs.declared.script.Request.{Request}
 use Rattle.ledger_model.specs.State as state
 use Rattle.ledger_model.specs.State.{all_changed, draft_of}
 use Rattle.ledger_model.specs.Views.{latest, latest_from}
-use Rattle.ledger_model.specs.Run.{Progress, Effect, absent_table, first_absent, or_else, recorded, rows_in, selected, table_in, table_now, tables_now, unless, views_of}
+use Rattle.ledger_model.specs.Run.{unread, unread_result, Progress, Effect, absent_table, first_absent, or_else, recorded, rows_in, selected, table_in, table_now, tables_now, unless, views_of}
 use Rattle.ledger_core.specs.declared.catalog.Catalog.{Catalog}
 use Rattle.ledger_core.specs.declared.stopped.Stopped.{Stopped}
 use Rattle.ledger_core.specs.declared.stopped.Stopped.TheVariants as stopped
@@ -63,7 +63,7 @@ first-absent-is s p (x ∷ xs) = ap₂ or_else (absent-is s p (table_in x.from))
 
 -- rows are answered, and nothing is changed
 abbrev answer_alone : List Value → Effect
-answer_alone rows = record { rows = rows; schema = []; log = []; made = 0 }
+answer_alone rows = record { rows = rows; schema = []; log = []; made = 0; footprint = [] }
 
 abbrev effect_by : Result (List Value) Refusal → Result Effect Refusal
 effect_by (Ok rows) = Ok (answer_alone rows)
@@ -94,10 +94,11 @@ recorded-by s c p r params select from answer lists params_are is =
 -- a SELECT adds nothing but what was said
 pub selected-done : (s : state.State) (c : Catalog) (p q : Progress) (r : Request) (params : List Value) (select : Select) (from : FromClause) (rows : List Value)
     → Lists s c → params ≡ r.params → answer_in (tables_in c p) (latest_from c.documents p.log) params select from ≡ Ok rows
-    → q.said ≡ said_more p.said r rows → q.schema ≡ p.schema → q.log ≡ p.log → q.made ≡ p.made → recorded p r (selected s p r.params select from) ≡ Ok q
+    → q.said ≡ said_more p.said r rows → q.schema ≡ p.schema → q.log ≡ p.log → q.made ≡ p.made
+    → unread_result (recorded p r (selected s p r.params select from)) ≡ Ok (unread q)
 selected-done s c p q r params select from rows lists params_are is said schema log made =
     let same : q.made ≡ p.made + 0 = omega arith in
-    recorded-by s c p r params select from (Ok rows) lists params_are is
+    ap unread_result (recorded-by s c p r params select from (Ok rows) lists params_are is)
     ∙ recorded-is p q r (answer_alone rows) said (schema ∙ sym (append-nil p.schema)) (log ∙ sym (append-nil p.log)) same
 
 -- and it is refused for the first table that isn't active

@@ -1,64 +1,75 @@
--- What the calls of a store keep of its synced length, where the store tells it with its bytes.
-use Rattle.std.proofs.Common.{◌≡◌, ℕ, min, inl, inr, List, ◌++◌, take, refl, sym, subst, Option, Some, None, Result, Ok, Err}
-use Rattle.std.specs.Prelude.{option_map, IsSome}
+-- What the calls of a store do to the bytes that it tells, and when all of them are synced.
+use Rattle.std.proofs.Common.{◌≡◌, ◌∙◌, ℕ, ◌⊎◌, inl, inr, List, ◌++◌, length, take, append-nil, refl, sym, ap, subst, Option, Some, None, Result, Ok, Err}
+use Rattle.std.proofs.Math.Seq.{take-length}
+use Rattle.std.specs.Prelude.{option_map, IfSome}
+use Rattle.outside.specs.Store.{Content, AppendLeaves, CutLeaves, SyncLeaves, appended, cut_to, lowered, synced_whole}
 use Rattle.outside.specs.declared.traits.OutFault.{OutFault}
 use Rattle.outside.specs.declared.traits.OutFault.TheVariants.{Failed, OutOfMemory}
-use Rattle.outside.specs.Store.{AppendLeaves, CutLeaves, CutSynced, SyncSynced}
-use Rattle.ledger_claims.specs.Stores.{IsSynced}
-use Rattle.ledger_core.specs.Tails.{AllSynced, SyncsAll, TellsSynced}
+use Rattle.ledger_core.specs.Tails.{MayBeCut}
 
--- other bytes, and a synced length that is told where it was told
-pub tells_mapped : (f : List ℕ → List ℕ) (held now : Option (List ℕ)) (synced later : Option ℕ) → now ≡ option_map f held → (IsSome synced → IsSome later)
-    → TellsSynced held synced → TellsSynced now later
-tells_mapped f None now synced later e more h = subst (λ (x : Option (List ℕ)). TellsSynced x later) (sym e) tt
-tells_mapped f (Some bytes) now synced later e more h = subst (λ (x : Option (List ℕ)). TellsSynced x later) (sym e) (more h)
+-- the bytes, where they are told
+abbrev pub bytes_of : Option Content → Option (List ℕ)
+bytes_of content = option_map (λ (c : Content). c.bytes) content
 
--- the bytes as before
-tells_kept : (held now : Option (List ℕ)) (synced later : Option ℕ) → now ≡ held → (IsSome synced → IsSome later) → TellsSynced held synced → TellsSynced now later
-tells_kept None now synced later e more h = subst (λ (x : Option (List ℕ)). TellsSynced x later) (sym e) tt
-tells_kept (Some bytes) now synced later e more h = subst (λ (x : Option (List ℕ)). TellsSynced x later) (sym e) (more h)
+-- a change of the content that changes the bytes so
+mapped : (change : Content → Content) (f : List ℕ → List ℕ) (before now : Option Content) → ((c : Content) → (change c).bytes ≡ f c.bytes)
+    → now ≡ option_map change before → bytes_of now ≡ option_map f (bytes_of before)
+mapped change f None now does e = ap bytes_of e
+mapped change f (Some c) now does e = ap bytes_of e ∙ ap Some (does c)
 
-same_told : (synced later : Option ℕ) → later ≡ synced → IsSome synced → IsSome later
-same_told synced later e h = subst (λ (x : Option ℕ). IsSome x) (sym e) h
+-- ---- the bytes after a call
 
-least_told : (size : ℕ) (synced later : Option ℕ) → later ≡ option_map (λ n. min n size) synced → IsSome synced → IsSome later
-least_told size None later e h = cc
-least_told size (Some n) later e h = subst (λ (x : Option ℕ). IsSome x) (sym e) refl
+pub appended_bytes : (piece : List ℕ) (before now : Option Content) → now ≡ option_map (λ c. appended c piece) before
+    → bytes_of now ≡ option_map (λ bytes. bytes ++ piece) (bytes_of before)
+appended_bytes piece before now e = mapped (λ c. appended c piece) (λ bytes. bytes ++ piece) before now (λ c. refl) e
 
--- all bytes synced
-pub tells_synced : (held : Option (List ℕ)) (synced later : Option ℕ) → AllSynced synced held later → TellsSynced held synced → TellsSynced held later
-tells_synced None synced later all h = tt
-tells_synced (Some bytes) None later all h = cc
-tells_synced (Some bytes) (Some n) later all h = subst (λ (x : Option ℕ). IsSome x) (sym all) refl
+pub cut_bytes : (size : ℕ) (before now : Option Content) → now ≡ option_map (λ c. cut_to c size) before
+    → bytes_of now ≡ option_map (take size) (bytes_of before)
+cut_bytes size before now e = mapped (λ c. cut_to c size) (take size) before now (λ c. refl) e
 
--- ---- the calls of a store
+same_bytes : (bytes : Option (List ℕ)) → option_map (λ (bs : List ℕ). bs) bytes ≡ bytes
+same_bytes None = refl
+same_bytes (Some bs) = refl
 
-pub tells_cut : {T : Type 0} (r : Result T OutFault) (size : ℕ) (held now : Option (List ℕ)) (synced later : Option ℕ) → CutLeaves r held now size
-    → CutSynced r synced later size → TellsSynced held synced → TellsSynced now later
-tells_cut (Ok x) size held now synced later bytes told h = tells_mapped (take size) held now synced later bytes (least_told size synced later told) h
-tells_cut (Err Failed) size held now synced later (inl same) told h = tells_kept held now synced later same (least_told size synced later told) h
-tells_cut (Err Failed) size held now synced later (inr cut) told h = tells_mapped (take size) held now synced later cut (least_told size synced later told) h
-tells_cut (Err OutOfMemory) size held now synced later bytes told h = tells_kept held now synced later bytes (same_told synced later told) h
+pub lowered_bytes : (size : ℕ) (before now : Option Content) → now ≡ option_map (λ c. lowered c size) before → bytes_of now ≡ bytes_of before
+lowered_bytes size before now e = mapped (λ c. lowered c size) (λ bytes. bytes) before now (λ c. refl) e ∙ same_bytes (bytes_of before)
 
-pub tells_append : {T : Type 0} (r : Result T OutFault) (piece : List ℕ) (held now : Option (List ℕ)) (synced later : Option ℕ) → AppendLeaves r held now piece
-    → later ≡ synced → TellsSynced held synced → TellsSynced now later
-tells_append (Ok x) piece held now synced later bytes told h = tells_mapped (λ bs. bs ++ piece) held now synced later bytes (same_told synced later told) h
-tells_append (Err Failed) piece held now synced later bytes told h =
-    tells_mapped (λ bs. bs ++ take bytes.0 piece) held now synced later bytes.1 (same_told synced later told) h
-tells_append (Err OutOfMemory) piece held now synced later bytes told h = tells_kept held now synced later bytes (same_told synced later told) h
+pub synced_bytes : (before now : Option Content) → now ≡ option_map synced_whole before → bytes_of now ≡ bytes_of before
+synced_bytes before now e = mapped synced_whole (λ bytes. bytes) before now (λ c. refl) e ∙ same_bytes (bytes_of before)
 
-pub tells_sync : {T : Type 0} (r : Result T OutFault) (held now : Option (List ℕ)) (synced later : Option ℕ) → now ≡ held → SyncSynced r held synced later
-    → TellsSynced held synced → TellsSynced now later
-tells_sync (Ok x) held now synced later bytes told h = subst (λ (x : Option (List ℕ)). TellsSynced x later) (sym bytes) (tells_synced held synced later told h)
-tells_sync (Err fault) held now synced later bytes told h = tells_kept held now synced later bytes (same_told synced later told) h
+-- ---- the calls, by their answer
 
--- other bytes, all of them synced
-pub syncs_all : (f : List ℕ → List ℕ) (held now : Option (List ℕ)) (synced later : Option ℕ) → now ≡ option_map f held → AllSynced synced now later
-    → SyncsAll held synced now later
-syncs_all f None now synced later e all h = subst (λ (x : Option (List ℕ)). IsSynced x later) (sym e) tt
-syncs_all f (Some bytes) now None later e all h = cc
-syncs_all f (Some bytes) now (Some n) later e all h = all
+pub sync_keeps : {T : Type 0} (r : Result T OutFault) (before now : Option Content) → SyncLeaves r before now → bytes_of now ≡ bytes_of before
+sync_keeps (Ok x) before now e = synced_bytes before now e
+sync_keeps (Err fault) before now e = ap bytes_of e
 
-pub tells_all : (held : Option (List ℕ)) (synced : Option ℕ) → IsSynced held synced → TellsSynced held synced
-tells_all None synced h = tt
-tells_all (Some bytes) synced h = subst (λ (x : Option ℕ). IsSome x) (sym h) refl
+pub cut_may : {T : Type 0} (r : Result T OutFault) (size : ℕ) (before now : Option Content) → CutLeaves r before now size
+    → MayBeCut (bytes_of before) (bytes_of now) size
+cut_may (Ok x) size before now e = inr (cut_bytes size before now e)
+cut_may (Err Failed) size before now (inl e) = inl (lowered_bytes size before now e)
+cut_may (Err Failed) size before now (inr e) = inr (cut_bytes size before now e)
+cut_may (Err OutOfMemory) size before now e = inl (ap bytes_of e)
+
+pub may_then : (size : ℕ) (before between now : Option (List ℕ)) → MayBeCut before between size → now ≡ between → MayBeCut before now size
+may_then size before between now (inl e) same = inl (same ∙ e)
+may_then size before between now (inr e) same = inr (same ∙ e)
+
+nothing_added : (piece : List ℕ) (bytes : Option (List ℕ)) → bytes ≡ option_map (λ held. held ++ take 0 piece) bytes
+nothing_added piece None = refl
+nothing_added piece (Some bs) = ap Some (sym (append-nil bs))
+
+-- a part of the piece was added, perhaps none of it or all
+pub append_part : {T : Type 0} (r : Result T OutFault) (piece : List ℕ) (before now : Option Content) → AppendLeaves r before now piece
+    → (kept : ℕ) × (bytes_of now ≡ option_map (λ held. held ++ take kept piece) (bytes_of before))
+append_part (Ok x) piece before now e = (length piece, simp take-length (appended_bytes piece before now e))
+append_part (Err Failed) piece before now (kept, e) = (kept, appended_bytes (take kept piece) before now e)
+append_part (Err OutOfMemory) piece before now e = (0, ap bytes_of e ∙ nothing_added piece (bytes_of before))
+
+pub part_then : (piece : List ℕ) (before between now : Option (List ℕ)) → (kept : ℕ) × (between ≡ option_map (λ held. held ++ take kept piece) before)
+    → now ≡ between → (kept : ℕ) × (now ≡ option_map (λ held. held ++ take kept piece) before)
+part_then piece before between now (kept, e) same = (kept, same ∙ e)
+
+-- all bytes are synced after a sync
+pub all_synced : (before now : Option Content) → now ≡ option_map synced_whole before → IfSome now (λ content. content.synced ≡ length content.bytes)
+all_synced None now e = subst (λ (c : Option Content). IfSome c (λ content. content.synced ≡ length content.bytes)) (sym e) tt
+all_synced (Some c) now e = subst (λ (x : Option Content). IfSome x (λ content. content.synced ≡ length content.bytes)) (sym e) refl

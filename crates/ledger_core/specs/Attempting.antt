@@ -9,9 +9,10 @@ use Rattle.ledger_model.specs.declared.outcome.Outcome.TheVariants.{Committed, S
 use Rattle.ledger_model.specs.Run.{Begun}
 use Rattle.ledger_model.specs.Making.{block_of}
 use Rattle.ledger_claims.specs.Attempts.{Standing}
-use Rattle.ledger_claims.specs.Stores.{Holding}
+use Rattle.ledger_claims.specs.Stores.{Holding, IsSynced}
+use Rattle.outside.specs.Told.{StoreTold, held}
 use Rattle.ledger_core.specs.declared.transaction.Transaction.{Transaction}
-use Rattle.ledger_core.specs.Tails.{MayHoldPart, SyncsAll, joined}
+use Rattle.ledger_core.specs.Tails.{MayHoldPart, joined}
 use Rattle.ledger_core.specs.Transactions.{begun_of, progress_of}
 
 -- one number more was drawn
@@ -45,6 +46,6 @@ CommitLeaves blocks b (StoreFault id count) before after = MayHoldPart blocks b 
 CommitLeaves blocks b OutOfMemory before after = MayHoldPart blocks b before after
 CommitLeaves blocks b other before after = after ≡ before
 
--- the store holds the lines of the blocks and nothing else, all synced where it told its synced length before
-abbrev pub IsKept : List Block → Option (List ℕ) → Option ℕ → Option (List ℕ) → Option ℕ → Type 0
-IsKept blocks held_before synced_before held synced = Holding blocks held × SyncsAll held_before synced_before held synced
+-- the store holds the lines of the blocks and nothing else, all of them synced
+abbrev pub IsKept : List Block → StoreTold → Type 0
+IsKept blocks told = Holding blocks (held told) × IsSynced told

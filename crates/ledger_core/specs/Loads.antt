@@ -2,6 +2,7 @@
 use Rattle.std.specs.Prelude.{◌≡◌, ℕ, Bool, false, ◌↔◌, List, [], Option, IfSome}
 use Rattle.ledger_model.specs.declared.block.Block.{Block}
 use Rattle.ledger_model.specs.Recovered.{IsJournal, IsDamaged}
+use Rattle.outside.specs.Told.{StoreTold, held}
 use Rattle.outside.specs.declared.traits.OutFault.{OutFault}
 use Rattle.outside.specs.declared.traits.OutFault.TheVariants as out
 use Rattle.journal_text.specs.declared.journal.JournalFault.{JournalFault}
@@ -20,10 +21,10 @@ IsLoaded held blocks marked = IfSome held (λ bytes. IsRead bytes blocks marked)
 
 -- The first damaged line was read in the store's bytes; or the store failed in its last call and then had failed so often; or
 -- memory was wanted. But for the second it had not failed.
-abbrev pub IsCause : LoadCause → Option (List ℕ) → ℕ → ℕ → Bool → Type 0
-IsCause (cause.Damaged sequence kind) held before after last_failed = IfSome held (λ bytes. IsDamaged bytes sequence kind) × (after ≡ before)
-IsCause (cause.StoreFault count) held before after last_failed = IsStoreFault count before after last_failed
-IsCause cause.OutOfMemory held before after last_failed = after ≡ before
+abbrev pub IsCause : LoadCause → StoreTold → StoreTold → Type 0
+IsCause (cause.Damaged sequence kind) before after = IfSome (held before) (λ bytes. IsDamaged bytes sequence kind) × (after.faults ≡ before.faults)
+IsCause (cause.StoreFault count) before after = IsStoreFault count before after
+IsCause cause.OutOfMemory before after = after.faults ≡ before.faults
 
 -- the journal's fault as the cause of the load's
 abbrev pub cause_of : JournalFault → LoadCause

@@ -29,4 +29,4 @@ creates (Create name id) = true
 creates _ = false
 
 abbrev pub cause_for : List Draft → Value → Option Refusal
-cause_for log v = not_stored (record { said = []; schema = []; log = log; made = 0 }) v
+cause_for log v = not_stored (record { said = []; schema = []; log = log; made = 0; footprint = [] }) v

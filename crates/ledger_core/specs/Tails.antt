@@ -1,13 +1,12 @@
 -- The tail of a journal: the blocks that its store has taken, the numbers that its transactions have, and what stands behind
 -- the lines of the blocks in the store. A store keeps the journal as the lines of its blocks, one behind another.
-use Rattle.std.specs.Prelude.{◌≡◌, ◌⊎◌, ℕ, Bool, false, refl, List, [], ◌∷◌, ◌++◌, length, take, Option, Some, IfSome, option_map, IsSome, if◌then◌else◌}
+use Rattle.std.specs.Prelude.{◌≡◌, ◌⊎◌, ℕ, Bool, false, refl, List, [], ◌∷◌, ◌++◌, length, take, Option, IfSome, option_map, if◌then◌else◌}
 use Rattle.std.specs.Coded.{Coded, code_by, coded×, coded_ℕ, coded_bool, coded_list}
 use Rattle.ledger_model.specs.declared.block.Block.{Block}
 use Rattle.ledger_model.specs.contracts.block.Block as block
 use Rattle.ledger_model.specs.Journal.{line, journal_bytes}
 use Rattle.ledger_model.specs.State.{state}
 use Rattle.ledger_claims.specs.Attempts.{Standing, IsStanding, HoldsBehind}
-use Rattle.ledger_claims.specs.Stores.{IsSynced}
 use Rattle.ledger_core.specs.declared.catalog.Catalog.{Catalog}
 use Rattle.ledger_core.specs.Catalogs.{Lists}
 
@@ -46,18 +45,6 @@ pub record IsTail (held : Option (List ℕ)) (standing : Standing) (marked : Boo
 -- a catalog that is there lists the state of the blocks
 abbrev pub IsListed : List Block → Option Catalog → Type 0
 IsListed blocks catalog = IfSome catalog (λ listed. Lists (state blocks) listed)
-
--- where the store told its synced length before and tells its bytes, all of them are synced now
-abbrev pub AllSynced : Option ℕ → Option (List ℕ) → Option ℕ → Type 0
-AllSynced before held now = IfSome before (λ _. IfSome held (λ bytes. now ≡ Some (length bytes)))
-
--- where the store tells its bytes, it tells its synced length
-abbrev pub TellsSynced : Option (List ℕ) → Option ℕ → Type 0
-TellsSynced held synced = IfSome held (λ _. IsSome synced)
-
--- where the store told its synced length before with its bytes, all its bytes are synced now
-abbrev pub SyncsAll : Option (List ℕ) → Option ℕ → Option (List ℕ) → Option ℕ → Type 0
-SyncsAll held_before synced_before held synced = TellsSynced held_before synced_before → IsSynced held synced
 
 -- the bytes without what is marked to be cut
 abbrev pub cleared : Bool → ℕ → List ℕ → List ℕ

@@ -1,5 +1,5 @@
 -- What a transaction in memory stands for, and how its statements end.
-use Rattle.std.specs.Prelude.{◌≡◌, ℕ, List, Option, Some, None, option_map, Result, Ok, Err}
+use Rattle.std.specs.Prelude.{◌≡◌, ℕ, List, [], Option, Some, None, option_map, Result, Ok, Err}
 use Rattle.ql_types.specs.declared.TableId.{TableId}
 use Rattle.pql_model.specs.declared.statement.Statement.{Statement}
 use Rattle.ledger_model.specs.declared.block.Schema.{Schema}
@@ -21,8 +21,9 @@ use Rattle.ledger_core.specs.declared.transaction.Ran.TheVariants as end
 abbrev pub begun_of : Transaction → Begun
 begun_of t = record { mask = t.mask.bits; number = t.number }
 
+-- but for what was read
 abbrev pub progress_of : Transaction → Progress
-progress_of t = record { said = t.said; schema = t.schema; log = t.log; made = t.made }
+progress_of t = record { said = t.said; schema = t.schema; log = t.log; made = t.made; footprint = [] }
 
 -- the tables of the catalog, the transaction's changes counted
 abbrev pub tables_in : Catalog → Progress → List state.Table

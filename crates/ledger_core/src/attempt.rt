@@ -2,12 +2,13 @@
 ghost use Rattle.std.specs.Prelude.{◌≡◌, ◌≤◌, ◌<◌, ◌-◌, ◌^◌, ◌⊎◌, true, false, length, IfOk, OnOk, OnErr, IfErr, IfSome, IsTrue, MatchOption};
 ghost use Rattle.ion_values.specs.Time.{is_time};
 ghost use Rattle.ledger_model.specs.State.{state};
-ghost use Rattle.ledger_model.specs.Run.{run};
+ghost use Rattle.ledger_model.specs.Run.{run, unread_ran};
 ghost use Rattle.ledger_model.specs.Whole.{place_fits};
 ghost use Rattle.ledger_claims.specs.Attempts.{Attempted, TellsFaults, LeavesStore, IsStanding, IsNext};
 ghost use Rattle.ledger_claims.specs.Stores.{Holding, IsSynced};
+ghost use Rattle.outside.specs.Told.{held};
 ghost use Rattle.ledger_core.specs.Faults.{IsSettleFault};
-ghost use Rattle.ledger_core.specs.Tails.{MayHoldPart, SyncsAll, TellsSynced, joined};
+ghost use Rattle.ledger_core.specs.Tails.{MayHoldPart, joined};
 ghost use Rattle.ledger_core.specs.Transactions.{IsBegun, ran_of};
 ghost use Rattle.ledger_core.specs.Attempting.{Commits, CommitLeaves, IsKept, begun_last, drawn, next_block};
 
@@ -29,14 +30,15 @@ impl<S: JournalStore, C> Tail<S, C> {
     /// says so. Its block's time is this one, or the last block's where that is later.
     pub fn attempt(&mut self, alloc: Global, job: &Job, place: Place, time: IonTime) -> Outcome
         ensures attempted { Attempted self.old.standing time (record { place = place; job = job.now }) result self.new.standing }
-        ensures faults { TellsFaults (S.fault_count self.old.store) result (S.fault_count self.new.store) }
-        ensures store { LeavesStore self.old.standing time (record { place = place; job = job.now }) result self.new.standing (S.bytes self.old.store) (S.bytes self.new.store) }
+        ensures faults { TellsFaults (S.told self.old.store).faults result (S.told self.new.store).faults }
+        ensures store { LeavesStore self.old.standing time (record { place = place; job = job.now }) result
+            self.new.standing (held (S.told self.old.store)) (held (S.told self.new.store)) }
         ensures stands { IsStanding self.new.standing }
-        ensures clean { (self.new.marked ≡ true) ⊎ Holding self.new.standing.blocks (S.bytes self.new.store) }
-        ensures tells { TellsSynced (S.bytes self.old.store) (S.synced self.old.store) → TellsSynced (S.bytes self.new.store) (S.synced self.new.store) }
-        ensures synced { TellsSynced (S.bytes self.old.store) (S.synced self.old.store) → (self.old.marked ≡ false → IsSynced (S.bytes self.old.store) (S.synced self.old.store)) → self.new.marked ≡ false → IsSynced (S.bytes self.new.store) (S.synced self.new.store) }
+        ensures clean { (self.new.marked ≡ true) ⊎ Holding self.new.standing.blocks (held (S.told self.new.store)) }
+        ensures synced { (self.old.marked ≡ false → IsSynced (S.told self.old.store)) → self.new.marked ≡ false
+            → IsSynced (S.told self.new.store) }
         ensures clock { self.new.clock ≡ self.old.clock }
-        ensures later { S.fault_count self.old.store ≤ S.fault_count self.new.store }
+        ensures later { (S.told self.old.store).faults ≤ (S.told self.new.store).faults }
     {
         let Some(tx) = self.draw() else {
             return Outcome::IdsSpent { last: u64::MAX };
@@ -68,7 +70,7 @@ impl<S: JournalStore, C> Tail<S, C> {
         ensures mask { IfSome result (λ _. self.old.standing.mask < 2 ^ 128) }
         ensures id { MatchOption result (self.old.standing.last ≡ 2 ^ 64 - 1) (λ tx. IsNext self.old.standing tx) }
         ensures stands { IsStanding self.old.standing }
-        ensures clean { (self.old.marked ≡ true) ⊎ Holding self.old.standing.blocks (S.bytes self.old.store) }
+        ensures clean { (self.old.marked ≡ true) ⊎ Holding self.old.standing.blocks (held (S.told self.old.store)) }
     {
         self.last = self.last.checked_add(1)?;
         Some(TxId {
@@ -78,7 +80,7 @@ impl<S: JournalStore, C> Tail<S, C> {
 
     /// Runs these statements as the transaction of the last number.
     fn run_last(&mut self, alloc: Global, asked: &[Request]) -> Result<Ran, OutOfMemory>
-        ensures ran { IfOk result (λ ran. ran_of ran ≡ run (begun_last self.old.standing) (state self.old.standing.blocks) asked.now) }
+        ensures ran { IfOk result (λ ran. ran_of ran ≡ unread_ran (run (begun_last self.old.standing) (state self.old.standing.blocks) asked.now)) }
         ensures begun { IfOk result (λ ran. IsBegun ran (begun_last self.old.standing)) }
         ensures same { self.new ≡ self.old }
     {
@@ -102,12 +104,14 @@ impl<S: JournalStore, C> Tail<S, C> {
     ) -> Outcome
         requires { length self.old.standing.blocks < 2 ^ 32 - 1 → IsStanding (joined self.old.standing (next_block transaction self.old.standing.blocks place time)) }
         ensures commits { Commits tx self.old.standing (next_block transaction self.old.standing.blocks place time) result self.new.standing }
-        ensures faults { TellsFaults (S.fault_count self.old.store) result (S.fault_count self.new.store) }
-        ensures leaves { CommitLeaves self.old.standing.blocks (next_block transaction self.old.standing.blocks place time) result (S.bytes self.old.store) (S.bytes self.new.store) }
-        ensures ended { (self.new ≡ self.old) ⊎ (self.new.marked ≡ true) ⊎ IsKept self.new.standing.blocks (S.bytes self.old.store) (S.synced self.old.store) (S.bytes self.new.store) (S.synced self.new.store) }
-        ensures tells { TellsSynced (S.bytes self.old.store) (S.synced self.old.store) → TellsSynced (S.bytes self.new.store) (S.synced self.new.store) }
+        ensures faults { TellsFaults (S.told self.old.store).faults result (S.told self.new.store).faults }
+        ensures leaves { CommitLeaves self.old.standing.blocks
+            (next_block transaction self.old.standing.blocks place time) result (held (S.told self.old.store))
+            (held (S.told self.new.store)) }
+        ensures ended { (self.new ≡ self.old) ⊎ (self.new.marked ≡ true)
+            ⊎ IsKept self.new.standing.blocks (S.told self.new.store) }
         ensures clock { self.new.clock ≡ self.old.clock }
-        ensures later { S.fault_count self.old.store ≤ S.fault_count self.new.store }
+        ensures later { (S.told self.old.store).faults ≤ (S.told self.new.store).faults }
     {
         let block = self.blocks().len();
         if block >= MOST_BLOCKS {
@@ -132,14 +136,15 @@ impl<S: JournalStore, C> Tail<S, C> {
         ensures standing { OnOk result (self.new.standing ≡ joined self.old.standing (next_block transaction self.old.standing.blocks place time)) }
         ensures same { OnErr result (self.new.standing ≡ self.old.standing) }
         ensures clock { self.new.clock ≡ self.old.clock }
-        ensures holds { OnOk result (Holding self.new.standing.blocks (S.bytes self.new.store)) }
-        ensures synced { OnOk result (SyncsAll (S.bytes self.old.store) (S.synced self.old.store) (S.bytes self.new.store) (S.synced self.new.store)) }
-        ensures tells { TellsSynced (S.bytes self.old.store) (S.synced self.old.store) → TellsSynced (S.bytes self.new.store) (S.synced self.new.store) }
-        ensures part { OnErr result (MayHoldPart self.old.standing.blocks (next_block transaction self.old.standing.blocks place time) (S.bytes self.old.store) (S.bytes self.new.store)) }
+        ensures holds { OnOk result (Holding self.new.standing.blocks (held (S.told self.new.store))) }
+        ensures synced { OnOk result (IsSynced (S.told self.new.store)) }
+        ensures part { OnErr result (MayHoldPart self.old.standing.blocks
+            (next_block transaction self.old.standing.blocks place time) (held (S.told self.old.store))
+            (held (S.told self.new.store))) }
         ensures marked { OnErr result ((self.new ≡ self.old) ⊎ (self.new.marked ≡ true)) }
-        ensures later { S.fault_count self.old.store ≤ S.fault_count self.new.store }
-        ensures fine { OnOk result (S.fault_count self.new.store ≡ S.fault_count self.old.store) }
-        ensures fault { IfErr result (λ fault. IsSettleFault fault (S.fault_count self.old.store) (S.fault_count self.new.store) (S.last_failed self.new.store)) }
+        ensures later { (S.told self.old.store).faults ≤ (S.told self.new.store).faults }
+        ensures fine { OnOk result ((S.told self.new.store).faults ≡ (S.told self.old.store).faults) }
+        ensures fault { IfErr result (λ fault. IsSettleFault fault (S.told self.old.store) (S.told self.new.store)) }
     {
         let block = transaction.into_block(alloc, place, time, self.blocks().as_slice())?;
         self.append_block(alloc, block)

@@ -1,7 +1,9 @@
 //! Cutting a store and putting lines behind what it holds.
 ghost use Rattle.std.specs.Prelude.{◌≡◌, ◌≤◌, ◌+◌, ◌++◌, ◌⊎◌, ℕ, true, false, take, length, option_map, IsOk, IfOk, OnOk, OnErr, IfErr, IsErrOf};
 ghost use Rattle.outside.specs.Causes.{HasCause};
-ghost use Rattle.ledger_core.specs.Tails.{AllSynced, MayBeCut, HoldsPart, TellsSynced, cleared};
+ghost use Rattle.outside.specs.Told.{held};
+ghost use Rattle.ledger_claims.specs.Stores.{IsSynced};
+ghost use Rattle.ledger_core.specs.Tails.{MayBeCut, HoldsPart, cleared};
 ghost use Rattle.ledger_core.specs.Faults.{IsSettleFault, told};
 
 use ion_values::OutOfMemory;
@@ -41,17 +43,18 @@ pub(crate) struct Keeper<S> {
 impl<S: JournalStore> Keeper<S> {
     /// Where a cut is marked, cuts the store to the journal's lines and syncs it; else it does nothing.
     pub(crate) fn settle(&mut self) -> Result<(), SettleFault>
-        ensures bytes { OnOk result (S.bytes self.new.store ≡ option_map (cleared self.old.marked self.old.size) (S.bytes self.old.store)) }
-        ensures synced { OnOk result (self.old.marked ≡ true → AllSynced (S.synced self.old.store) (S.bytes self.new.store) (S.synced self.new.store)) }
+        ensures bytes { OnOk result (held (S.told self.new.store)
+            ≡ option_map (cleared self.old.marked self.old.size) (held (S.told self.old.store))) }
+        ensures synced { OnOk result (self.old.marked ≡ true → IsSynced (S.told self.new.store)) }
         ensures settled { OnOk result (self.new.marked ≡ false) }
         ensures untouched { self.old.marked ≡ false → IsOk result × (self.new ≡ self.old) }
-        ensures cut { OnErr result (MayBeCut (S.bytes self.old.store) (S.bytes self.new.store) self.old.size) }
+        ensures cut { OnErr result (MayBeCut (held (S.told self.old.store)) (held (S.told self.new.store))
+            self.old.size) }
         ensures marked { OnErr result (self.new.marked ≡ self.old.marked) }
         ensures size { self.new.size ≡ self.old.size }
-        ensures tells { TellsSynced (S.bytes self.old.store) (S.synced self.old.store) → TellsSynced (S.bytes self.new.store) (S.synced self.new.store) }
-        ensures later { S.fault_count self.old.store ≤ S.fault_count self.new.store }
-        ensures fine { OnOk result (S.fault_count self.new.store ≡ S.fault_count self.old.store) }
-        ensures fault { IfErr result (λ fault. IsSettleFault fault (S.fault_count self.old.store) (S.fault_count self.new.store) (S.last_failed self.new.store)) }
+        ensures later { (S.told self.old.store).faults ≤ (S.told self.new.store).faults }
+        ensures fine { OnOk result ((S.told self.new.store).faults ≡ (S.told self.old.store).faults) }
+        ensures fault { IfErr result (λ fault. IsSettleFault fault (S.told self.old.store) (S.told self.new.store)) }
     {
         if self.marked {
             cut_back(&mut self.store, self.size)?;
@@ -63,17 +66,20 @@ impl<S: JournalStore> Keeper<S> {
     /// Puts a line behind the journal's lines, and syncs it. Where a cut is marked, it is made before. After a fault of
     /// the store a cut is marked.
     pub(crate) fn keep_line(&mut self, line: &[u8]) -> Result<(), SettleFault>
-        ensures bytes { OnOk result (S.bytes self.new.store ≡ option_map (λ held. cleared self.old.marked self.old.size held ++ line.now) (S.bytes self.old.store)) }
-        ensures synced { OnOk result (AllSynced (S.synced self.old.store) (S.bytes self.new.store) (S.synced self.new.store)) }
+        ensures bytes { OnOk result (held (S.told self.new.store)
+            ≡ option_map (λ held. cleared self.old.marked self.old.size held ++ line.now)
+            (held (S.told self.old.store))) }
+        ensures synced { OnOk result (IsSynced (S.told self.new.store)) }
         ensures settled { OnOk result (self.new.marked ≡ false) }
         ensures size { OnOk result (self.new.size ≡ self.old.size + length line.now) }
         ensures same { OnErr result (self.new.size ≡ self.old.size) }
-        ensures part { OnErr result ((S.bytes self.new.store ≡ S.bytes self.old.store) ⊎ HoldsPart self.old.marked self.old.size line.now (S.bytes self.old.store) (S.bytes self.new.store)) }
+        ensures part { OnErr result ((held (S.told self.new.store) ≡ held (S.told self.old.store))
+            ⊎ HoldsPart self.old.marked self.old.size line.now (held (S.told self.old.store))
+            (held (S.told self.new.store))) }
         ensures marked { IfErr result (λ fault. ((fault ≡ SettleFault.OutOfMemory) × (self.new ≡ self.old)) ⊎ (self.new.marked ≡ true)) }
-        ensures tells { TellsSynced (S.bytes self.old.store) (S.synced self.old.store) → TellsSynced (S.bytes self.new.store) (S.synced self.new.store) }
-        ensures later { S.fault_count self.old.store ≤ S.fault_count self.new.store }
-        ensures fine { OnOk result (S.fault_count self.new.store ≡ S.fault_count self.old.store) }
-        ensures fault { IfErr result (λ fault. IsSettleFault fault (S.fault_count self.old.store) (S.fault_count self.new.store) (S.last_failed self.new.store)) }
+        ensures later { (S.told self.old.store).faults ≤ (S.told self.new.store).faults }
+        ensures fine { OnOk result ((S.told self.new.store).faults ≡ (S.told self.old.store).faults) }
+        ensures fault { IfErr result (λ fault. IsSettleFault fault (S.told self.old.store) (S.told self.new.store)) }
     {
         let size = grown(self.size, line)?;
         self.settle()?;
@@ -97,7 +103,7 @@ fn grown(size: u64, line: &[u8]) -> Result<u64, OutOfMemory>
 
 /// The store's fault, with how often the store has failed.
 pub(crate) fn told<S: JournalStore>(store: &S, fault: OutFault) -> SettleFault
-    ensures { result ≡ told fault (S.fault_count store.now) }
+    ensures { result ≡ told fault (S.told store.now).faults }
 {
     match fault {
         OutFault::Failed => SettleFault::StoreFault {
@@ -109,13 +115,12 @@ pub(crate) fn told<S: JournalStore>(store: &S, fault: OutFault) -> SettleFault
 
 /// Cuts the store to this length, and syncs it.
 fn cut_back<S: JournalStore>(store: &mut S, size: u64) -> Result<(), SettleFault>
-    ensures bytes { OnOk result (S.bytes store.new ≡ option_map (take size) (S.bytes store.old)) }
-    ensures synced { OnOk result (AllSynced (S.synced store.old) (S.bytes store.new) (S.synced store.new)) }
-    ensures cut { MayBeCut (S.bytes store.old) (S.bytes store.new) size }
-    ensures tells { TellsSynced (S.bytes store.old) (S.synced store.old) → TellsSynced (S.bytes store.new) (S.synced store.new) }
-    ensures later { S.fault_count store.old ≤ S.fault_count store.new }
-    ensures fine { OnOk result (S.fault_count store.new ≡ S.fault_count store.old) }
-    ensures fault { IfErr result (λ fault. IsSettleFault fault (S.fault_count store.old) (S.fault_count store.new) (S.last_failed store.new)) }
+    ensures bytes { OnOk result (held (S.told store.new) ≡ option_map (take size) (held (S.told store.old))) }
+    ensures synced { OnOk result (IsSynced (S.told store.new)) }
+    ensures cut { MayBeCut (held (S.told store.old)) (held (S.told store.new)) size }
+    ensures later { (S.told store.old).faults ≤ (S.told store.new).faults }
+    ensures fine { OnOk result ((S.told store.new).faults ≡ (S.told store.old).faults) }
+    ensures fault { IfErr result (λ fault. IsSettleFault fault (S.told store.old) (S.told store.new)) }
 {
     match cut_and_sync(store, size) {
         Ok(()) => Ok(()),
@@ -124,12 +129,11 @@ fn cut_back<S: JournalStore>(store: &mut S, size: u64) -> Result<(), SettleFault
 }
 
 fn cut_and_sync<S: JournalStore>(store: &mut S, size: u64) -> Result<(), OutFault>
-    ensures bytes { OnOk result (S.bytes store.new ≡ option_map (take size) (S.bytes store.old)) }
-    ensures synced { OnOk result (AllSynced (S.synced store.old) (S.bytes store.new) (S.synced store.new)) }
-    ensures cut { MayBeCut (S.bytes store.old) (S.bytes store.new) size }
-    ensures tells { TellsSynced (S.bytes store.old) (S.synced store.old) → TellsSynced (S.bytes store.new) (S.synced store.new) }
-    ensures cause { HasCause (S.fault_count store.old) (S.fault_count store.new) result }
-    ensures last { IsErrOf result OutFault.Failed → S.last_failed store.new ≡ true }
+    ensures bytes { OnOk result (held (S.told store.new) ≡ option_map (take size) (held (S.told store.old))) }
+    ensures synced { OnOk result (IsSynced (S.told store.new)) }
+    ensures cut { MayBeCut (held (S.told store.old)) (held (S.told store.new)) size }
+    ensures cause { HasCause (S.told store.old).faults (S.told store.new).faults result }
+    ensures last { IsErrOf result OutFault.Failed → (S.told store.new).last_failed ≡ true }
 {
     store.cut(size)?;
     store.sync()?;
@@ -138,13 +142,14 @@ fn cut_and_sync<S: JournalStore>(store: &mut S, size: u64) -> Result<(), OutFaul
 
 /// Puts a line behind what the store holds, and syncs it.
 fn put_behind<S: JournalStore>(store: &mut S, line: &[u8]) -> Result<(), SettleFault>
-    ensures bytes { OnOk result (S.bytes store.new ≡ option_map (λ held. held ++ line.now) (S.bytes store.old)) }
-    ensures synced { OnOk result (AllSynced (S.synced store.old) (S.bytes store.new) (S.synced store.new)) }
-    ensures part { (kept : ℕ) × (S.bytes store.new ≡ option_map (λ held. held ++ take kept line.now) (S.bytes store.old)) }
-    ensures tells { TellsSynced (S.bytes store.old) (S.synced store.old) → TellsSynced (S.bytes store.new) (S.synced store.new) }
-    ensures later { S.fault_count store.old ≤ S.fault_count store.new }
-    ensures fine { OnOk result (S.fault_count store.new ≡ S.fault_count store.old) }
-    ensures fault { IfErr result (λ fault. IsSettleFault fault (S.fault_count store.old) (S.fault_count store.new) (S.last_failed store.new)) }
+    ensures bytes { OnOk result (held (S.told store.new)
+        ≡ option_map (λ held. held ++ line.now) (held (S.told store.old))) }
+    ensures synced { OnOk result (IsSynced (S.told store.new)) }
+    ensures part { (kept : ℕ) × (held (S.told store.new)
+        ≡ option_map (λ held. held ++ take kept line.now) (held (S.told store.old))) }
+    ensures later { (S.told store.old).faults ≤ (S.told store.new).faults }
+    ensures fine { OnOk result ((S.told store.new).faults ≡ (S.told store.old).faults) }
+    ensures fault { IfErr result (λ fault. IsSettleFault fault (S.told store.old) (S.told store.new)) }
 {
     match append_and_sync(store, line) {
         Ok(()) => Ok(()),
@@ -153,12 +158,13 @@ fn put_behind<S: JournalStore>(store: &mut S, line: &[u8]) -> Result<(), SettleF
 }
 
 fn append_and_sync<S: JournalStore>(store: &mut S, line: &[u8]) -> Result<(), OutFault>
-    ensures bytes { OnOk result (S.bytes store.new ≡ option_map (λ held. held ++ line.now) (S.bytes store.old)) }
-    ensures synced { OnOk result (AllSynced (S.synced store.old) (S.bytes store.new) (S.synced store.new)) }
-    ensures part { (kept : ℕ) × (S.bytes store.new ≡ option_map (λ held. held ++ take kept line.now) (S.bytes store.old)) }
-    ensures tells { TellsSynced (S.bytes store.old) (S.synced store.old) → TellsSynced (S.bytes store.new) (S.synced store.new) }
-    ensures cause { HasCause (S.fault_count store.old) (S.fault_count store.new) result }
-    ensures last { IsErrOf result OutFault.Failed → S.last_failed store.new ≡ true }
+    ensures bytes { OnOk result (held (S.told store.new)
+        ≡ option_map (λ held. held ++ line.now) (held (S.told store.old))) }
+    ensures synced { OnOk result (IsSynced (S.told store.new)) }
+    ensures part { (kept : ℕ) × (held (S.told store.new)
+        ≡ option_map (λ held. held ++ take kept line.now) (held (S.told store.old))) }
+    ensures cause { HasCause (S.told store.old).faults (S.told store.new).faults result }
+    ensures last { IsErrOf result OutFault.Failed → (S.told store.new).last_failed ≡ true }
 {
     store.append(line)?;
     store.sync()?;

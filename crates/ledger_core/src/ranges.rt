@@ -4,7 +4,7 @@ ghost use Rattle.std.specs.Prelude.{map, IsTrue};
 ghost use Rattle.std.specs.List.{list_all};
 ghost use Rattle.ion_values.specs.Time.{is_time};
 ghost use Rattle.ion_values.specs.Within.{all_true, bytes_within, decimal_within, field_within, int_within, text_within, within};
-ghost use Rattle.ledger_claims.specs.Makes.{IsWithinAll, change_within, content_within, draft_within, said_within};
+ghost use Rattle.made_blocks.specs.Makes.{IsWithinAll, change_within, content_within, draft_within, said_within};
 ghost use Rattle.ledger_core.specs.Ranges.{body_within};
 ghost use Rattle.ledger_core.specs.Transactions.{progress_of};
 
@@ -54,6 +54,7 @@ fn change_is_within(change: &Schema)
         Schema::Create { name, .. } => text_is_within(name),
         Schema::Index { field, .. } => text_is_within(field),
         Schema::Drop { name, .. } => text_is_within(name),
+        Schema::Redact { .. } => {}
     }
 }
 
@@ -70,7 +71,7 @@ fn content_is_within(content: &Content)
     ensures { IsTrue (content_within content.now) }
 {
     match content {
-        Content::Deleted => {}
+        Content::Deleted | Content::Redacted(_) => {}
         Content::Kept(value) => value_is_within(value),
     }
 }

@@ -2,6 +2,7 @@
 ghost use Rattle.std.specs.Prelude.{◌≡◌, ◌<◌, ◌≤◌, ◌^◌, true, ℕ, IfOk, OnOk, IfErr, IfSome, IsErrOf};
 ghost use Rattle.ql_types.specs.Ids.{transaction_in};
 ghost use Rattle.outside.specs.Causes.{HasCause};
+ghost use Rattle.outside.specs.Told.{held};
 ghost use Rattle.journal_text.specs.Reading.{IsFault};
 ghost use Rattle.ledger_claims.specs.Attempts.{IsStanding};
 ghost use Rattle.ledger_claims.specs.Fits.{greatest, mask_of};
@@ -74,14 +75,16 @@ impl<S: JournalStore, C> Tail<S, C> {
         clock: C,
         mask: IdMask,
     ) -> Result<Tail<S, C>, LoadFault<S, C>>
-        ensures journal { IfOk result (λ tail. IsLoaded (S.bytes store) tail.standing.blocks tail.marked) }
+        ensures journal { IfOk result (λ tail. IsLoaded (held (S.told store)) tail.standing.blocks tail.marked) }
         ensures standing { IfOk result (λ tail. IsStanding tail.standing) }
         ensures mask { IfOk result (λ tail. tail.standing.mask ≡ mask_of mask.bits tail.standing.blocks) }
         ensures last { IfOk result (λ tail. tail.standing.last ≡ greatest tail.standing.mask tail.standing.blocks) }
-        ensures store { IfOk result (λ tail. (S.bytes tail.store ≡ S.bytes store) × (S.synced tail.store ≡ S.synced store) × (S.fault_count tail.store ≡ S.fault_count store)) }
+        ensures store { IfOk result (λ tail. ((S.told tail.store).content ≡ (S.told store).content)
+            × ((S.told tail.store).faults ≡ (S.told store).faults)) }
         ensures clock { IfOk result (λ tail. tail.clock ≡ clock) }
-        ensures cause { IfErr result (λ fault. IsCause fault.cause (S.bytes store) (S.fault_count store) (S.fault_count fault.store) (S.last_failed fault.store)) }
-        ensures returned { IfErr result (λ fault. (S.bytes fault.store ≡ S.bytes store) × (S.synced fault.store ≡ S.synced store) × (S.fault_count store ≤ S.fault_count fault.store)) }
+        ensures cause { IfErr result (λ fault. IsCause fault.cause (S.told store) (S.told fault.store)) }
+        ensures returned { IfErr result (λ fault. ((S.told fault.store).content ≡ (S.told store).content)
+            × ((S.told store).faults ≤ (S.told fault.store).faults)) }
         ensures same_clock { IfErr result (λ fault. fault.clock ≡ clock) }
     {
         let mut store = store;
@@ -98,7 +101,7 @@ impl<S: JournalStore, C> Tail<S, C> {
 
 /// The tail of what was loaded from the store.
 fn tail_of<S: JournalStore, C>(store: S, clock: C, loaded: Loaded) -> Tail<S, C>
-    requires read { IsLoaded (S.bytes store) loaded.blocks.list loaded.marked }
+    requires read { IsLoaded (held (S.told store)) loaded.blocks.list loaded.marked }
     requires known { (given : ℕ) × IsKnown given loaded }
     ensures { result ≡ record { store = store; clock = clock; standing = standing_of loaded; marked = loaded.marked } }
 {
@@ -126,13 +129,12 @@ fn tail_of<S: JournalStore, C>(store: S, clock: C, loaded: Loaded) -> Tail<S, C>
 
 /// What the store's journal tells.
 fn load<S: JournalStore>(alloc: Global, store: &mut S, mask: IdMask) -> Result<Loaded, LoadCause>
-    ensures journal { IfOk result (λ loaded. IsLoaded (S.bytes store.old) loaded.blocks.list loaded.marked) }
+    ensures journal { IfOk result (λ loaded. IsLoaded (held (S.told store.old)) loaded.blocks.list loaded.marked) }
     ensures facts { IfOk result (λ loaded. IsKnown mask.bits loaded) }
-    ensures bytes { S.bytes store.new ≡ S.bytes store.old }
-    ensures synced { S.synced store.new ≡ S.synced store.old }
-    ensures later { S.fault_count store.old ≤ S.fault_count store.new }
-    ensures fine { OnOk result (S.fault_count store.new ≡ S.fault_count store.old) }
-    ensures cause { IfErr result (λ cause. IsCause cause (S.bytes store.old) (S.fault_count store.old) (S.fault_count store.new) (S.last_failed store.new)) }
+    ensures content { (S.told store.new).content ≡ (S.told store.old).content }
+    ensures later { (S.told store.old).faults ≤ (S.told store.new).faults }
+    ensures fine { OnOk result ((S.told store.new).faults ≡ (S.told store.old).faults) }
+    ensures cause { IfErr result (λ cause. IsCause cause (S.told store.old) (S.told store.new)) }
 {
     let bytes = match read_stored(alloc, store) {
         Ok(bytes) => bytes,
@@ -143,7 +145,7 @@ fn load<S: JournalStore>(alloc: Global, store: &mut S, mask: IdMask) -> Result<L
 
 /// The store's fault, with how often the store has failed.
 fn stopped<S: JournalStore>(store: &S, fault: OutFault) -> LoadCause
-    ensures { result ≡ cause_told fault (S.fault_count store.now) }
+    ensures { result ≡ cause_told fault (S.told store.now).faults }
 {
     match fault {
         OutFault::Failed => LoadCause::StoreFault {
@@ -155,11 +157,10 @@ fn stopped<S: JournalStore>(store: &S, fault: OutFault) -> LoadCause
 
 /// Reads the store up to the size that it tells, or to its end. Each turn takes at least one byte.
 fn read_stored<S: JournalStore>(alloc: Global, store: &mut S) -> Result<Vec<u8>, OutFault>
-    ensures read { IfOk result (λ all. IfSome (S.bytes store.old) (λ held. all.items ≡ held)) }
-    ensures bytes { S.bytes store.new ≡ S.bytes store.old }
-    ensures synced { S.synced store.new ≡ S.synced store.old }
-    ensures cause { HasCause (S.fault_count store.old) (S.fault_count store.new) result }
-    ensures last { IsErrOf result OutFault.Failed → S.last_failed store.new ≡ true }
+    ensures read { IfOk result (λ all. IfSome (held (S.told store.old)) (λ held. all.items ≡ held)) }
+    ensures content { (S.told store.new).content ≡ (S.told store.old).content }
+    ensures cause { HasCause (S.told store.old).faults (S.told store.new).faults result }
+    ensures last { IsErrOf result OutFault.Failed → (S.told store.new).last_failed ≡ true }
 {
     let size = store.size()?;
     let mut all = Vec::new(alloc);

@@ -10,7 +10,9 @@ use crate::transaction::Transaction;
 use crate::views::{copy_content, copy_draft};
 use block_form::{revision_hash, seal, strand_hash};
 use ion_values::{IonTime, OutOfMemory};
-use ledger_model::{Block, Draft, Drafts, Header, Info, Metadata, Revision, Revisions, TableIds};
+use ledger_model::{
+    Block, Draft, Drafts, Header, Info, Metadata, Revision, Revisions, TableIds, Told,
+};
 use lists::Sequence;
 use ql_types::{BlockAddress, Hash32, IdMask, Place, StrandId, TxId, id_raw};
 use std::alloc::Global;
@@ -59,7 +61,7 @@ impl Transaction {
         let previous = last_hash(alloc, mask, before)?;
         let info = Info {
             place,
-            said,
+            said: Told::Said(said),
             schema,
             tables,
         };

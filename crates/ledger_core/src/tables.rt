@@ -77,7 +77,7 @@ fn change_one(alloc: Global, tables: &mut Vec<Table>, change: &Schema) -> Result
             })?;
             Ok(())
         }
-        Schema::Index { .. } => Ok(()),
+        Schema::Index { .. } | Schema::Redact { .. } => Ok(()),
         Schema::Drop { table, .. } => {
             drop_table(tables.as_mut_slice(), *table);
             Ok(())

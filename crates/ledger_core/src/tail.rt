@@ -2,10 +2,11 @@
 ghost use Rattle.std.specs.Prelude.{◌≡◌, IfOk, OnErr, OnOk, IfErr, IfSome, ◌≤◌, ◌⊎◌, true, false};
 ghost use Rattle.ledger_model.specs.State.{State, state, after};
 ghost use Rattle.ledger_claims.specs.Attempts.{IsStanding};
-ghost use Rattle.ledger_claims.specs.Stores.{Holding};
+ghost use Rattle.ledger_claims.specs.Stores.{Holding, IsSynced};
+ghost use Rattle.outside.specs.Told.{held};
 ghost use Rattle.ledger_core.specs.Catalogs.{Lists};
 ghost use Rattle.ledger_core.specs.Faults.{IsSettleFault};
-ghost use Rattle.ledger_core.specs.Tails.{AllSynced, IsListed, MayHoldPart, SyncsAll, TellsSynced, joined};
+ghost use Rattle.ledger_core.specs.Tails.{IsListed, MayHoldPart, joined};
 
 use crate::catalog::Catalog;
 use crate::keeping::{Keeper, SettleFault};
@@ -32,6 +33,7 @@ pub struct Tail<S: JournalStore, C> {
 }
 
 impl<S: JournalStore, C> Model for Tail<S, C> {
+    ghost use Rattle.outside.specs.Told.{held};
     ghost use Rattle.ledger_core.specs.Tails.{TailHeld, tail_code, IsTail, IsListed};
 
     ghost Value = { TailHeld S C };
@@ -45,7 +47,7 @@ impl<S: JournalStore, C> Model for Tail<S, C> {
       marked = t.keeper.marked;
     } };
 
-    ghost invariant = { λ t. IsTail (S.bytes t.keeper.store) (record { mask = t.mask.bits; last = t.last; blocks = t.blocks.list }) t.keeper.marked t.keeper.size × IsListed t.blocks.list t.catalog };
+    ghost invariant = { λ t. IsTail (held (S.told t.keeper.store)) (record { mask = t.mask.bits; last = t.last; blocks = t.blocks.list }) t.keeper.marked t.keeper.size × IsListed t.blocks.list t.catalog };
 }
 
 impl<S: JournalStore, C> Tail<S, C> {
@@ -63,16 +65,15 @@ impl<S: JournalStore, C> Tail<S, C> {
         ensures standing { OnOk result (self.new.standing ≡ joined self.old.standing block) }
         ensures same { OnErr result (self.new.standing ≡ self.old.standing) }
         ensures clock { self.new.clock ≡ self.old.clock }
-        ensures holds { OnOk result (Holding self.new.standing.blocks (S.bytes self.new.store)) }
-        ensures synced { OnOk result (AllSynced (S.synced self.old.store) (S.bytes self.new.store) (S.synced self.new.store)) }
-        ensures all_synced { OnOk result (SyncsAll (S.bytes self.old.store) (S.synced self.old.store) (S.bytes self.new.store) (S.synced self.new.store)) }
-        ensures tells { TellsSynced (S.bytes self.old.store) (S.synced self.old.store) → TellsSynced (S.bytes self.new.store) (S.synced self.new.store) }
+        ensures holds { OnOk result (Holding self.new.standing.blocks (held (S.told self.new.store))) }
+        ensures synced { OnOk result (IsSynced (S.told self.new.store)) }
         ensures settled { OnOk result (self.new.marked ≡ false) }
-        ensures part { OnErr result (MayHoldPart self.old.standing.blocks block (S.bytes self.old.store) (S.bytes self.new.store)) }
+        ensures part { OnErr result (MayHoldPart self.old.standing.blocks block (held (S.told self.old.store))
+            (held (S.told self.new.store))) }
         ensures marked { IfErr result (λ fault. ((fault ≡ SettleFault.OutOfMemory) × (self.new ≡ self.old)) ⊎ (self.new.marked ≡ true)) }
-        ensures later { S.fault_count self.old.store ≤ S.fault_count self.new.store }
-        ensures fine { OnOk result (S.fault_count self.new.store ≡ S.fault_count self.old.store) }
-        ensures fault { IfErr result (λ fault. IsSettleFault fault (S.fault_count self.old.store) (S.fault_count self.new.store) (S.last_failed self.new.store)) }
+        ensures later { (S.told self.old.store).faults ≤ (S.told self.new.store).faults }
+        ensures fine { OnOk result ((S.told self.new.store).faults ≡ (S.told self.old.store).faults) }
+        ensures fault { IfErr result (λ fault. IsSettleFault fault (S.told self.old.store) (S.told self.new.store)) }
     {
         let text = line(alloc, &block)?;
         self.blocks.make_room()?;

@@ -1,7 +1,7 @@
 //! One transaction, kept in memory.
 ghost use Rattle.std.specs.Prelude.{◌≡◌, ◌+◌, ◌<◌, ◌^◌, [], ◌∷◌, ◌++◌, map, IfOk, OnOk};
 ghost use Rattle.ledger_model.specs.State.{State};
-ghost use Rattle.ledger_model.specs.Run.{next_id, run, start, step};
+ghost use Rattle.ledger_model.specs.Run.{next_id, run, start, step, unread_ran};
 ghost use Rattle.ledger_core.specs.Catalogs.{Lists, table_of};
 ghost use Rattle.ledger_core.specs.Stops.{Comes, EndsServed};
 ghost use Rattle.ledger_core.specs.Transactions.{IsBegun, found, performed, ran_of, table_in, tables_in};
@@ -188,7 +188,7 @@ pub(crate) fn run_statements(
     number: u64,
     asked: &[Request],
 ) -> Result<Ran, OutOfMemory>
-    ensures ran { IfOk result (λ r. (s : State) → Lists s catalog.now → ran_of r ≡ run (record { mask = mask.bits; number = number }) s asked.now) }
+    ensures ran { IfOk result (λ r. (s : State) → Lists s catalog.now → ran_of r ≡ unread_ran (run (record { mask = mask.bits; number = number }) s asked.now)) }
     ensures begun { IfOk result (λ r. IsBegun r (record { mask = mask.bits; number = number })) }
 {
     let mut transaction = Transaction::begin(alloc, mask, number);

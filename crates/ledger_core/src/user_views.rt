@@ -94,7 +94,7 @@ fn value_in(document: &Draft, table: TableId) -> Option<&Value>
         return None;
     }
     match &document.content {
-        Content::Deleted => None,
+        Content::Deleted | Content::Redacted(_) => None,
         Content::Kept(value) => Some(value),
     }
 }

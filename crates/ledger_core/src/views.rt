@@ -17,6 +17,7 @@ pub(crate) fn copy_content(alloc: Global, content: &Content) -> Result<Content, 
     match content {
         Content::Deleted => Ok(Content::Deleted),
         Content::Kept(value) => Ok(Content::Kept(copy(alloc, value)?)),
+        Content::Redacted(hash) => Ok(Content::Redacted(*hash)),
     }
 }
 

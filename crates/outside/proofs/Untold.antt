@@ -1,17 +1,13 @@
 -- A store that tells nothing of its content leaves nothing to show of it.
 use Rattle.std.proofs.Common.{ℕ, List, None, Result, Ok, Err, IfOk, inl, refl}
-use Rattle.std.specs.Prelude.{⊤, OnOk, OnErr, IsErrOf}
+use Rattle.std.specs.Prelude.{⊤, OnErr, IsErrOf}
 use Rattle.outside.specs.declared.traits.OutFault.{OutFault}
 use Rattle.outside.specs.declared.traits.OutFault.TheVariants.{Failed, OutOfMemory}
-use Rattle.outside.specs.Store.{AppendLeaves, CutLeaves, CutSynced, SyncSynced}
+use Rattle.outside.specs.Store.{AppendLeaves, CutLeaves, SyncLeaves}
 
 pub untold : {T E : Type 0} (r : Result T E) → IfOk r (λ _. ⊤)
 untold (Ok x) = tt
 untold (Err e) = tt
-
-pub none_told : {T E : Type 0} (P : Type 0) (r : Result T E) → OnOk r (P → P)
-none_told P (Ok x) = λ p. p
-none_told P (Err e) = tt
 
 -- what holds after any fault holds after want of memory
 pub lent_untold : {T P : Type 0} (r : Result T OutFault) → OnErr r P → IsErrOf r OutOfMemory → P
@@ -28,11 +24,6 @@ cut_untold (Ok x) size = refl
 cut_untold (Err Failed) size = inl refl
 cut_untold (Err OutOfMemory) size = refl
 
-pub cut_synced_untold : {T : Type 0} (r : Result T OutFault) (size : ℕ) → CutSynced r None None size
-cut_synced_untold (Ok x) size = refl
-cut_synced_untold (Err Failed) size = refl
-cut_synced_untold (Err OutOfMemory) size = refl
-
-pub sync_untold : {T : Type 0} (r : Result T OutFault) → SyncSynced r None None None
-sync_untold (Ok x) = tt
+pub sync_untold : {T : Type 0} (r : Result T OutFault) → SyncLeaves r None None
+sync_untold (Ok x) = refl
 sync_untold (Err fault) = refl

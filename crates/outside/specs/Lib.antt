@@ -5,3 +5,4 @@ pub mod JournalFiles
 pub mod Memory
 pub mod Store
 pub mod StoreForms
+pub mod Told

@@ -1,31 +1,49 @@
 -- What the stores in memory hold, and what a call answers and leaves.
-use Rattle.std.specs.Prelude.{ℕ, ◌-◌, ◌==◌, Bool, false, min, List, ◌++◌, length, take, drop, Option, Some, None, is_some, Result, Ok, Err, if◌then◌else◌}
+use Rattle.std.specs.Prelude.{◌≡◌, ℕ, ◌-◌, ◌==◌, Bool, false, min, List, [], ◌∷◌, ◌++◌, length, take, drop, Option, Some, None, is_some, Result, Ok, Err, Vec, if◌then◌else◌}
+use Rattle.std.specs.declared.alloc.Global.{Global}
 use Rattle.outside.specs.declared.traits.OutFault.{OutFault}
 use Rattle.outside.specs.declared.traits.OutFault.TheVariants.{Failed}
 use Rattle.outside.specs.declared.plan.Failing.{Failing}
+use Rattle.outside.specs.declared.memory.changes.Change.{Change}
+use Rattle.outside.specs.declared.memory.changes.Change.TheVariants.{Appended, Cut, Lowered, Synced}
+use Rattle.outside.specs.declared.memory.changes.Changes.{Changes}
 use Rattle.outside.specs.FailPlan.{FailPlan, due, after_call}
+use Rattle.outside.specs.Store.{Content, content_of, appended, cut_to, lowered, synced_whole}
 
--- the bytes that are held, and the length at the last sync, lowered by each cut below it since
-pub record Content : Type 0 where
-  pub bytes : List ℕ
-  pub synced : ℕ
+-- ---- the content, as the changes made it
 
--- a new store is synced
-abbrev pub content_of : List ℕ → Content
-content_of bytes = record { bytes = bytes; synced = length bytes }
+-- what a change makes of the content
+abbrev pub changed : Content → Change → Content
+changed content (Appended piece) = appended content piece.items
+changed content (Cut size) = cut_to content size
+changed content (Lowered size) = lowered content size
+changed content Synced = synced_whole content
 
-abbrev pub appended : Content → List ℕ → Content
-appended content piece = record content { bytes = content.bytes ++ piece }
+abbrev pub content_after : Content → List Change → Content
+content_after content [] = content
+content_after content (change ∷ changes) = content_after (changed content change) changes
 
--- a cut that leaves the bytes
-abbrev pub lowered : Content → ℕ → Content
-lowered content size = record content { synced = min content.synced size }
+-- The bytes that a new store held: these where no change was noted, and else those that were noted then.
+abbrev pub opened_with : Option (Vec ℕ Global) → List ℕ → List ℕ
+opened_with None bytes = bytes
+opened_with (Some opened) bytes = opened.items
 
-abbrev pub cut_to : Content → ℕ → Content
-cut_to content size = record { bytes = take size content.bytes; synced = min content.synced size }
+-- no change was made before the bytes were noted
+abbrev pub NoneBefore : Option (Vec ℕ Global) → List Change → Type 0
+NoneBefore None made = made ≡ []
+NoneBefore (Some opened) made = Unit {0}
 
-abbrev pub synced_whole : Content → Content
-synced_whole content = record content { synced = length content.bytes }
+-- the content of a store that holds these bytes, by what was noted
+abbrev pub noted : Changes → List ℕ → Content
+noted changes bytes = content_after (content_of (opened_with changes.opened bytes)) changes.made.items
+
+-- what was noted is so of the bytes and of the synced length
+pub record AreNoted (changes : Changes) (bytes : List ℕ) (synced : ℕ) : Type 0 where
+  pub begun : NoneBefore changes.opened changes.made.items
+  pub bytes_are : (noted changes bytes).bytes ≡ bytes
+  pub synced_is : (noted changes bytes).synced ≡ synced
+
+-- ---- what a call answers and leaves
 
 -- how many bytes a read from a place into a piece of this length gives
 abbrev pub count_at : Content → ℕ → ℕ → ℕ

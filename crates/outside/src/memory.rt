@@ -1,4 +1,5 @@
 //! Forms of the outside in memory, whose calls fail where a list says so.
+mod changes;
 mod clocks;
 mod content;
 mod gates;

@@ -75,13 +75,7 @@ impl<R: Files> JournalStore for FileStore<'_, R>
 where
     R::File: LockFile,
 {
-    ghost bytes = { λ _. None };
-
-    ghost synced = { λ _. None };
-
-    ghost last_failed = { λ s. s.last_failed };
-
-    ghost fault_count = { λ s. s.faults.count };
+    ghost told = { λ s. record { content = None; last_failed = s.last_failed; faults = s.faults.count } };
 
     fn faults(&self) -> u64 {
         self.faults.count

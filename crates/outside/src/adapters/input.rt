@@ -30,9 +30,7 @@ impl<R> InputSource<R> {
 }
 
 impl<R: Read> Source for InputSource<R> {
-    ghost left = { λ _. None };
-
-    ghost fault_count = { λ s. s.faults.count };
+    ghost told = { λ s. record { left = None; faults = s.faults.count } };
 
     fn faults(&self) -> u64 {
         self.faults.count

@@ -30,9 +30,7 @@ impl<W> OutputSink<W> {
 }
 
 impl<W: Write> Sink for OutputSink<W> {
-    ghost written = { λ _. None };
-
-    ghost fault_count = { λ s. s.faults.count };
+    ghost told = { λ s. record { written = None; faults = s.faults.count } };
 
     fn faults(&self) -> u64 {
         self.faults.count

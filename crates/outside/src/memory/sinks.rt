@@ -43,9 +43,7 @@ impl MemorySink {
 }
 
 impl Sink for MemorySink {
-    ghost written = { λ s. Some s.written };
-
-    ghost fault_count = { λ s. s.plan.used };
+    ghost told = { λ s. record { written = Some s.written; faults = s.plan.used } };
 
     fn faults(&self) -> u64 {
         self.plan.used()

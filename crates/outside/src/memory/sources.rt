@@ -40,9 +40,7 @@ impl MemorySource {
 }
 
 impl Source for MemorySource {
-    ghost left = { λ s. Some s.left };
-
-    ghost fault_count = { λ s. s.plan.used };
+    ghost told = { λ s. record { left = Some s.left; faults = s.plan.used } };
 
     fn faults(&self) -> u64 {
         self.plan.used()

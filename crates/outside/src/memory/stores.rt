@@ -1,15 +1,16 @@
 //! Stores in memory.
-ghost use Rattle.std.specs.Prelude.{◌≡◌, ◌⊎◌, Some, length, IsErrOf, is_some, if◌then◌else◌};
+ghost use Rattle.std.specs.Prelude.{◌≡◌, ◌⊎◌, Some, length, IsErrOf, OnOk, OnErr, is_some, if◌then◌else◌};
 ghost use Rattle.outside.specs.FailPlan.{plan_of, due};
 ghost use Rattle.outside.specs.StoreForms.{store_of, unless_due, called, unserved, appended_by, cut_by, synced_by, count_at, piece_read};
 
 use super::content::Content;
 use crate::plan::{Failing, Plan};
 use crate::traits::{JournalStore, OutFault};
-use std::alloc::Global;
+use std::alloc::{AllocError, Global};
 use std::marker::Model;
 
-/// A store over bytes in memory, whose calls fail by a list. An append that wants memory leaves the list as it was.
+/// A store over bytes in memory, whose calls fail by a list. An append, a cut and a sync that want memory leave the list as it
+/// was.
 #[derive(Drop)]
 pub struct MemoryStore {
     content: Content,
@@ -26,13 +27,13 @@ impl Model for MemoryStore {
 }
 
 impl MemoryStore {
-    /// A store of these bytes, all of them synced, whose calls by `&mut` fail by this list. It grows by the
-    /// allocator that the bytes are from.
-    pub fn new(_alloc: Global, bytes: Vec<u8>, fails: Vec<Failing>) -> MemoryStore
+    /// A store of these bytes, all of them synced, whose calls by `&mut` fail by this list. It grows by this
+    /// allocator, and the bytes by the one that they are from.
+    pub fn new(alloc: Global, bytes: Vec<u8>, fails: Vec<Failing>) -> MemoryStore
         ensures { result ≡ store_of bytes.items (plan_of fails.items) }
     {
         MemoryStore {
-            content: Content::new(bytes),
+            content: Content::new(alloc, bytes),
             last_failed: false,
             plan: Plan::new(fails),
         }
@@ -55,16 +56,25 @@ impl MemoryStore {
         self.last_failed = fails.is_some();
         fails
     }
+
+    /// Ends a call that has changed the content, or has found no memory for that.
+    fn end(&mut self, changed: Result<(), AllocError>) -> Result<(), OutFault>
+        ensures wanted { OnErr changed (IsErrOf result OutFault.OutOfMemory × (self.new ≡ unserved self.old)) }
+        ensures done { OnOk changed ((result ≡ unless_due self.old tt) × (self.new ≡ called self.old self.old.content)) }
+    {
+        if changed.is_err() {
+            self.last_failed = false;
+            return Err(OutFault::OutOfMemory);
+        }
+        match self.count_call() {
+            Some(_) => Err(OutFault::Failed),
+            None => Ok(()),
+        }
+    }
 }
 
 impl JournalStore for MemoryStore {
-    ghost bytes = { λ s. Some s.content.bytes };
-
-    ghost synced = { λ s. Some s.content.synced };
-
-    ghost last_failed = { λ s. s.last_failed };
-
-    ghost fault_count = { λ s. s.plan.used };
+    ghost told = { λ s. record { content = Some s.content; last_failed = s.last_failed; faults = s.plan.used } };
 
     fn faults(&self) -> u64 {
         self.plan.used()
@@ -100,46 +110,31 @@ impl JournalStore for MemoryStore {
             Some(entry) => entry.kept.min(piece.len() as u64) as usize,
             None => piece.len(),
         };
-        if self.content.append(&piece[..count]).is_err() {
-            self.last_failed = false;
-            return Err(OutFault::OutOfMemory);
-        }
-        match self.count_call() {
-            Some(_) => Err(OutFault::Failed),
-            None => Ok(()),
-        }
+        let added = self.content.append(&piece[..count]);
+        self.end(added)
     }
 
     fn cut(&mut self, size: u64) -> Result<(), OutFault>
-        ensures answer { result ≡ unless_due self.old tt }
-        ensures after { self.new ≡ called self.old (cut_by (due self.old.plan) self.old.content size) }
+        ensures wanted { IsErrOf result OutFault.OutOfMemory → self.new ≡ unserved self.old }
+        ensures done { IsErrOf result OutFault.OutOfMemory ⊎ ((result ≡ unless_due self.old tt)
+            × (self.new ≡ called self.old (cut_by (due self.old.plan) self.old.content size))) }
     {
-        match self.count_call() {
-            Some(entry) => {
-                if entry.kept == 0 {
-                    self.content.lower(size);
-                } else {
-                    self.content.cut(size);
-                }
-                Err(OutFault::Failed)
-            }
-            None => {
-                self.content.cut(size);
-                Ok(())
-            }
-        }
+        let cut = match self.plan.due() {
+            Some(entry) if entry.kept == 0 => self.content.lower(size),
+            _ => self.content.cut(size),
+        };
+        self.end(cut)
     }
 
     fn sync(&mut self) -> Result<(), OutFault>
-        ensures answer { result ≡ unless_due self.old tt }
-        ensures after { self.new ≡ called self.old (synced_by (due self.old.plan) self.old.content) }
+        ensures wanted { IsErrOf result OutFault.OutOfMemory → self.new ≡ unserved self.old }
+        ensures done { IsErrOf result OutFault.OutOfMemory ⊎ ((result ≡ unless_due self.old tt)
+            × (self.new ≡ called self.old (synced_by (due self.old.plan) self.old.content))) }
     {
-        match self.count_call() {
-            Some(_) => Err(OutFault::Failed),
-            None => {
-                self.content.sync();
-                Ok(())
-            }
-        }
+        let synced = match self.plan.due() {
+            Some(_) => Ok(()),
+            None => self.content.sync(),
+        };
+        self.end(synced)
     }
 }

@@ -1,20 +1,21 @@
 //! A store in memory that never fails.
 ghost use Rattle.std.specs.Prelude.{◌≡◌, ◌⊎◌, Some, Ok, false, length, IsErrOf};
-ghost use Rattle.outside.specs.StoreForms.{content_of, appended, cut_to, synced_whole, count_at, piece_read};
+ghost use Rattle.outside.specs.Store.{content_of, appended, cut_to, synced_whole};
+ghost use Rattle.outside.specs.StoreForms.{count_at, piece_read};
 
 use super::content::Content;
 use crate::traits::{JournalStore, OutFault};
 use std::alloc::Global;
 use std::marker::Model;
 
-/// A store over bytes in memory that never fails. Only an append may want memory.
+/// A store over bytes in memory that never fails. An append, a cut and a sync may want memory.
 #[derive(Drop)]
 pub struct SureStore {
     content: Content,
 }
 
 impl Model for SureStore {
-    ghost use Rattle.outside.specs.StoreForms.{Content};
+    ghost use Rattle.outside.specs.Store.{Content};
 
     ghost Value = { Content };
 
@@ -22,12 +23,12 @@ impl Model for SureStore {
 }
 
 impl SureStore {
-    /// A store of these bytes, all of them synced. It grows by the allocator that the bytes are from.
-    pub fn new(_alloc: Global, bytes: Vec<u8>) -> SureStore
+    /// A store of these bytes, all of them synced. It grows by this allocator, and the bytes by the one that they are from.
+    pub fn new(alloc: Global, bytes: Vec<u8>) -> SureStore
         ensures { result ≡ content_of bytes.items }
     {
         SureStore {
-            content: Content::new(bytes),
+            content: Content::new(alloc, bytes),
         }
     }
 
@@ -40,13 +41,7 @@ impl SureStore {
 }
 
 impl JournalStore for SureStore {
-    ghost bytes = { λ s. Some s.bytes };
-
-    ghost synced = { λ s. Some s.synced };
-
-    ghost last_failed = { λ _. false };
-
-    ghost fault_count = { λ _. 0 };
+    ghost told = { λ s. record { content = Some s; last_failed = false; faults = 0 } };
 
     fn faults(&self) -> u64 {
         0
@@ -77,18 +72,20 @@ impl JournalStore for SureStore {
     }
 
     fn cut(&mut self, size: u64) -> Result<(), OutFault>
-        ensures answer { result ≡ Ok tt }
-        ensures after { self.new ≡ cut_to self.old size }
+        ensures wanted { IsErrOf result OutFault.OutOfMemory → self.new ≡ self.old }
+        ensures done { IsErrOf result OutFault.OutOfMemory
+            ⊎ ((result ≡ Ok tt) × (self.new ≡ cut_to self.old size)) }
     {
-        self.content.cut(size);
+        self.content.cut(size)?;
         Ok(())
     }
 
     fn sync(&mut self) -> Result<(), OutFault>
-        ensures answer { result ≡ Ok tt }
-        ensures after { self.new ≡ synced_whole self.old }
+        ensures wanted { IsErrOf result OutFault.OutOfMemory → self.new ≡ self.old }
+        ensures done { IsErrOf result OutFault.OutOfMemory
+            ⊎ ((result ≡ Ok tt) × (self.new ≡ synced_whole self.old)) }
     {
-        self.content.sync();
+        self.content.sync()?;
         Ok(())
     }
 }

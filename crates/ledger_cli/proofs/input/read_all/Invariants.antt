@@ -6,8 +6,8 @@ use Rattle.ledger_cli.proofs.input.read_all.Given as goal
 abbrev pub invariant-pieces : goal.invariant-pieces
 invariant-pieces g l = record {
   few : length l.all.items ≤ 16777217;
-  fine : g.So.Source.fault_count l.source ≡ g.So.Source.fault_count l.initial.source;
-  so_far : Consumes (g.So.Source.left l.initial.source) (g.So.Source.left l.source) l.all.items;
+  fine : (g.So.Source.told l.source).faults ≡ (g.So.Source.told l.initial.source).faults;
+  so_far : Consumes (g.So.Source.told l.initial.source).left (g.So.Source.told l.source).left l.all.items;
 }
 
 abbrev pub decreases-pieces : goal.decreases-pieces

@@ -6,5 +6,5 @@ pub pieces-preserved : goal.pieces-preserved
 pieces-preserved g c = record {
   within = omega (arith, c.in_ok-at.ensures.bound);
   fine = c.in_ok-at.ensures.cause.fine refl ∙ c.pieces.invariant.fine;
-  so_far = appended (g.Si.Sink.written c.args.sink.now) (g.Si.Sink.written c.pieces.sink) (g.Si.Sink.written c.write.new.self) c.args.text.now c.pieces.at c.in_ok-at.field-0 c.pieces.invariant.so_far c.in_ok-at.ensures.bytes;
+  so_far = appended (g.Si.Sink.told c.args.sink.now).written (g.Si.Sink.told c.pieces.sink).written (g.Si.Sink.told c.write.new.self).written c.args.text.now c.pieces.at c.in_ok-at.field-0 c.pieces.invariant.so_far c.in_ok-at.ensures.bytes;
 }

@@ -6,8 +6,8 @@ use Rattle.ledger_cli.proofs.output.write_all.Given as goal
 abbrev pub invariant-pieces : goal.invariant-pieces
 invariant-pieces g l = record {
   within : l.at ≤ length l.text;
-  fine : g.Si.Sink.fault_count l.sink ≡ g.Si.Sink.fault_count l.initial.sink;
-  so_far : Appends (g.Si.Sink.written l.initial.sink) (g.Si.Sink.written l.sink) (take l.at l.text);
+  fine : (g.Si.Sink.told l.sink).faults ≡ (g.Si.Sink.told l.initial.sink).faults;
+  so_far : Appends (g.Si.Sink.told l.initial.sink).written (g.Si.Sink.told l.sink).written (take l.at l.text);
 }
 
 abbrev pub decreases-pieces : goal.decreases-pieces

@@ -1,17 +1,11 @@
-use Rattle.std.proofs.Common.{[], ◌∷◌, ◌++◌, List, ◌∙◌, ap}
-use Rattle.ledger_model.specs.declared.outcome.PlacedOutcome.{PlacedOutcome}
 use Rattle.ledger_cli.proofs.Running.{runs_on}
 use Rattle.ledger_cli.proofs.run.run_job.Goals as goal
 
 pub returns-clause-runs : goal.returns-clause-runs
 returns-clause-runs g c t rest runs =
-    let one : PlacedOutcome = record { place = c.args.place; outcome = c.attempt-outcome.result } in
     runs_on t c.args.time (record { place = c.args.place; job = c.args.job.now }) rest _ _ c.attempt-outcome.result c.written_on_one_line.ensures
     c.attempt-outcome.ensures.attempted c.attempt-outcome.ensures.faults c.attempt-outcome.ensures.store c.attempt-outcome.ensures.later
-    (c.keep.ensures ∙ ap (λ (x : List PlacedOutcome). x ++ one ∷ []) c.reserve.ensures.items) runs
+    c.keep.ensures.items runs
 
 pub returns-clause-kept : goal.returns-clause-kept
-returns-clause-kept g c is = record {
-  tells = c.attempt-outcome.ensures.tells is.tells;
-  synced = c.attempt-outcome.ensures.synced is.tells is.synced;
-}
+returns-clause-kept g c is = c.attempt-outcome.ensures.synced is

@@ -1,51 +1,51 @@
 use Rattle.std.proofs.Common.{[], refl, ap, ◌∙◌, inl}
-use Rattle.ledger_claims.specs.Top.{stored}
-use Rattle.ledger_cli.specs.Runs.{come, cause_of}
-use Rattle.ledger_cli.proofs.Loaded.{HasLoaded, loaded_done, loaded_stopped, loaded_fault, unloaded_done, unloaded_left, unloaded_fault}
+use Rattle.outside.specs.Told.{held}
+use Rattle.ledger_claims.specs.Calls.{span}
+use Rattle.ledger_cli.specs.Runs.{come}
+use Rattle.ledger_cli.specs.Stops.{load_stop}
+use Rattle.ledger_cli.proofs.Ending.{same_held}
+use Rattle.ledger_cli.proofs.Loaded.{HasLoaded, loaded_done, loaded_stopped, loaded_stop, unloaded_done, unloaded_left, unloaded_stop}
 use Rattle.ledger_cli.proofs.run.run_script.Goals as goal
 
 pub returns-in-Ok-clause-done : goal.returns-in-Ok-clause-done
 returns-in-Ok-clause-done g c =
-    let k = c.in-Ok.tail in
-    let l = c.run_on.result.store in
-    let s = stored (g.S.JournalStore.bytes c.args.store) (g.S.JournalStore.bytes l) (g.S.JournalStore.synced c.args.store) (g.S.JournalStore.synced l) (g.S.JournalStore.fault_count c.args.store) (g.S.JournalStore.fault_count l) in
-    let d = come k.standing k.marked (g.S.JournalStore.bytes k.store) (g.S.JournalStore.synced k.store) (g.S.JournalStore.fault_count k.store) [] in
+    let told = g.S.JournalStore.told in
+    let s = span (told c.args.store) (told c.run_on.result.store) in
+    let d = come told c.in-Ok.tail [] in
     let is = c.in-Ok.ensures in
     let has : HasLoaded s d = record { journal = is.journal; sound = is.standing; mask = is.mask; last = is.last; store = is.store; none = refl } in
-    loaded_done c.args.time c.args.script.now s d has c.run_on.result.report c.run_on.ensures.done c.run_on.ensures.kept
+    loaded_done c.args.time c.args.script.now s d has c.run_on.result.came c.run_on.ensures.done c.run_on.ensures.kept
 
 pub returns-in-Ok-clause-left : goal.returns-in-Ok-clause-left
 returns-in-Ok-clause-left g c =
-    let k = c.in-Ok.tail in
-    let l = c.run_on.result.store in
-    let s = stored (g.S.JournalStore.bytes c.args.store) (g.S.JournalStore.bytes l) (g.S.JournalStore.synced c.args.store) (g.S.JournalStore.synced l) (g.S.JournalStore.fault_count c.args.store) (g.S.JournalStore.fault_count l) in
-    let d = come k.standing k.marked (g.S.JournalStore.bytes k.store) (g.S.JournalStore.synced k.store) (g.S.JournalStore.fault_count k.store) [] in
+    let told = g.S.JournalStore.told in
+    let s = span (told c.args.store) (told c.run_on.result.store) in
+    let d = come told c.in-Ok.tail [] in
     let is = c.in-Ok.ensures in
     let has : HasLoaded s d = record { journal = is.journal; sound = is.standing; mask = is.mask; last = is.last; store = is.store; none = refl } in
-    loaded_stopped c.args.time c.args.script.now s d has c.run_on.result.report c.run_on.ensures.left
+    loaded_stopped c.args.time c.args.script.now s d has c.run_on.result.came c.run_on.ensures.left
 
-pub returns-in-Ok-clause-fault : goal.returns-in-Ok-clause-fault
-returns-in-Ok-clause-fault g c =
-    let k = c.in-Ok.tail in
-    let l = c.run_on.result.store in
-    let s = stored (g.S.JournalStore.bytes c.args.store) (g.S.JournalStore.bytes l) (g.S.JournalStore.synced c.args.store) (g.S.JournalStore.synced l) (g.S.JournalStore.fault_count c.args.store) (g.S.JournalStore.fault_count l) in
-    let d = come k.standing k.marked (g.S.JournalStore.bytes k.store) (g.S.JournalStore.synced k.store) (g.S.JournalStore.fault_count k.store) [] in
+pub returns-in-Ok-clause-stop : goal.returns-in-Ok-clause-stop
+returns-in-Ok-clause-stop g c =
+    let told = g.S.JournalStore.told in
+    let s = span (told c.args.store) (told c.run_on.result.store) in
+    let d = come told c.in-Ok.tail [] in
     let is = c.in-Ok.ensures in
     let has : HasLoaded s d = record { journal = is.journal; sound = is.standing; mask = is.mask; last = is.last; store = is.store; none = refl } in
-    loaded_fault c.args.time c.args.script.now s d has (g.S.JournalStore.last_failed l) c.run_on.result.report c.run_on.ensures.fault
+    loaded_stop c.args.time c.args.script.now s d has c.run_on.result.came c.run_on.ensures.stop
 
 pub returns-in-Err-clause-done : goal.returns-in-Err-clause-done
-returns-in-Err-clause-done g c = unloaded_done _ c.unloaded.result.report (cause_of c.in-Err.fault.cause) c.unloaded.ensures.report
+returns-in-Err-clause-done g c = unloaded_done _ c.unloaded.result.came (load_stop c.in-Err.fault.cause) c.unloaded.ensures.came
 
 pub returns-in-Err-clause-left : goal.returns-in-Err-clause-left
 returns-in-Err-clause-left g c =
-    unloaded_left _ c.unloaded.result.report (cause_of c.in-Err.fault.cause) c.unloaded.ensures.report
-    (inl (ap (λ x. g.S.JournalStore.bytes x) c.unloaded.ensures.store ∙ c.in-Err.ensures.returned.0))
+    let told = g.S.JournalStore.told in
+    unloaded_left _ c.unloaded.result.came (load_stop c.in-Err.fault.cause) c.unloaded.ensures.came
+    (inl (ap (λ x. held (told x)) c.unloaded.ensures.store ∙ same_held (told c.args.store) (told c.in-Err.fault.store) c.in-Err.ensures.returned.0))
 
-pub returns-in-Err-clause-fault : goal.returns-in-Err-clause-fault
-returns-in-Err-clause-fault g c =
-    let l = c.in-Err.fault.store in
-    let s = stored (g.S.JournalStore.bytes c.args.store) (g.S.JournalStore.bytes l) (g.S.JournalStore.synced c.args.store) (g.S.JournalStore.synced l) (g.S.JournalStore.fault_count c.args.store) (g.S.JournalStore.fault_count l) in
+pub returns-in-Err-clause-stop : goal.returns-in-Err-clause-stop
+returns-in-Err-clause-stop g c =
+    let told = g.S.JournalStore.told in
     rw c.unloaded.ensures.store
-    (unloaded_fault c.unloaded.result.report c.in-Err.fault.cause s (g.S.JournalStore.last_failed l) c.unloaded.ensures.report c.in-Err.ensures.returned.0 c.in-Err.ensures.returned.1
-    c.in-Err.ensures.cause)
+    (unloaded_stop c.unloaded.result.came c.in-Err.fault.cause (told c.args.store) (told c.in-Err.fault.store) c.unloaded.ensures.came
+    c.in-Err.ensures.returned.0 c.in-Err.ensures.cause)

@@ -1,6 +1,6 @@
 use Rattle.std.proofs.Common.{◌≡◌, drop}
 use Rattle.std.specs.List.{list_all}
-use Rattle.ledger_claims.specs.Makes.{change_within}
+use Rattle.made_blocks.specs.Makes.{change_within}
 use Rattle.ledger_core.proofs.ranges.changes_are_within.Given as goal
 
 -- those in front are within

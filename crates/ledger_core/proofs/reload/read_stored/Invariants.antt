@@ -1,15 +1,15 @@
 use Rattle.std.proofs.Common.{◌≡◌, ◌-◌, ◌≤◌, length, take}
 use Rattle.std.specs.Prelude.{IfSome}
+use Rattle.outside.specs.Told.{held}
 use Rattle.ledger_core.proofs.reload.read_stored.Given as goal
 
 -- what was read is the front part of the bytes, and the store keeps them
 abbrev pub invariant-pieces : goal.invariant-pieces
 invariant-pieces g l = record {
-  front : IfSome (g.S.JournalStore.bytes l.fn.store) (λ held. (l.size ≡ length held) × (l.all.items ≡ take (length l.all.items) held));
+  front : IfSome (held (g.S.JournalStore.told l.fn.store)) (λ bytes. (l.size ≡ length bytes) × (l.all.items ≡ take (length l.all.items) bytes));
   within : length l.all.items ≤ l.size;
-  bytes : g.S.JournalStore.bytes l.store ≡ g.S.JournalStore.bytes l.fn.store;
-  synced : g.S.JournalStore.synced l.store ≡ g.S.JournalStore.synced l.fn.store;
-  fine : g.S.JournalStore.fault_count l.store ≡ g.S.JournalStore.fault_count l.fn.store;
+  content : (g.S.JournalStore.told l.store).content ≡ (g.S.JournalStore.told l.fn.store).content;
+  fine : (g.S.JournalStore.told l.store).faults ≡ (g.S.JournalStore.told l.fn.store).faults;
 }
 
 abbrev pub decreases-pieces : goal.decreases-pieces

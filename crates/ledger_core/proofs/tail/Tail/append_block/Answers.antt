@@ -4,14 +4,14 @@ use Rattle.ledger_model.specs.Journal.{line}
 use Rattle.ledger_claims.specs.Attempts.{IsStanding}
 use Rattle.ledger_core.specs.Tails.{TailHeld, joined}
 use Rattle.ledger_core.proofs.Joined.{appended, faulted, holds-more, may-hold, on-err}
-use Rattle.ledger_core.proofs.Syncs.{syncs_all}
+use Rattle.outside.specs.Told.{held}
 use Rattle.ledger_core.proofs.tail.Tail.append_block.Goals as goal
 
 pub invariant_of-self-in_err-keep_line : goal.invariant_of-self-in_err-keep_line
 invariant_of-self-in_err-keep_line g c =
     faulted _ _ _ _ _ _ _ _ _ _ c.as_bytes.result.now _ c.self.invariant c.make_room.ensures.list c.in_err-keep_line.ensures.same c.in_err-keep_line.ensures.part
     (elim c.in_err-keep_line.ensures.marked [
-      | inl same ↦ inl (ap (λ k. g.S.JournalStore.bytes k.store) same.1, ap (λ k. k.marked) same.1)
+      | inl same ↦ inl (ap (λ k. held (g.S.JournalStore.told k.store)) same.1, ap (λ k. k.marked) same.1)
       | inr marked ↦ inr marked
     ])
 
@@ -33,12 +33,3 @@ returns-clause-holds g c =
     let is : c.as_bytes.result.now ≡ line c.args.block = search rules in
     let more = IfOk-at_ok _ c.unwrap.ensures c.push.ensures.pushed ∙ ap (λ bs. bs ++ c.args.block ∷ []) c.make_room.ensures.list in
     holds-more _ _ _ _ c.args.block _ _ _ _ c.as_bytes.result.now _ c.self.invariant is more c.in_ok-keep_line.ensures.bytes
-
-pub returns-in_err-keep_line-clause-tells : goal.returns-in_err-keep_line-clause-tells
-returns-in_err-keep_line-clause-tells g c = rw (← c.self.view_is) (λ h. c.keep_line.ensures.tells h)
-
-pub returns-clause-tells : goal.returns-clause-tells
-returns-clause-tells g c = rw (← c.self.view_is) (λ h. c.keep_line.ensures.tells h)
-
-pub returns-clause-all_synced : goal.returns-clause-all_synced
-returns-clause-all_synced g c = rw (← c.self.view_is) (λ h. syncs_all _ _ _ _ _ c.in_ok-keep_line.ensures.bytes c.in_ok-keep_line.ensures.synced h)

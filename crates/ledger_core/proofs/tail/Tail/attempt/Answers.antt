@@ -1,7 +1,9 @@
 use Rattle.std.proofs.Common.{◌≡◌, ◌∙◌, ap, subst, length}
+use Rattle.ledger_model.specs.Run.{unread_ran}
 use Rattle.ledger_model.specs.Script.{Placed}
 use Rattle.ledger_claims.proofs.Standings.{Attempted-IsStanding}
 use Rattle.ledger_claims.specs.Attempts.{next, ran_next}
+use Rattle.outside.specs.Told.{held}
 use Rattle.ledger_core.specs.declared.transaction.Ran.{Ran}
 use Rattle.ledger_core.specs.Transactions.{IsBegun, ran_of}
 use Rattle.ledger_core.proofs.Attempts.{aborted, can_make}
@@ -19,7 +21,7 @@ commit-requires g c =
       can = can_make h.standing c.args.time p c.in-Some.ensures.mask c.are_within.ensures.timed c.are_within.ensures.placed;
       drawn_id = c.in-Some.ensures.id;
       ranges = c.transaction_is_within.ensures;
-      runs = subst (λ (r : Ran). ran_of r ≡ ran_next h.standing p) c.in-Ok-Done.field-0-is (run_next h _ p c.in-Ok-Done.field-0 _ c.in-Some.ensures.drawn c.as_slice.ensures c.in-Ok-Done.ensures.ran);
+      runs = subst (λ (r : Ran). ran_of r ≡ unread_ran (ran_next h.standing p)) c.in-Ok-Done.field-0-is (run_next h _ p c.in-Ok-Done.field-0 _ c.in-Some.ensures.drawn c.as_slice.ensures c.in-Ok-Done.ensures.ran);
       begun = subst (λ (r : Ran). IsBegun r (next h.standing)) c.in-Ok-Done.field-0-is (begun_next h _ c.in-Ok-Done.field-0 c.in-Some.ensures.drawn c.in-Ok-Done.ensures.begun);
       commits = c.if-job.false;
     } in
@@ -33,7 +35,7 @@ returns-then-job-clause-attempted g c =
     let e = c.run_last.ensures.same ∙ c.in-Some.ensures.drawn in
     aborted h.standing c.run_last.new.self.standing c.args.time p t c.in-Some.tx _ c.in-Some.ensures.id (ap (λ x. x.standing) e)
     (c.len-since.ensures ∙ ap length c.blocks-2.ensures.blocks ∙ ap (λ x. length x.standing.blocks) c.in-Some.ensures.drawn) c.if-job.true
-    (subst (λ (r : Ran). ran_of r ≡ ran_next h.standing p) c.in-Ok-Done.field-0-is (run_next h _ p c.in-Ok-Done.field-0 _ c.in-Some.ensures.drawn c.as_slice.ensures c.in-Ok-Done.ensures.ran))
+    (subst (λ (r : Ran). ran_of r ≡ unread_ran (ran_next h.standing p)) c.in-Ok-Done.field-0-is (run_next h _ p c.in-Ok-Done.field-0 _ c.in-Some.ensures.drawn c.as_slice.ensures c.in-Ok-Done.ensures.ran))
 
 pub returns-else-job-clause-attempted : goal.returns-else-job-clause-attempted
 returns-else-job-clause-attempted g c =
@@ -46,7 +48,7 @@ returns-else-job-clause-attempted g c =
       can = can_make h.standing c.args.time p c.in-Some.ensures.mask c.are_within.ensures.timed c.are_within.ensures.placed;
       drawn_id = c.in-Some.ensures.id;
       ranges = c.transaction_is_within.ensures;
-      runs = subst (λ (r : Ran). ran_of r ≡ ran_next h.standing p) c.in-Ok-Done.field-0-is (run_next h _ p c.in-Ok-Done.field-0 _ c.in-Some.ensures.drawn c.as_slice.ensures c.in-Ok-Done.ensures.ran);
+      runs = subst (λ (r : Ran). ran_of r ≡ unread_ran (ran_next h.standing p)) c.in-Ok-Done.field-0-is (run_next h _ p c.in-Ok-Done.field-0 _ c.in-Some.ensures.drawn c.as_slice.ensures c.in-Ok-Done.ensures.ran);
       begun = subst (λ (r : Ran). IsBegun r (next h.standing)) c.in-Ok-Done.field-0-is (begun_next h _ c.in-Ok-Done.field-0 c.in-Some.ensures.drawn c.in-Ok-Done.ensures.begun);
       commits = c.if-job.false;
     } in
@@ -63,16 +65,16 @@ returns-else-job-clause-store g c =
       can = can_make h.standing c.args.time p c.in-Some.ensures.mask c.are_within.ensures.timed c.are_within.ensures.placed;
       drawn_id = c.in-Some.ensures.id;
       ranges = c.transaction_is_within.ensures;
-      runs = subst (λ (r : Ran). ran_of r ≡ ran_next h.standing p) c.in-Ok-Done.field-0-is (run_next h _ p c.in-Ok-Done.field-0 _ c.in-Some.ensures.drawn c.as_slice.ensures c.in-Ok-Done.ensures.ran);
+      runs = subst (λ (r : Ran). ran_of r ≡ unread_ran (ran_next h.standing p)) c.in-Ok-Done.field-0-is (run_next h _ p c.in-Ok-Done.field-0 _ c.in-Some.ensures.drawn c.as_slice.ensures c.in-Ok-Done.ensures.ran);
       begun = subst (λ (r : Ran). IsBegun r (next h.standing)) c.in-Ok-Done.field-0-is (begun_next h _ c.in-Ok-Done.field-0 c.in-Some.ensures.drawn c.in-Ok-Done.ensures.begun);
       commits = c.if-job.false;
     } in
-    commit_leaves_store g.S.JournalStore.bytes h c.run_last.new.self c.commit.new.self.standing (g.S.JournalStore.bytes c.commit.new.self.store) c.args.time p t c.in-Some.tx c.commit.result e d
+    commit_leaves_store (λ s. held (g.S.JournalStore.told s)) h c.run_last.new.self c.commit.new.self.standing (held (g.S.JournalStore.told c.commit.new.self.store)) c.args.time p t c.in-Some.tx c.commit.result e d
     c.commit.ensures.commits c.commit.ensures.leaves
 
 pub returns-else-job-clause-faults : goal.returns-else-job-clause-faults
 returns-else-job-clause-faults g c =
-    commit_faults g.S.JournalStore.fault_count c.args.self.now c.run_last.new.self c.commit.result (g.S.JournalStore.fault_count c.commit.new.self.store)
+    commit_faults (λ s. (g.S.JournalStore.told s).faults) c.args.self.now c.run_last.new.self c.commit.result (g.S.JournalStore.told c.commit.new.self.store).faults
     (c.run_last.ensures.same ∙ c.in-Some.ensures.drawn) c.commit.ensures.faults
 
 pub returns-else-job-clause-stands : goal.returns-else-job-clause-stands
@@ -86,7 +88,7 @@ returns-else-job-clause-stands g c =
       can = can_make h.standing c.args.time p c.in-Some.ensures.mask c.are_within.ensures.timed c.are_within.ensures.placed;
       drawn_id = c.in-Some.ensures.id;
       ranges = c.transaction_is_within.ensures;
-      runs = subst (λ (r : Ran). ran_of r ≡ ran_next h.standing p) c.in-Ok-Done.field-0-is (run_next h _ p c.in-Ok-Done.field-0 _ c.in-Some.ensures.drawn c.as_slice.ensures c.in-Ok-Done.ensures.ran);
+      runs = subst (λ (r : Ran). ran_of r ≡ unread_ran (ran_next h.standing p)) c.in-Ok-Done.field-0-is (run_next h _ p c.in-Ok-Done.field-0 _ c.in-Some.ensures.drawn c.as_slice.ensures c.in-Ok-Done.ensures.ran);
       begun = subst (λ (r : Ran). IsBegun r (next h.standing)) c.in-Ok-Done.field-0-is (begun_next h _ c.in-Ok-Done.field-0 c.in-Some.ensures.drawn c.in-Ok-Done.ensures.begun);
       commits = c.if-job.false;
     } in

@@ -1,0 +1,152 @@
+//! How a command ends: with its report or an error line, and an exit status.
+ghost use Rattle.std.specs.Prelude.{◌≡◌, ◌<◌, ◌⊎◌, Err};
+ghost use Rattle.ledger_claims.specs.Calls.{span};
+ghost use Rattle.ledger_claims.specs.Streams.{Writes, WritesPart};
+ghost use Rattle.ledger_claims.specs.Lines.{input_line, damaged_line};
+ghost use Rattle.ledger_claims.specs.Top as top;
+ghost use Rattle.ledger_cli.specs.Ends.{EndsBy, IsLine, IsOwnLine, IsWanted, count_line, status_of};
+ghost use Rattle.ledger_cli.specs.Judgements.{cause_of};
+
+use crate::lines::{BadInput, damaged_line, input_line};
+use crate::output::{write_all, write_count};
+use crate::stop::Stop;
+use ion_values::Text;
+use ledger_model::Damage;
+use outside::{JournalStore, OutFault, Sink, Source};
+use std::alloc::Global;
+
+/// How a command ends. Its number is the exit status.
+#[derive(Clone, Copy, Debug, PartialEq, Eq)]
+pub enum Status {
+    Done = 0,
+    BadWords = 1,
+    BadInput = 2,
+    Damaged = 3,
+    SourceFailed = 4,
+    StoreFailed = 5,
+    SinkFailed = 6,
+    OutOfMemory = 8,
+}
+
+/// The exit status.
+pub fn number_of(status: Status) -> u8
+    ensures { result ≡ top.number_of (status_of status) }
+{
+    status as u8
+}
+
+/// Ends with the report, or with the error line of what the command was stopped by.
+pub fn end<So: Source, Si: Sink, St: JournalStore>(
+    alloc: Global,
+    report: Result<Text, Stop>,
+    source: &So,
+    sink: &mut Si,
+    store: &St,
+) -> Status
+    ensures { EndsBy report result (So.told source.now).faults (St.told store.now).faults
+        (span (Si.told sink.old) (Si.told sink.new)) }
+{
+    match report {
+        Ok(text) => end_by_report(sink, text),
+        Err(stop) => end_by_stop(alloc, stop, source, sink, store),
+    }
+}
+
+/// Ends with the error line of what the command was stopped by.
+fn end_by_stop<So: Source, Si: Sink, St: JournalStore>(
+    alloc: Global,
+    stop: Stop,
+    source: &So,
+    sink: &mut Si,
+    store: &St,
+) -> Status
+    ensures { EndsBy (Err stop) result (So.told source.now).faults (St.told store.now).faults
+        (span (Si.told sink.old) (Si.told sink.new)) }
+{
+    match stop {
+        Stop::BadInput(cause) => end_by_input(alloc, sink, cause),
+        Stop::Damaged { sequence, kind } => end_by_damage(alloc, sink, sequence, kind),
+        Stop::SourceFailed => {
+            end_by_count(
+                sink,
+                "{status:4,faults:",
+                source.faults(),
+                Status::SourceFailed,
+            )
+        }
+        Stop::StoreFailed => {
+            end_by_count(
+                sink,
+                "{status:5,faults:",
+                store.faults(),
+                Status::StoreFailed,
+            )
+        }
+        Stop::OutOfMemory => end_by_want(sink),
+    }
+}
+
+/// Ends with the report.
+fn end_by_report<Si: Sink>(sink: &mut Si, text: Text) -> Status
+    ensures known { (result ≡ Status.Done) ⊎ (result ≡ Status.SinkFailed) ⊎ (result ≡ Status.OutOfMemory) }
+    ensures done { result ≡ Status.Done → Writes (span (Si.told sink.old) (Si.told sink.new)) text }
+    ensures part { WritesPart (span (Si.told sink.old) (Si.told sink.new)) text }
+    ensures failed { result ≡ Status.SinkFailed → (Si.told sink.old).faults < (Si.told sink.new).faults }
+    ensures wanted { result ≡ Status.OutOfMemory → (Si.told sink.new).faults ≡ (Si.told sink.old).faults }
+{
+    match write_all(sink, text.as_str().as_bytes()) {
+        Ok(()) => Status::Done,
+        Err(OutFault::Failed) => Status::SinkFailed,
+        Err(OutFault::OutOfMemory) => Status::OutOfMemory,
+    }
+}
+
+/// Ends with an error line, whether the sink takes it or fails, but where the sink finds no memory: it is not asked again.
+pub fn end_by_line<Si: Sink>(sink: &mut Si, line: &str, status: Status) -> Status
+    ensures { IsOwnLine result status (span (Si.told sink.old) (Si.told sink.new)) line.now }
+{
+    match write_all(sink, line.as_bytes()) {
+        Ok(()) => status,
+        Err(OutFault::Failed) => status,
+        Err(OutFault::OutOfMemory) => Status::OutOfMemory,
+    }
+}
+
+/// Ends with the error line of a source or a store that has failed so often, which takes no memory but the sink's.
+fn end_by_count<Si: Sink>(sink: &mut Si, front: &str, count: u64, status: Status) -> Status
+    ensures { IsOwnLine result status (span (Si.told sink.old) (Si.told sink.new)) (count_line front.now count) }
+{
+    match write_count(sink, front, count) {
+        Ok(()) => status,
+        Err(OutFault::Failed) => status,
+        Err(OutFault::OutOfMemory) => Status::OutOfMemory,
+    }
+}
+
+/// Ends with the error line of want of memory, whether the sink takes it or not.
+fn end_by_want<Si: Sink>(sink: &mut Si) -> Status
+    ensures wanted { result ≡ Status.OutOfMemory }
+    ensures line { IsWanted (span (Si.told sink.old) (Si.told sink.new)) }
+{
+    end_by_line(sink, "{status:8}\n", Status::OutOfMemory)
+}
+
+/// Ends with the error line of an input that is refused.
+fn end_by_input<Si: Sink>(alloc: Global, sink: &mut Si, cause: BadInput) -> Status
+    ensures { IsLine result Status.BadInput (span (Si.told sink.old) (Si.told sink.new)) (input_line (cause_of cause)) }
+{
+    match input_line(alloc, cause) {
+        Ok(line) => end_by_line(sink, line.as_str(), Status::BadInput),
+        Err(_) => end_by_want(sink),
+    }
+}
+
+/// Ends with the error line of a damaged journal.
+fn end_by_damage<Si: Sink>(alloc: Global, sink: &mut Si, sequence: u64, kind: Damage) -> Status
+    ensures { IsLine result Status.Damaged (span (Si.told sink.old) (Si.told sink.new)) (damaged_line sequence kind) }
+{
+    match damaged_line(alloc, sequence, kind) {
+        Ok(line) => end_by_line(sink, line.as_str(), Status::Damaged),
+        Err(_) => end_by_want(sink),
+    }
+}
