@@ -1,7 +1,8 @@
 -- What a statement adds to its transaction.
-use Rattle.std.proofs.Common.{◌≡◌, ℕ, ◌+◌, List, [], ◌∷◌, ◌++◌, Option, Some, None, Result, Ok, Err, refl, sym, ◌∙◌, ap}
+use Rattle.std.proofs.Common.{◌≡◌, ℕ, ◌+◌, true, List, [], ◌∷◌, ◌++◌, Option, Some, None, Result, Ok, Err, refl, sym, ◌∙◌, ap}
 use Rattle.std.proofs.lemmas.List.{append-nil}
 use Rattle.std.specs.Prelude.{codes, option_map}
+use Rattle.std.specs.List.{list_all}
 use Rattle.ion_values.specs.declared.value.Value.{Value}
 use Rattle.ql_types.specs.declared.TableId.{TableId}
 use Rattle.ledger_model.specs.declared.block.Said.{Said}
@@ -15,7 +16,8 @@ use Rattle.ledger_model.proofs.UnreadLemmas.{recorded-reading}
 use Rattle.pql_model.specs.declared.expr.Expr.{Expr}
 use Rattle.pql_model.specs.declared.statement.FromClause.{FromClause}
 use Rattle.pql_model.specs.declared.statement.Select.{Select}
-use Rattle.ledger_model.specs.Statements.{create_table, insert_into, select_from}
+use Rattle.pql_model.specs.declared.statement.Statement.TheVariants as statement
+use Rattle.ledger_model.specs.Statements.{is_served_source}
 use Rattle.ledger_model.specs.Run.{effect_of, inserted, selected, reading, unread, unread_result, Begun, Progress, Effect, changed_by, created, existing, new_table, next_id, no_table_more, on_table, recorded, reserved, unless}
 use Rattle.ledger_model.specs.Script.{or_else}
 use Rattle.ledger_core.specs.declared.catalog.Catalog.{Catalog}
@@ -89,14 +91,17 @@ ends-served (Err OutOfMemory) after done wanted is ends = tt
 -- ---- what each statement does, and what it reads
 
 module _ {A : Type 0} (r : Result A Stopped) (after p : Progress) (b : Begun) (s : state.State) (request : Request) (wanted : Option (Result Progress Refusal)) where
-  pub ends-created : (name : List ℕ) → wanted ≡ Some (recorded p request (effect_of b s p request.params (create_table name)))
+  pub ends-created : (name : List ℕ) → wanted ≡ Some (recorded p request (effect_of b s p request.params (statement.Create name)))
       → Ends r after (recorded p request (created b s p name)) → EndsServed r after wanted
   ends-created name is ends = ends-served r after _ wanted is (ends-reading r after p request _ (created b s p name) ends)
 
-  pub ends-inserted : (name : List ℕ) (e : Expr) → wanted ≡ Some (recorded p request (effect_of b s p request.params (insert_into name e)))
+  pub ends-inserted : (name : List ℕ) (e : Expr) → wanted ≡ Some (recorded p request (effect_of b s p request.params (statement.Insert name e)))
       → Ends r after (recorded p request (inserted b s p request.params name e)) → EndsServed r after wanted
   ends-inserted name e is ends = ends-served r after _ wanted is (ends-reading r after p request _ (inserted b s p request.params name e) ends)
 
-  pub ends-selected : (select : Select) (from : FromClause) → wanted ≡ Some (recorded p request (effect_of b s p request.params (select_from select from)))
-      → Ends r after (recorded p request (selected s p request.params select from)) → EndsServed r after wanted
-  ends-selected select from is ends = ends-served r after _ wanted is (ends-reading r after p request _ (selected s p request.params select from) ends)
+  pub ends-selected : (select : Select) (from : FromClause) → wanted ≡ Some (recorded p request (effect_of b s p request.params (statement.Select select from)))
+      → list_all is_served_source from.sources ≡ true
+      → (list_all is_served_source from.sources ≡ true → Ends r after (recorded p request (selected s p request.params select from)))
+      → EndsServed r after wanted
+  ends-selected select from is plain ends =
+      ends-served r after _ wanted is (ends-reading r after p request _ (selected s p request.params select from) (ends plain))

@@ -1,5 +1,6 @@
 -- A SELECT on tables in memory is the one on the state that they list.
-use Rattle.std.proofs.Common.{◌≡◌, ◌∙◌, ℕ, ◌+◌, false, List, [], ◌∷◌, ◌++◌, map, Option, Some, None, Result, Ok, Err, refl, sym, ap, ap₂, arith}
+use Rattle.std.proofs.Common.{◌≡◌, ◌∙◌, ℕ, ◌+◌, true, false, List, [], ◌∷◌, ◌++◌, map, Option, Some, None, Result, Ok, Err, refl, sym, ap, ap₂, arith}
+use Rattle.std.specs.List.{list_all}
 use Rattle.std.proofs.lemmas.List.{append-nil}
 use Rattle.ion_values.specs.declared.value.Value.{Value}
 use Rattle.ql_types.specs.declared.TableId.{TableId}
@@ -9,14 +10,16 @@ use Rattle.pql_model.specs.declared.statement.Source.{Source}
 use Rattle.pql_model.specs.declared.tables.View.{View}
 use Rattle.pql_model.specs.declared.tables.View.TheVariants as view
 use Rattle.pql_model.specs.Answers.{answered}
-use Rattle.pql_model.specs.From.{Viewed, rows_of}
+use Rattle.pql_model.specs.From.{Combined, rows_of}
 use Rattle.pql_model.specs.Tables.{is_committed, table_named}
 use Rattle.ledger_model.specs.declared.block.Draft.{Draft}
 use Rattle.ledger_model.specs.declared.outcome.Refusal.{Refusal}
 use Rattle.ledger_model.specs.declared.script.Request.{Request}
 use Rattle.ledger_model.specs.State as state
 use Rattle.ledger_model.specs.State.{all_changed, draft_of}
+use Rattle.ledger_model.specs.Statements.{is_served_source}
 use Rattle.ledger_model.specs.Views.{latest, latest_from}
+use Rattle.ledger_model.proofs.UserRows.{rows-same}
 use Rattle.ledger_model.specs.Run.{unread, unread_result, Progress, Effect, absent_table, first_absent, or_else, recorded, rows_in, selected, table_in, table_now, tables_now, unless, views_of}
 use Rattle.ledger_core.specs.declared.catalog.Catalog.{Catalog}
 use Rattle.ledger_core.specs.declared.stopped.Stopped.{Stopped}
@@ -36,14 +39,18 @@ documents_now s p = latest (map draft_of s.revisions ++ p.log)
 
 -- ---- views
 
-rows-are : (s : state.State) (p : Progress) (v : View) (t : Option TableId) → rows_among (documents_now s p) v t ≡ rows_in s p v t
-rows-are s p view.User (Some table) = refl
-rows-are s p view.User None = refl
-rows-are s p view.Committed t = refl
-rows-are s p (view.History start end) t = refl
+rows-are : (s : state.State) (p : Progress) (t : Option TableId)
+    → rows_among (documents_now s p) view.User t ≡ rows_in s p view.User t
+rows-are s p (Some table) = refl
+rows-are s p None = refl
 
-views-are : (s : state.State) (p : Progress) → views_among (tables_now s p) (documents_now s p) ≡ views_of s p
-views-are s p = λ i name v. rows-are s p v (table_now s p name) i
+-- the rows of a FROM over user views and paths
+from-is : (s : state.State) (p : Progress) (params : List Value) (from : FromClause)
+    → list_all is_served_source from.sources ≡ true
+    → rows_of (views_of s p) params from ≡ rows_of (views_among (tables_now s p) (documents_now s p)) params from
+from-is s p params from plain =
+    rows-same (views_of s p) (views_among (tables_now s p) (documents_now s p))
+    (λ name. sym (rows-are s p (table_now s p name))) params from plain
 
 -- ---- tables
 
@@ -73,43 +80,47 @@ unless-is : (cause : Option Refusal) (rows : List Value) → unless cause (Ok (a
 unless-is None rows = refl
 unless-is (Some cause) rows = refl
 
-selected-is : (s : state.State) (c : Catalog) (p : Progress) (params : List Value) (select : Select) (from : FromClause) → Lists s c
+selected-is : (s : state.State) (c : Catalog) (p : Progress) (params : List Value) (select : Select) (from : FromClause)
+    → Lists s c → list_all is_served_source from.sources ≡ true
     → selected s p params select from ≡ effect_by (answer_in (tables_in c p) (latest_from c.documents p.log) params select from)
-selected-is s c p params select from lists =
+selected-is s c p params select from lists plain =
     let tables : tables_now s p ≡ tables_in c p = ap (λ ts. all_changed ts p.schema) (sym lists.tables) in
     let documents : documents_now s p ≡ latest_from c.documents p.log =
     latest-more [] (map draft_of s.revisions) p.log ∙ ap (λ ds. latest_from ds p.log) (sym lists.documents) in
     unless-is (first_absent s p from.sources) (answered params (rows_of (views_of s p) params from) select)
-    ∙ ap₂ (λ (cause : Option Refusal) (views : Viewed). effect_by (without cause (Ok (answered params (rows_of views params from) select))))
-    (sym (first-absent-is s p from.sources)) (sym (views-are s p))
+    ∙ ap₂ (λ (cause : Option Refusal) (rows : List Combined). effect_by (without cause (Ok (answered params rows select))))
+    (sym (first-absent-is s p from.sources)) (from-is s p params from plain)
     ∙ ap₂ (λ (ts : List state.Table) (ds : List Draft). effect_by (answer_in ts ds params select from)) tables documents
 
 recorded-by : (s : state.State) (c : Catalog) (p : Progress) (r : Request) (params : List Value) (select : Select) (from : FromClause)
-    → (answer : Result (List Value) Refusal) → Lists s c → params ≡ r.params → answer_in (tables_in c p) (latest_from c.documents p.log) params select from ≡ answer
+    → (answer : Result (List Value) Refusal) → Lists s c → list_all is_served_source from.sources ≡ true → params ≡ r.params
+    → answer_in (tables_in c p) (latest_from c.documents p.log) params select from ≡ answer
     → recorded p r (selected s p r.params select from) ≡ recorded p r (effect_by answer)
-recorded-by s c p r params select from answer lists params_are is =
+recorded-by s c p r params select from answer lists plain params_are is =
     ap (λ vs. recorded p r (selected s p vs select from)) (sym params_are)
-    ∙ ap (recorded p r) (selected-is s c p params select from lists ∙ ap effect_by is)
+    ∙ ap (recorded p r) (selected-is s c p params select from lists plain ∙ ap effect_by is)
 
 -- a SELECT adds nothing but what was said
 pub selected-done : (s : state.State) (c : Catalog) (p q : Progress) (r : Request) (params : List Value) (select : Select) (from : FromClause) (rows : List Value)
-    → Lists s c → params ≡ r.params → answer_in (tables_in c p) (latest_from c.documents p.log) params select from ≡ Ok rows
+    → Lists s c → list_all is_served_source from.sources ≡ true → params ≡ r.params → answer_in (tables_in c p) (latest_from c.documents p.log) params select from ≡ Ok rows
     → q.said ≡ said_more p.said r rows → q.schema ≡ p.schema → q.log ≡ p.log → q.made ≡ p.made
     → unread_result (recorded p r (selected s p r.params select from)) ≡ Ok (unread q)
-selected-done s c p q r params select from rows lists params_are is said schema log made =
+selected-done s c p q r params select from rows lists plain params_are is said schema log made =
     let same : q.made ≡ p.made + 0 = omega arith in
-    ap unread_result (recorded-by s c p r params select from (Ok rows) lists params_are is)
+    ap unread_result (recorded-by s c p r params select from (Ok rows) lists plain params_are is)
     ∙ recorded-is p q r (answer_alone rows) said (schema ∙ sym (append-nil p.schema)) (log ∙ sym (append-nil p.log)) same
 
 -- and it is refused for the first table that isn't active
 stops : (s : state.State) (c : Catalog) (p : Progress) (r : Request) (params : List Value) (select : Select) (from : FromClause) (why : Stopped)
-    → Lists s c → params ≡ r.params → StopsFor why (λ cause. answer_in (tables_in c p) (latest_from c.documents p.log) params select from ≡ Err cause)
+    → Lists s c → list_all is_served_source from.sources ≡ true → params ≡ r.params → StopsFor why (λ cause. answer_in (tables_in c p) (latest_from c.documents p.log) params select from ≡ Err cause)
     → StopsFor why (λ cause. recorded p r (selected s p r.params select from) ≡ Err cause)
-stops s c p r params select from (stopped.Refused cause) lists params_are is = recorded-by s c p r params select from (Err cause) lists params_are is
-stops s c p r params select from stopped.OutOfMemory lists params_are is = tt
+stops s c p r params select from (stopped.Refused cause) lists plain params_are is =
+    recorded-by s c p r params select from (Err cause) lists plain params_are is
+stops s c p r params select from stopped.OutOfMemory lists plain params_are is = tt
 
 pub selected-stops : {A : Type 0} (s : state.State) (c : Catalog) (p after : Progress) (r : Request) (params : List Value) (select : Select) (from : FromClause) (why : Stopped)
-    → (end : Result A Stopped) → end ≡ Err why → Lists s c → params ≡ r.params
+    → (end : Result A Stopped) → end ≡ Err why → Lists s c → list_all is_served_source from.sources ≡ true → params ≡ r.params
     → StopsFor why (λ cause. answer_in (tables_in c p) (latest_from c.documents p.log) params select from ≡ Err cause)
     → Ends end after (recorded p r (selected s p r.params select from))
-selected-stops s c p after r params select from why end end_is lists params_are is = rw end_is (stops s c p r params select from why lists params_are is)
+selected-stops s c p after r params select from why end end_is lists plain params_are is =
+    rw end_is (stops s c p r params select from why lists plain params_are is)

@@ -1,23 +1,35 @@
 -- What a statement in memory stands for, which changes create a table, and why a value isn't stored behind a transaction's
 -- revisions so far.
-use Rattle.std.specs.Prelude.{Bool, true, false, List, [], Option, Result, Ok, Err}
+use Rattle.std.specs.Prelude.{◌≡◌, Bool, true, false, List, [], Option, Some, Result, Ok, Err}
+use Rattle.std.specs.List.{list_all}
 use Rattle.ion_values.specs.declared.value.Value.{Value}
 use Rattle.pql_model.specs.declared.statement.Statement.{Statement}
+use Rattle.pql_model.specs.declared.statement.Statement.TheVariants as statement
 use Rattle.pql_model.specs.Productions.{Fault}
 use Rattle.ledger_model.specs.declared.block.Draft.{Draft}
 use Rattle.ledger_model.specs.declared.block.Schema.{Schema}
 use Rattle.ledger_model.specs.declared.block.Schema.TheVariants.{Create}
 use Rattle.ledger_model.specs.declared.outcome.Refusal.{Refusal}
 use Rattle.ledger_model.specs.declared.outcome.Refusal.TheVariants.{ParseFault}
-use Rattle.ledger_model.specs.Statements.{Served, create_table, insert_into, select_from}
+use Rattle.ledger_model.specs.Statements.{is_served_source}
 use Rattle.ledger_model.specs.Run.{not_stored}
 use Rattle.ledger_core.specs.declared.statements.Served as held
 use Rattle.ledger_core.specs.declared.statements.Served.TheVariants.{CreateTable, InsertInto, Select}
 
-abbrev pub asked_by : held.Served → Served
-asked_by (CreateTable name) = create_table name.now
-asked_by (InsertInto table value) = insert_into table.now value.now
-asked_by (Select select from) = select_from select.now from.now
+abbrev pub asked_by : held.Served → Statement
+asked_by (CreateTable name) = statement.Create name.now
+asked_by (InsertInto table value) = statement.Insert table.now value.now
+asked_by (Select select from) = statement.Select select.now from.now
+
+-- a SELECT that is served ranges over user views and paths
+abbrev pub IsPlain : held.Served → Type 0
+IsPlain (CreateTable name) = Unit {0}
+IsPlain (InsertInto table value) = Unit {0}
+IsPlain (Select select from) = list_all is_served_source from.now.sources ≡ true
+
+-- what is served is that statement
+abbrev pub Serves : Option (Result Statement Refusal) → held.Served → Type 0
+Serves wanted s = (wanted ≡ Some (Ok (asked_by s))) × IsPlain s
 
 -- a fault of a text, as why the statement is refused
 abbrev pub read_of : Result Statement Fault → Result Statement Refusal

@@ -3,6 +3,7 @@ ghost use Rattle.std.specs.Prelude.{◌≡◌, int_le, map, IfOk, if◌then◌el
 ghost use Rattle.ion_values.specs.Time.{instant_of};
 ghost use Rattle.ledger_model.specs.Legal.{last_hash};
 ghost use Rattle.ledger_model.specs.Making.{block_of, revision_of, time_behind};
+ghost use Rattle.ledger_model.specs.Run.{is_left, left_of};
 ghost use Rattle.ledger_model.specs.Views.{latest};
 
 use crate::documents::Documents;
@@ -11,7 +12,7 @@ use crate::views::{copy_content, copy_draft};
 use block_form::{revision_hash, seal, strand_hash};
 use ion_values::{IonTime, OutOfMemory};
 use ledger_model::{
-    Block, Draft, Drafts, Header, Info, Metadata, Revision, Revisions, TableIds, Told,
+    Block, Content, Draft, Drafts, Header, Info, Metadata, Revision, Revisions, TableIds, Told,
 };
 use lists::Sequence;
 use ql_types::{BlockAddress, Hash32, IdMask, Place, StrandId, TxId, id_raw};
@@ -39,7 +40,7 @@ impl Transaction {
             log,
             ..
         } = self;
-        let drafts = latest(alloc, log.as_slice())?;
+        let drafts = left_of(alloc, log.as_slice())?;
         // So many revisions find no memory.
         let Ok(count) = u32::try_from(drafts.len()) else {
             return Err(OutOfMemory);
@@ -67,6 +68,30 @@ impl Transaction {
         };
         let block = seal(alloc, previous, header, info, revisions)?;
         Ok(block)
+    }
+}
+
+/// The revisions that are left of those that pend, each with its document's last content, in order of first touch.
+fn left_of(alloc: Global, log: &[Draft]) -> Result<Drafts, OutOfMemory>
+    ensures { IfOk result (λ left. left ≡ left_of log.now) }
+{
+    let documents = latest(alloc, log)?;
+    let mut left = Sequence::new(alloc);
+    'drafts: for draft in documents.into_vec() {
+        if is_left(&draft) {
+            left.push(draft)?;
+        }
+    }
+    Ok(left)
+}
+
+/// Whether the revision is left: it isn't that of a new document that was deleted again.
+fn is_left(draft: &Draft) -> bool
+    ensures { result ≡ is_left draft.now }
+{
+    match draft.content {
+        Content::Deleted => draft.version != 0,
+        Content::Kept(_) | Content::Redacted(_) => true,
     }
 }
 

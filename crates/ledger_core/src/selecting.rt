@@ -1,7 +1,9 @@
 //! SELECT.
-ghost use Rattle.std.specs.Prelude.{◌≡◌};
+ghost use Rattle.std.specs.Prelude.{◌≡◌, true};
+ghost use Rattle.std.specs.List.{list_all};
 ghost use Rattle.ledger_model.specs.State.{State};
 ghost use Rattle.ledger_model.specs.Run.{recorded, selected};
+ghost use Rattle.ledger_model.specs.Statements.{is_served_source};
 ghost use Rattle.ledger_model.specs.Views.{latest_from};
 ghost use Rattle.ledger_core.specs.Catalogs.{Lists};
 ghost use Rattle.ledger_core.specs.Selects.{answer_in};
@@ -32,7 +34,9 @@ impl Transaction {
         from: &FromClause,
         request: &Request,
     ) -> Result<(), Stopped>
-        ensures ends { (s : State) → Lists s catalog.now → Ends result (progress_of self.new) (recorded (progress_of self.old) request.now (selected s (progress_of self.old) request.now.params select.now from.now)) }
+        ensures ends { (s : State) → Lists s catalog.now → list_all is_served_source from.now.sources ≡ true
+            → Ends result (progress_of self.new) (recorded (progress_of self.old) request.now
+            (selected s (progress_of self.old) request.now.params select.now from.now)) }
         ensures begun { begun_of self.new ≡ begun_of self.old }
     {
         let rows = self.rows_selected(alloc, catalog, select, from, request.params.as_slice())?;

@@ -2,10 +2,11 @@
 ghost use Rattle.std.specs.Prelude.{◌≡◌, Ok, Err, Some, None, IfOk, MatchOption, MatchResult};
 ghost use Rattle.std.specs.List.{list_all};
 ghost use Rattle.ledger_model.specs.Statements as spec;
-ghost use Rattle.ledger_model.specs.Statements.{counted, if_wanted};
+ghost use Rattle.ledger_model.specs.Statements.{counted, if_built, if_wanted};
+ghost use Rattle.pql_model.specs.declared.statement.Statement.TheVariants as statements;
 ghost use Rattle.ledger_model.specs.Unbuilt.{is_known, is_served};
 ghost use Rattle.pql_model.specs.Parse.{parsed};
-ghost use Rattle.ledger_core.specs.Statements.{asked_by, read_of};
+ghost use Rattle.ledger_core.specs.Statements.{Serves, read_of};
 ghost use Rattle.ledger_core.specs.Stops.{Comes};
 
 use crate::sources::is_committed;
@@ -51,7 +52,9 @@ pub(crate) fn served_of<'a>(
     statement: &'a Statement,
     params: &[Value],
 ) -> Option<Result<Served<'a>, Refusal>>
-    ensures { MatchOption result (if_wanted (counted statement.now params.now) ≡ None) (λ r. MatchResult r (λ s. if_wanted (counted statement.now params.now) ≡ Some (Ok (asked_by s))) (λ cause. if_wanted (counted statement.now params.now) ≡ Some (Err cause))) }
+    ensures { MatchOption result (if_wanted (counted statement.now params.now) ≡ None) (λ r. MatchResult r
+        (Serves (if_wanted (counted statement.now params.now)))
+        (λ cause. if_wanted (counted statement.now params.now) ≡ Some (Err cause))) }
 {
     let wanted = parameters(statement);
     if wanted as usize != params.len() {
@@ -68,7 +71,7 @@ pub(crate) fn served_of<'a>(
 
 /// What the statement asks for, or None where it isn't served.
 fn served_as(statement: &Statement) -> Option<Served<'_>>
-    ensures { MatchOption result (spec.served_as statement.now ≡ None) (λ s. spec.served_as statement.now ≡ Some (asked_by s)) }
+    ensures { MatchOption result (if_built statement.now ≡ None) (Serves (if_built statement.now)) }
 {
     match statement {
         Statement::Create { table } => Some(Served::CreateTable { name: table }),
@@ -80,7 +83,8 @@ fn served_as(statement: &Statement) -> Option<Served<'_>>
 
 /// A SELECT from user views and paths, without BY.
 fn selected<'a>(select: &'a Select, from: &'a FromClause) -> Option<Served<'a>>
-    ensures { MatchOption result (spec.selected select.now from.now ≡ None) (λ s. spec.selected select.now from.now ≡ Some (asked_by s)) }
+    ensures { MatchOption result (if_built (statements.Select select.now from.now) ≡ None)
+        (Serves (if_built (statements.Select select.now from.now))) }
 {
     if are_served_sources(from.sources.as_slice()) {
         Some(Served::Select { select, from })
@@ -139,5 +143,16 @@ fn is_known(statement: &Statement, params: &[Value]) -> bool
     if parameters(statement) as usize != params.len() {
         return true;
     }
-    served_as(statement).is_some()
+    is_built(statement)
+}
+
+/// Whether the statement is one of those that are done.
+fn is_built(statement: &Statement) -> bool
+    ensures { result ≡ spec.is_built statement.now }
+{
+    match statement {
+        Statement::Create { .. } | Statement::Insert { .. } => true,
+        Statement::Select { from, .. } => are_served_sources(from.sources.as_slice()),
+        _ => false,
+    }
 }

@@ -14,10 +14,10 @@ use Rattle.pql_model.specs.declared.expr.PathStep.TheVariants as step
 use Rattle.pql_model.specs.declared.statement.Source.{Source}
 use Rattle.pql_model.specs.declared.statement.SourceKind.{SourceKind}
 use Rattle.pql_model.specs.declared.statement.SourceKind.TheVariants as source
+use Rattle.pql_model.specs.declared.statement.Statement.TheVariants as statement
 use Rattle.ql_types.specs.declared.TableId.{TableId}
 use Rattle.ledger_model.specs.declared.outcome.Item.TheVariants as item
 use Rattle.ledger_model.specs.Footprints.{Equation, Schemas, Side, condition_of, constant, footprint_of, names, other, read_by_sources}
-use Rattle.ledger_model.specs.Statements.{create_table, insert_into}
 
 abbrev table : ℕ → TableId
 table raw = record { raw = raw }
@@ -29,10 +29,10 @@ now = record {
   indexes = record { table = table 5; field = codes "a" } ∷ record { table = table 5; field = codes "b" } ∷ [];
 }
 
-created : footprint_of now [] (create_table (codes "v")) ≡ item.TableName (codes "v") ∷ item.TableList ∷ []
+created : footprint_of now [] (statement.Create (codes "v")) ≡ item.TableName (codes "v") ∷ item.TableList ∷ []
 created = refl
 
-inserted : footprint_of now [] (insert_into (codes "t") (expr.Parameter 0)) ≡ item.TableName (codes "t") ∷ []
+inserted : footprint_of now [] (statement.Insert (codes "t") (expr.Parameter 0)) ≡ item.TableName (codes "t") ∷ []
 inserted = refl
 
 -- ---- the parts of conditions

@@ -1,8 +1,12 @@
 pub mod SaidLemmas
 pub mod UnreadLemmas
+pub mod UserRows
 mod ScriptRows
 mod ReportRows
 mod JournalRows
 mod FollowsRows
 mod RunRows
 mod FootprintRows
+mod WritingRows
+mod HistoryRows
+mod ReadRows

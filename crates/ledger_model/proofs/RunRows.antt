@@ -29,7 +29,7 @@ use Rattle.ledger_model.specs.declared.script.Request.{Request}
 use Rattle.ql_types.specs.declared.TableId.{TableId}
 use Rattle.ledger_model.specs.Values.{named_id}
 use Rattle.ledger_model.specs.State.{State, empty}
-use Rattle.ledger_model.specs.Statements.{create_table, insert_into, select_from, if_wanted, served_as, served_of, with_parameters}
+use Rattle.ledger_model.specs.Statements.{if_wanted, is_built, served_of, with_parameters}
 use Rattle.ledger_model.specs.Unbuilt.{is_served}
 use Rattle.ledger_model.specs.Run.{Begun, created, documents_in, first_deep, has_room, inserted, new_table, no_table_more, nothing, run, selected, start, stored, unserved}
 
@@ -44,7 +44,7 @@ plain b = roll-Value (record { annotations = []; body = b })
 abbrev int : ℕ → Value
 int n = plain (body.Int (pos n))
 
-creates : served_of (asks (codes "CREATE TABLE t") []) ≡ Some (Ok (create_table (codes "t")))
+creates : served_of (asks (codes "CREATE TABLE t") []) ≡ Some (Ok (statement.Create (codes "t")))
 unfolding parsed lex is_reserved layers expression free_path
 creates = refl
 
@@ -54,7 +54,7 @@ table_as name variable = record {
   filter = None;
 }
 
-selects : served_of (asks (codes "SELECT * FROM t AS x") []) ≡ Some (Ok (select_from select.Star (table_as (codes "t") (codes "x"))))
+selects : served_of (asks (codes "SELECT * FROM t AS x") []) ≡ Some (Ok (statement.Select select.Star (table_as (codes "t") (codes "x"))))
 unfolding parsed lex is_reserved layers expression free_path
 selects = refl
 
@@ -62,7 +62,7 @@ insert_read : parsed (codes "INSERT INTO t ?") ≡ Ok (statement.Insert (codes "
 unfolding parsed lex is_reserved layers expression free_path
 insert_read = refl
 
-inserts : served_of (asks (codes "INSERT INTO t ?") (int 5 ∷ [])) ≡ Some (Ok (insert_into (codes "t") (expr.Parameter 0)))
+inserts : served_of (asks (codes "INSERT INTO t ?") (int 5 ∷ [])) ≡ Some (Ok (statement.Insert (codes "t") (expr.Parameter 0)))
 inserts = ap (λ x. if_wanted (with_parameters x (int 5 ∷ []))) insert_read ∙ search (rules, expressions.the_lemmas)
 
 no_parameter : served_of (asks (codes "INSERT INTO t ?") []) ≡ Some (Err (ParameterCount 1 0))
@@ -74,13 +74,13 @@ no_statement = refl
 
 -- ---- which statements are served
 
-committed : served_as (statement.Select select.Star (table_as (codes "_ql_committed_t") (codes "x"))) ≡ None
+committed : is_built (statement.Select select.Star (table_as (codes "_ql_committed_t") (codes "x"))) ≡ false
 committed = refl
 
-of_value : served_as (statement.Select (select.Value (expr.Parameter 0)) (table_as (codes "t") (codes "x"))) ≡ Some (select_from (select.Value (expr.Parameter 0)) (table_as (codes "t") (codes "x")))
+of_value : is_built (statement.Select (select.Value (expr.Parameter 0)) (table_as (codes "t") (codes "x"))) ≡ true
 of_value = refl
 
-drops : served_as (statement.Drop (codes "t")) ≡ None
+drops : is_built (statement.Drop (codes "t")) ≡ false
 drops = refl
 
 dropped : is_served (asks (codes "DROP TABLE t") []) ≡ false

@@ -2,11 +2,12 @@
 use Rattle.std.proofs.Common.{◌≡◌, ℕ, ◌+◌, List, [], ◌∷◌, ◌++◌, refl, sym, subst, ◌∙◌, append_assoc, append-nil, Option, Some, None, Result, Ok, Err}
 use Rattle.std.specs.Prelude.{option_map}
 use Rattle.std.proofs.lemmas.List.{map-append}
+use Rattle.pql_model.specs.declared.statement.Statement.{Statement}
 use Rattle.ledger_model.specs.declared.script.Request.{Request}
 use Rattle.ledger_model.specs.declared.outcome.Refusal.{Refusal}
 use Rattle.ledger_model.specs.State.{State}
 use Rattle.ledger_model.specs.Run.{Begun, Progress, Effect, recorded, done_by, step, Ran, ran, refused, unserved, then_run, run_from, run, start}
-use Rattle.ledger_model.specs.Statements.{Served, served_of}
+use Rattle.ledger_model.specs.Statements.{served_of}
 use Rattle.ledger_model.specs.Legal.{asked_in}
 
 -- what was asked, and this request behind it
@@ -19,7 +20,7 @@ recorded-adds : (p : Progress) (r : Request) (e : Result Effect Refusal) → Add
 recorded-adds p r (Ok e) = map-append _ p.said _
 recorded-adds p r (Err cause) = tt
 
-step-adds : (b : Begun) (s : State) (p : Progress) (r : Request) (o : Option (Result Served Refusal)) → Adds p r (option_map (done_by b s p r) o)
+step-adds : (b : Begun) (s : State) (p : Progress) (r : Request) (o : Option (Result Statement Refusal)) → Adds p r (option_map (done_by b s p r) o)
 step-adds b s p r None = tt
 step-adds b s p r (Some served) = recorded-adds p r _
 

@@ -21,6 +21,8 @@ use Rattle.pql_model.specs.declared.statement.FromClause.{FromClause}
 use Rattle.pql_model.specs.declared.statement.Source.{Source}
 use Rattle.pql_model.specs.declared.statement.SourceKind.{SourceKind}
 use Rattle.pql_model.specs.declared.statement.SourceKind.TheVariants as source
+use Rattle.pql_model.specs.declared.statement.Statement.{Statement}
+use Rattle.pql_model.specs.declared.statement.Statement.TheVariants as statement
 use Rattle.pql_model.specs.Names.{called, resolve}
 use Rattle.pql_model.specs.Rules.{is_single}
 use Rattle.pql_model.specs.Tables.{is_committed}
@@ -29,7 +31,7 @@ use Rattle.ledger_model.specs.declared.outcome.Item.{Item}
 use Rattle.ledger_model.specs.declared.outcome.Item.TheVariants as item
 use Rattle.ledger_model.specs.Follows.{has_index}
 use Rattle.ledger_model.specs.State.{Indexed, Table, active_table}
-use Rattle.ledger_model.specs.Statements.{Served, create_table, insert_into, select_from, table_in}
+use Rattle.ledger_model.specs.Statements.{table_in}
 
 -- ---- the parts of a condition: the operands of its topmost ANDs
 
@@ -225,7 +227,12 @@ read_by_sources now equations sources =
 
 -- ---- the footprint of a statement, with these parameters
 
-abbrev pub footprint_of : Schemas → List Value → Served → List Item
-footprint_of now params (create_table name) = item.TableName name ∷ item.TableList ∷ []
-footprint_of now params (insert_into name e) = item.TableName name ∷ []
-footprint_of now params (select_from select from) = read_by_sources now (equations_of params from) from.sources
+abbrev pub footprint_of : Schemas → List Value → Statement → List Item
+footprint_of now params (statement.Create name) = item.TableName name ∷ item.TableList ∷ []
+footprint_of now params (statement.Index name field) = item.TableName name ∷ []
+footprint_of now params (statement.Drop name) = item.TableName name ∷ []
+footprint_of now params (statement.Insert name e) = item.TableName name ∷ []
+footprint_of now params (statement.Select select from) = read_by_sources now (equations_of params from) from.sources
+footprint_of now params (statement.Update from change) = read_by_sources now (equations_of params from) from.sources
+footprint_of now params (statement.From from change) = read_by_sources now (equations_of params from) from.sources
+footprint_of now params (statement.Delete from) = read_by_sources now (equations_of params from) from.sources

@@ -4,8 +4,14 @@ pub mod State
 pub mod Views
 pub mod Statements
 pub mod Footprints
-pub mod Run
 pub mod Journal
+pub mod Progress
+pub mod SchemaChanges
+pub mod Inserting
+pub mod Selecting
+pub mod Writing
+pub mod CommittedViews
+pub mod Run
 pub mod Seals
 pub mod CommitDigest
 pub mod Legal

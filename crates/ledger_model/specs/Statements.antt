@@ -1,12 +1,9 @@
 -- The statement that a request asks for: its text by the grammar, with as many parameters as it has question marks (PartiQL); and
 -- which statements are served so far: CREATE TABLE, INSERT INTO a table, and SELECT from user views and paths without BY.
-use Rattle.std.specs.Prelude.{ℕ, ◌==◌, ◌&&◌, ◌-◌, ◌^◌, min, not, Bool, true, false, List, length, codes, Option, Some, None, option_map, Result, Ok, Err, is_some, if◌then◌else◌}
+use Rattle.std.specs.Prelude.{ℕ, ◌==◌, ◌&&◌, ◌-◌, ◌^◌, min, not, Bool, true, false, List, length, codes, Option, Some, None, Result, Ok, Err, is_some, if◌then◌else◌}
 use Rattle.std.specs.List.{list_all}
 use Rattle.ion_values.specs.declared.value.Value.{Value}
 use Rattle.ion_grammar.specs.Blanks.{begins}
-use Rattle.pql_model.specs.declared.expr.Expr.{Expr}
-use Rattle.pql_model.specs.declared.statement.FromClause.{FromClause}
-use Rattle.pql_model.specs.declared.statement.Select.{Select}
 use Rattle.pql_model.specs.declared.statement.Source.{Source}
 use Rattle.pql_model.specs.declared.statement.SourceKind.{SourceKind}
 use Rattle.pql_model.specs.declared.statement.SourceKind.TheVariants as source
@@ -51,11 +48,6 @@ statement_of r = with_parameters (parsed r.text) r.params
 
 -- ---- what is served
 
-pub data Served : Type 0 where
-  create_table : (name : List ℕ) → Served
-  insert_into : (table : List ℕ) (value : Expr) → Served
-  select_from : (select : Select) (from : FromClause) → Served
-
 -- the user view of a table, or a path
 abbrev pub is_plain : SourceKind → Bool
 is_plain (source.Table name) = not (is_committed name)
@@ -66,23 +58,23 @@ is_plain (source.Path path) = true
 abbrev pub is_served_source : Source → Bool
 is_served_source s = is_plain s.from && not (is_some s.id_name)
 
-abbrev pub selected : Select → FromClause → Option Served
-selected select from = if list_all is_served_source from.sources then Some (select_from select from) else None
+abbrev pub is_built : Statement → Bool
+is_built (statement.Create table) = true
+is_built (statement.Insert table value) = true
+is_built (statement.Select select from) = list_all is_served_source from.sources
+is_built (statement.Update from change) = false
+is_built (statement.From from change) = false
+is_built (statement.Delete from) = false
+is_built (statement.Index table field) = false
+is_built (statement.Drop table) = false
 
-abbrev pub served_as : Statement → Option Served
-served_as (statement.Create table) = Some (create_table table)
-served_as (statement.Insert table value) = Some (insert_into table value)
-served_as (statement.Select select from) = selected select from
-served_as (statement.Update from change) = None
-served_as (statement.From from change) = None
-served_as (statement.Delete from) = None
-served_as (statement.Index table field) = None
-served_as (statement.Drop table) = None
+abbrev pub if_built : Statement → Option (Result Statement Refusal)
+if_built s = if is_built s then Some (Ok s) else None
 
 -- the statement, or why it is refused; None where it isn't served so far
-abbrev pub if_wanted : Result Statement Refusal → Option (Result Served Refusal)
-if_wanted (Ok s) = option_map Ok (served_as s)
+abbrev pub if_wanted : Result Statement Refusal → Option (Result Statement Refusal)
+if_wanted (Ok s) = if_built s
 if_wanted (Err cause) = Some (Err cause)
 
-abbrev pub served_of : Request → Option (Result Served Refusal)
+abbrev pub served_of : Request → Option (Result Statement Refusal)
 served_of r = if_wanted (statement_of r)

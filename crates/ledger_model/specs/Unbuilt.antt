@@ -1,7 +1,7 @@
 -- How an input is judged: which is too long, no Ion text or no script, a script that is served, or one that isn't served so
 -- far. A script isn't served where a statement of it is whole, with as many parameters as it wants, and is none of those that are
 -- served, or where it sends a digest.
-use Rattle.std.specs.Prelude.{ℕ, ◌&&◌, Bool, true, nat_le, is_none, is_some, List, length, Result, Ok, Err, if◌then◌else◌}
+use Rattle.std.specs.Prelude.{ℕ, ◌&&◌, Bool, true, nat_le, is_none, List, length, Result, Ok, Err, if◌then◌else◌}
 use Rattle.std.specs.List.{list_all}
 use Rattle.ion_values.specs.declared.fault.IonFault.{IonFault}
 use Rattle.ion_values.specs.declared.value.Value.{Value}
@@ -11,12 +11,12 @@ use Rattle.ledger_model.specs.declared.script.Request.{Request}
 use Rattle.ledger_model.specs.declared.script.Job.{Job}
 use Rattle.ledger_model.specs.declared.script.ScriptFault.{ScriptFault}
 use Rattle.ledger_model.specs.declared.outcome.Refusal.{Refusal}
-use Rattle.ledger_model.specs.Statements.{served_as, statement_of}
+use Rattle.ledger_model.specs.Statements.{is_built, statement_of}
 use Rattle.ledger_model.specs.ReadScript.{read_script}
 
 -- a statement that is refused for itself is served too: its transaction is told of it
 abbrev pub is_known : Result Statement Refusal → Bool
-is_known (Ok s) = is_some (served_as s)
+is_known (Ok s) = is_built s
 is_known (Err cause) = true
 
 abbrev pub is_served : Request → Bool
