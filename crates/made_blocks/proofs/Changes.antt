@@ -57,7 +57,6 @@ module _ (b : Begun) (s : State) (schema : List Schema) (log : List Draft) (made
         fits = all_push (λ d. schema_fits d ≡ true) schema c m.fits fits;
         drafts = subst (λ xs. AllByRecursion (IsPending s xs) log) (sym created)
             (more_created s ids (id ∷ []) log m.drafts);
-        left = m.left;
         count = let e = m.count in omega (arith, e, counts);
         few_tables = omega (arith, counts, room);
         few_documents = m.few_documents;
@@ -80,7 +79,6 @@ module _ (b : Begun) (s : State) (schema : List Schema) (log : List Draft) (made
         follow = schema_push schema s.tables s.indexes c m.follow follows;
         fits = all_push (λ d. schema_fits d ≡ true) schema c m.fits fits;
         drafts = subst (λ xs. AllByRecursion (IsPending s xs) log) (sym created) m.drafts;
-        left = m.left;
         count = let e = m.count in omega (arith, e, counts, uncounted);
         few_tables = let f = m.few_tables in omega (arith, f, counts, uncounted);
         few_documents = m.few_documents;

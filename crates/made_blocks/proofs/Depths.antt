@@ -14,6 +14,7 @@ use Rattle.pql_model.specs.Parse.{parsed}
 use Rattle.pql_model.specs.Shallow.{IsShallowSelect}
 use Rattle.pql_model.proofs.AnswerDepths.{answers_are_shallow}
 use Rattle.pql_model.proofs.ParsedDepths.{parsed_is_shallow}
+use Rattle.made_blocks.proofs.Lists.{all_like}
 use Rattle.made_blocks.proofs.Shapes.{Shallow}
 
 -- ---- the deepest of a list, and each of it
@@ -35,15 +36,15 @@ select_shallow : (text : List ℕ) (select : Select) (from : FromClause)
 select_shallow text select from e = let whole =
     parsed_is_shallow text (statement.Select select from) e in omega (arith, whole)
 
--- what a SELECT of a text answers of documents and parameters of at most 64 deep
+-- what a SELECT of a text answers of rows of at most 65 deep, as views of documents have them, and parameters of at most 64
 pub answer_shallow : (views : Viewed) (params : List Value) (text : List ℕ) (select : Select) (from : FromClause)
-    → ((name : List ℕ) (v : View) → AllByRecursion (λ r. Shallow 64 r.value) (views name v))
+    → ((name : List ℕ) (v : View) → AllByRecursion (λ r. Shallow 65 r.value) (views name v))
     → AllByRecursion (Shallow 64) params
     → parsed text ≡ Ok (statement.Select select from)
     → AllByRecursion (Shallow 130) (answered params (rows_of views params from) select)
 answer_shallow views params text select from rows given e =
-    each_of depth_of 129 130 _ (omega arith)
-    (answers_are_shallow 64 views params from select
-    (λ name v. deepest_of (λ r. depth_of r.value) 64 (views name v) (rows name v))
-    (deepest_of depth_of 64 params given)
+    each_of depth_of 130 130 _ (omega arith)
+    (answers_are_shallow 65 views params from select
+    (λ name v. deepest_of (λ r. depth_of r.value) 65 (views name v) (rows name v))
+    (deepest_of depth_of 65 params (all_like (Shallow 64) (Shallow 65) (λ v h. omega (arith, h)) params given))
     (select_shallow text select from e))

@@ -56,7 +56,7 @@ module _ (b : Begun) (s : State) (ready : IsReady b s) where
       let four = past (has_room p) (TooManyRevisions 41) None three.1 in
       let room : length (latest p.log) < 40 = ltb-true (length (latest p.log)) 40 four.0 in
       let more = insert_more b s p.schema p.log p.made m ready (new_draft p table v) refl
-      (new_pending p table v m t two.0) refl room in
+      (new_pending p table v m t two.0) room in
       record {
         rows = (shallow_id (codes "documentId") (next_id b p), tt);
         made = same_made b s _ _ _ _ _ _ (sym (append-nil p.schema)) refl refl more;

@@ -19,6 +19,8 @@ mod Revisions
 mod Revised
 mod Effects
 mod Creates
+mod SchemaChanges
+mod Writes
 mod Inserts
 mod Selects
 mod Runs

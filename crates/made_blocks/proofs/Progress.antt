@@ -12,7 +12,7 @@ use Rattle.ledger_model.specs.Run.{Begun, created_count}
 use Rattle.ledger_model.specs.Views.{latest}
 use Rattle.ledger_model.specs.Whole.{id_fits, schema_fits, is_redacted}
 use Rattle.ledger_model.specs.Follows.{latest_of, is_new, schema_follows, created_ids, has_table, all_differ}
-use Rattle.made_blocks.specs.Pending.{goes_on, is_left, draft_ids, given_ids}
+use Rattle.made_blocks.specs.Pending.{goes_on, draft_ids, given_ids}
 use Rattle.made_blocks.proofs.Lists.{all_like, all_rest}
 use Rattle.made_blocks.proofs.Thinned.{unthinned}
 use Rattle.made_blocks.proofs.Ids.{same_thing, transaction_of, raw_id_fits}
@@ -50,7 +50,6 @@ pub record Made (b : Begun) (s : State) (schema : List Schema) (log : List Draft
   pub follow : schema_follows s.tables s.indexes schema ≡ true
   pub fits : AllByRecursion (λ c. schema_fits c ≡ true) schema
   pub drafts : AllByRecursion (IsPending s (created_ids schema)) log
-  pub left : AllByRecursion (λ d. is_left d ≡ true) log
   pub count : made ≤ created_count schema + length (latest log)
   pub few_tables : created_count schema ≤ 20
   pub few_documents : length (latest log) ≤ 40
@@ -62,7 +61,6 @@ none_made b s = record {
   follow = refl;
   fits = tt;
   drafts = tt;
-  left = tt;
   count = omega arith;
   few_tables = omega arith;
   few_documents = omega arith;

@@ -7,6 +7,7 @@ use Rattle.ledger_model.specs.declared.block.Draft.{Draft}
 use Rattle.ledger_model.specs.State.{State, Recorded}
 use Rattle.ledger_model.specs.Whole.{id_fits, is_redacted}
 use Rattle.ledger_model.specs.Follows.{latest_of, is_kept, is_new, has_table}
+use Rattle.ledger_model.specs.Writing.{again_of, next_of}
 use Rattle.made_blocks.specs.Pending.{goes_on}
 use Rattle.made_blocks.proofs.Parts.{ShallowContent}
 use Rattle.made_blocks.proofs.Progress.{IsPending}
@@ -15,19 +16,6 @@ use Rattle.made_blocks.proofs.Progress.{IsPending}
 pub record IsContent (c : Content) : Type 0 where
   pub shallow : ShallowContent c
   pub unredacted : is_redacted c ≡ false
-
--- the revision after a committed one that is no delete
-abbrev pub next_of : Recorded → Content → Draft
-next_of last c = record {
-  table = last.table;
-  id = last.revision.metadata.id;
-  version = last.revision.metadata.version + 1;
-  content = c;
-}
-
--- a later one of a document that pends
-abbrev pub again_of : Draft → Content → Draft
-again_of d c = record { table = d.table; id = d.id; version = d.version; content = c }
 
 next_goes_on : (last : Recorded) (c : Content) (o : Option Recorded) → o ≡ Some last
     → is_kept last.revision.content ≡ true

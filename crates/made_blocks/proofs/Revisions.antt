@@ -11,7 +11,7 @@ use Rattle.ledger_model.specs.State.{State}
 use Rattle.ledger_model.specs.Run.{Begun}
 use Rattle.ledger_model.specs.Views.{latest}
 use Rattle.ledger_model.specs.Follows.{is_new, created_ids, all_differ}
-use Rattle.made_blocks.specs.Pending.{is_left, draft_ids, given_ids}
+use Rattle.made_blocks.specs.Pending.{draft_ids, given_ids}
 use Rattle.made_blocks.proofs.Lists.{all_push, all_like, all_unmapped, apart, differ_push}
 use Rattle.made_blocks.proofs.Latest.{latest-push, put_new, put_ids, others}
 use Rattle.made_blocks.proofs.Ready.{IsReady}
@@ -26,15 +26,25 @@ ids_more log d h = ap draft_ids (latest-push log d ∙ put_new (latest log) d h)
     ∙ map_push (λ x. x.id.raw) (latest log) d
 
 -- the same documents
-ids_same : (log : List Draft) (d : Draft) → list_any (λ id. id == d.id.raw) (draft_ids (latest log)) ≡ true
+pub ids_same : (log : List Draft) (d : Draft) → list_any (λ id. id == d.id.raw) (draft_ids (latest log)) ≡ true
     → draft_ids (latest (log ++ d ∷ [])) ≡ draft_ids (latest log)
 ids_same log d h = ap draft_ids (latest-push log d) ∙ put_ids (latest log) d h
 
-as_many : (xs ys : List Draft) → draft_ids xs ≡ draft_ids ys → length xs ≡ length ys
+pub as_many : (xs ys : List Draft) → draft_ids xs ≡ draft_ids ys → length xs ≡ length ys
 as_many xs ys e = sym (length-map xs (λ d. d.id.raw)) ∙ ap length e ∙ length-map ys (λ d. d.id.raw)
 
 longer : (log : List Draft) (d : Draft) → length (latest log) ≤ length (latest (log ++ d ∷ []))
 longer log d =
+    elim (cases_Bool (list_any (λ id. id == d.id.raw) (draft_ids (latest log)))) [
+      | inl there ↦ let e = as_many (latest (log ++ d ∷ [])) (latest log) (ids_same log d there) in omega (arith, e)
+      | inr none ↦
+          let e = ap length (latest-push log d ∙ put_new (latest log) d (others (latest log) d.id.raw none)) in
+          let l = length_push (latest log) d in
+          omega (arith, e, l)
+    ]
+
+pub one_longer : (log : List Draft) (d : Draft) → length (latest (log ++ d ∷ [])) ≤ length (latest log) + 1
+one_longer log d =
     elim (cases_Bool (list_any (λ id. id == d.id.raw) (draft_ids (latest log)))) [
       | inl there ↦ let e = as_many (latest (log ++ d ∷ [])) (latest log) (ids_same log d there) in omega (arith, e)
       | inr none ↦
@@ -55,9 +65,9 @@ module _ (b : Begun) (s : State) (schema : List Schema) (log : List Draft) (made
     (m : Made b s schema log made) where
   -- a new document is inserted, under the next id
   pub insert_more : IsReady b s → (d : Draft) → d.id.raw ≡ raw_id b.mask b.number (made + 1)
-      → IsPending s (created_ids schema) d → is_left d ≡ true
-      → length (latest log) < 40 → Made b s schema (log ++ d ∷ []) (made + 1)
-  insert_more ready d own pending left room =
+      → IsPending s (created_ids schema) d → length (latest log) < 40
+      → Made b s schema (log ++ d ∷ []) (made + 1)
+  insert_more ready d own pending room =
       let next = raw_id b.mask b.number (made + 1) in
       let new : is_new s.revisions d.id.raw ≡ true =
       subst (λ x. is_new s.revisions x ≡ true) (sym own)
@@ -85,7 +95,6 @@ module _ (b : Begun) (s : State) (schema : List Schema) (log : List Draft) (made
         follow = m.follow;
         fits = m.fits;
         drafts = all_push (IsPending s (created_ids schema)) log d m.drafts pending;
-        left = all_push (λ x. is_left x ≡ true) log d m.left left;
         count = let e = m.count in omega (arith, e, l, long);
         few_tables = m.few_tables;
         few_documents = omega (arith, l, long, room);
@@ -111,10 +120,10 @@ module _ (b : Begun) (s : State) (schema : List Schema) (log : List Draft) (made
   -- a document of the state is changed or deleted, or one that pends already
   pub revise_more : (d : Draft)
       → (is_new s.revisions d.id.raw ≡ false) ⊎ (list_any (λ x. x == d.id.raw) (draft_ids (latest log)) ≡ true)
-      → IsPending s (created_ids schema) d → is_left d ≡ true → length (latest (log ++ d ∷ [])) ≤ 40
+      → IsPending s (created_ids schema) d → length (latest (log ++ d ∷ [])) ≤ 40
       → Made b s schema (log ++ d ∷ []) made
   unfolding IsKnown
-  revise_more d known pending left room =
+  revise_more d known pending room =
       let all = given_same d known in
       record {
         ids = subst (AllByRecursion (IsGiven b made)) (sym all) m.ids;
@@ -122,7 +131,6 @@ module _ (b : Begun) (s : State) (schema : List Schema) (log : List Draft) (made
         follow = m.follow;
         fits = m.fits;
         drafts = all_push (IsPending s (created_ids schema)) log d m.drafts pending;
-        left = all_push (λ x. is_left x ≡ true) log d m.left left;
         count = let e = m.count in let l = longer log d in omega (arith, e, l);
         few_tables = m.few_tables;
         few_documents = room;

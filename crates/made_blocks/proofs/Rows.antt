@@ -39,7 +39,8 @@ use Rattle.made_blocks.proofs.Shapes.{Shallow}
 use Rattle.made_blocks.proofs.Progress.{IsPending, Made, none_made}
 use Rattle.made_blocks.proofs.Changes.{change_more}
 use Rattle.made_blocks.proofs.Revisions.{revise_more}
-use Rattle.made_blocks.proofs.Revised.{next_of, again_of, next_pends, again_pends, known_of}
+use Rattle.ledger_model.specs.Writing.{again_of, next_of}
+use Rattle.made_blocks.proofs.Revised.{next_pends, again_pends, known_of}
 use Rattle.made_blocks.proofs.Undamaged.{made_is_undamaged}
 
 abbrev first : Begun
@@ -178,13 +179,9 @@ module _ (b : Begun) (s : State) (last : Recorded) (v : Value)
   known : is_new s.revisions last.revision.metadata.id.raw ≡ false
   known = known_of s.revisions last.revision.metadata.id.raw last found
 
-  next_left : (n : ℕ) (c : Content) → is_left (record (next_of last c) { version = n + 1 }) ≡ true
-  next_left n c = rw (ne_eqb (n + 1) 0 (λ e. omega (arith, e))) refl
-
   -- a document is changed
   one_changed : Made b s [] (changed_draft ∷ []) 0
-  one_changed = revise_more b s [] [] 0 (none_made b s) changed_draft (inl known) changed_pends
-      (next_left last.revision.metadata.version (Kept v)) (omega arith)
+  one_changed = revise_more b s [] [] 0 (none_made b s) changed_draft (inl known) changed_pends (omega arith)
 
   -- and then deleted
   two_drafts : length (latest (changed_draft ∷ again_of changed_draft Deleted ∷ [])) ≡ 1
@@ -193,7 +190,7 @@ module _ (b : Begun) (s : State) (last : Recorded) (v : Value)
   then_deleted : Made b s [] (changed_draft ∷ again_of changed_draft Deleted ∷ []) 0
   then_deleted =
       revise_more b s [] (changed_draft ∷ []) 0 one_changed (again_of changed_draft Deleted) (inl known) deleted_pends
-      (next_left last.revision.metadata.version Deleted) (let e = two_drafts in omega (arith, e))
+      (let e = two_drafts in omega (arith, e))
 
   -- and its table dropped
   then_dropped : (name : List ℕ) → is_named s.tables name last.table ≡ true

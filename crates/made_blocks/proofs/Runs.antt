@@ -5,19 +5,24 @@ use Rattle.std.specs.List.{AllByRecursion}
 use Rattle.std.proofs.lemmas.Bool.{leb-true}
 use Rattle.ion_values.specs.Depth.{depth_of}
 use Rattle.ion_values.specs.declared.value.Value.{Value}
+use Rattle.pql_model.specs.declared.statement.Statement.{Statement}
+use Rattle.pql_model.specs.declared.statement.Statement.TheVariants as statement
+use Rattle.pql_model.specs.Parse.{parsed}
 use Rattle.ledger_model.specs.declared.script.Request.{Request}
 use Rattle.ledger_model.specs.declared.outcome.Refusal.{Refusal}
 use Rattle.ledger_model.specs.State.{State}
 use Rattle.ledger_model.specs.Footprints.{footprint_of}
-use Rattle.ledger_model.specs.Statements.{Served, create_table, insert_into, select_from, served_of}
+use Rattle.ledger_model.specs.Statements.{served_of}
 use Rattle.ledger_model.specs.Run.{Begun, Progress, Effect, Ran, ran, refused, unserved, is_shallow, told_depth, first_deep, done_by_statement, schemas_now, effect_of, if_shallow, recorded, done_by, step, then_run, run_from, run, start}
 use Rattle.made_blocks.proofs.Lists.{all_push}
 use Rattle.made_blocks.proofs.Shapes.{Shallow}
-use Rattle.made_blocks.proofs.Statements.{IsRead, Reads, request_reads}
+use Rattle.made_blocks.proofs.Statements.{Reads, request_reads}
 use Rattle.made_blocks.proofs.Ready.{IsReady}
 use Rattle.made_blocks.proofs.Progress.{ShallowSaid, none_made}
 use Rattle.made_blocks.proofs.Effects.{MadeBy, FineProgress, Leaves, reading_leaves}
 use Rattle.made_blocks.proofs.Creates.{leaves_create}
+use Rattle.made_blocks.proofs.SchemaChanges.{leaves_drop, leaves_index}
+use Rattle.made_blocks.proofs.Writes.{leaves_change, leaves_delete}
 use Rattle.made_blocks.proofs.Inserts.{leaves_insert}
 use Rattle.made_blocks.proofs.Selects.{leaves_select}
 
@@ -39,16 +44,21 @@ params_shallow (v ∷ vs) e = let both =
 module _ (b : Begun) (s : State) (ready : IsReady b s) where
   -- ---- one statement
 
-  leaves_statement : (p : Progress) (params : List Value) (text : List ℕ) (st : Served) → MadeBy b s p
-      → AllByRecursion (Shallow 64) params → IsRead text st
+  leaves_statement : (p : Progress) (params : List Value) (text : List ℕ) (st : Statement) → MadeBy b s p
+      → AllByRecursion (Shallow 64) params → parsed text ≡ Ok st
       → Leaves b s p (done_by_statement b s p params st)
-  leaves_statement p params text (create_table name) m given e = leaves_create b s ready p name m
-  leaves_statement p params text (insert_into name value) m given e = leaves_insert b s ready p params name value m
-  leaves_statement p params text (select_from select from) m given e =
+  leaves_statement p params text (statement.Create name) m given e = leaves_create b s ready p name m
+  leaves_statement p params text (statement.Index name field) m given e = leaves_index b s ready p name field m
+  leaves_statement p params text (statement.Drop name) m given e = leaves_drop b s ready p name m
+  leaves_statement p params text (statement.Insert name value) m given e = leaves_insert b s ready p params name value m
+  leaves_statement p params text (statement.Select select from) m given e =
       leaves_select b s ready p params text select from m given e
+  leaves_statement p params text (statement.Update from c) m given e = leaves_change b s ready p params from c m
+  leaves_statement p params text (statement.From from c) m given e = leaves_change b s ready p params from c m
+  leaves_statement p params text (statement.Delete from) m given e = leaves_delete b s ready p params from m
 
-  leaves_effect : (p : Progress) (params : List Value) (text : List ℕ) (st : Served) → MadeBy b s p
-      → AllByRecursion (Shallow 64) params → IsRead text st
+  leaves_effect : (p : Progress) (params : List Value) (text : List ℕ) (st : Statement) → MadeBy b s p
+      → AllByRecursion (Shallow 64) params → parsed text ≡ Ok st
       → Leaves b s p (effect_of b s p params st)
   leaves_effect p params text st m given e =
       reading_leaves b s p (footprint_of (schemas_now s p) params st) _ (leaves_statement p params text st m given e)
@@ -73,7 +83,7 @@ module _ (b : Begun) (s : State) (ready : IsReady b s) where
   shallow_keeps p r so (Some depth) e x h = tt
   shallow_keeps p r so None e x h = recorded_keeps p r so e x (h (params_shallow r.params e))
 
-  read_keeps : (p : Progress) (r : Request) → FineProgress b s p → (x : Option (Result Served Refusal))
+  read_keeps : (p : Progress) (r : Request) → FineProgress b s p → (x : Option (Result Statement Refusal))
       → Reads r.text x
       → Keeps (option_map (done_by b s p r) x)
   read_keeps p r so None h = tt

@@ -29,11 +29,6 @@ use Rattle.made_blocks.proofs.Runs.{so_far_of}
 use Rattle.made_blocks.proofs.Follows.{follows_made}
 use Rattle.made_blocks.proofs.Blocks.{is_whole}
 
--- so far each document that a transaction inserts is left, since no statement deletes it again
-final_are_left : (b : Begun) (blocks : List Block) (p : Progress) → Made b (state blocks) p.schema p.log p.made
-    → left_of p.log ≡ final_revisions p
-final_are_left b blocks p m = all_kept is_left (latest p.log) (all_latest (λ d. is_left d ≡ true) p.log m.left)
-
 -- the block of these revisions
 abbrev block_with : Begun → List Block → Place → TimeParts → Progress → List Draft → Block
 block_with b before place time p drafts =
@@ -78,10 +73,7 @@ module _ (b : Begun) (blocks : List Block) (place : Place) (time : TimeParts) (a
   pub made_is_undamaged : Undamaged (blocks ++ block_of b blocks place time p ∷ [])
   made_is_undamaged =
       let whole = is_whole b blocks place time p can make ranges so_far in
-      let all : Undamaged (blocks ++ block ∷ []) =
-      undamaged_push blocks [] block can.undamaged whole (no_damage blocks block passes) in
-      subst (λ ds. Undamaged (blocks ++ block_with b blocks place time p ds ∷ []))
-      (final_are_left b blocks p so_far.made) all
+      undamaged_push blocks [] block can.undamaged whole (no_damage blocks block passes)
 
 -- so each block that is made of statements behind others is undamaged there
 pub made_of_is_undamaged : (b : Begun) (blocks : List Block) (place : Place) (time : TimeParts) (asked : List Request)

@@ -1,11 +1,12 @@
--- Revisions that pend in a transaction, and which of them its block gets.
-use Rattle.std.specs.Prelude.{ℕ, ◌+◌, ◌==◌, ◌&&◌, not, Bool, List, [], ◌∷◌, ◌++◌, map, Option, Some, None, if◌then◌else◌}
+-- Revisions that pend in a transaction, and the ids that it gave.
+use Rattle.std.specs.Prelude.{ℕ, ◌+◌, ◌==◌, ◌&&◌, Bool, List, [], ◌∷◌, ◌++◌, map, Option, Some, None, if◌then◌else◌}
 use Rattle.std.specs.List.{filter}
 use Rattle.ledger_model.specs.declared.block.Draft.{Draft}
 use Rattle.ledger_model.specs.declared.block.Schema.{Schema}
 use Rattle.ledger_model.specs.State.{State, Recorded}
 use Rattle.ledger_model.specs.Views.{latest}
 use Rattle.ledger_model.specs.Follows.{created_ids, is_kept, is_new}
+pub use Rattle.ledger_model.specs.Run.{is_left, left_of}
 
 -- The revision of a draft goes on from the latest committed one: a new document begins with version 0, and another
 -- one, which isn't deleted, keeps its table and has one version more.
@@ -14,14 +15,6 @@ goes_on d None = d.version == 0
 goes_on d (Some last) =
     (d.table.raw == last.table.raw) &&
     (d.version == last.revision.metadata.version + 1) && is_kept last.revision.content
-
--- a revision is left of each document but of a new one that is deleted again
-abbrev pub is_left : Draft → Bool
-is_left d = not ((d.version == 0) && not (is_kept d.content))
-
--- the revisions that are left of those that pend: the latest of each document, in order of first touch
-abbrev pub left_of : List Draft → List Draft
-left_of log = filter is_left (latest log)
 
 -- ---- ids
 
