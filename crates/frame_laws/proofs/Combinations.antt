@@ -10,28 +10,36 @@ use Rattle.pql_model.specs.declared.statement.Source.{Source}
 
 -- ---- lists
 
-pub filter-flat_map : {X Y : Type 0} (p : Y → Bool) (f : X → List Y) (xs : List X) → filter p (flat_map f xs) ≡ flat_map (λ x. filter p (f x)) xs
+pub filter-flat_map : {X Y : Type 0} (p : Y → Bool) (f : X → List Y) (xs : List X)
+    → filter p (flat_map f xs) ≡ flat_map (λ x. filter p (f x)) xs
 filter-flat_map p f [] = refl
-filter-flat_map p f (x ∷ xs) = filter-append p (f x) (flat_map f xs) ∙ ap (λ ys. filter p (f x) ++ ys) (filter-flat_map p f xs)
+filter-flat_map p f (x ∷ xs) = filter-append p (f x) (flat_map f xs)
+    ∙ ap (λ ys. filter p (f x) ++ ys) (filter-flat_map p f xs)
 
-pub flat_map-same : {X Y : Type 0} (f g : X → List Y) (xs : List X) → ((x : X) → f x ≡ g x) → flat_map f xs ≡ flat_map g xs
+pub flat_map-same : {X Y : Type 0} (f g : X → List Y) (xs : List X) → ((x : X) → f x ≡ g x)
+    → flat_map f xs ≡ flat_map g xs
 flat_map-same f g [] h = refl
 flat_map-same f g (x ∷ xs) h = ap (λ ys. ys ++ flat_map f xs) (h x) ∙ ap (λ ys. g x ++ ys) (flat_map-same f g xs h)
 
-flat_map-flat_map : {X Y Z : Type 0} (f : Y → List Z) (g : X → List Y) (xs : List X) → flat_map f (flat_map g xs) ≡ flat_map (λ x. flat_map f (g x)) xs
+flat_map-flat_map : {X Y Z : Type 0} (f : Y → List Z) (g : X → List Y) (xs : List X)
+    → flat_map f (flat_map g xs) ≡ flat_map (λ x. flat_map f (g x)) xs
 flat_map-flat_map f g [] = refl
-flat_map-flat_map f g (x ∷ xs) = flat_map-append f (g x) (flat_map g xs) ∙ ap (λ ys. flat_map f (g x) ++ ys) (flat_map-flat_map f g xs)
+flat_map-flat_map f g (x ∷ xs) = flat_map-append f (g x) (flat_map g xs)
+    ∙ ap (λ ys. flat_map f (g x) ++ ys) (flat_map-flat_map f g xs)
 
 pub flat_map-alone : {X : Type 0} (xs : List X) → flat_map (λ x. x ∷ []) xs ≡ xs
 flat_map-alone [] = refl
 flat_map-alone (x ∷ xs) = ap (λ ys. x ∷ ys) (flat_map-alone xs)
 
-flat_map-none : {X Y : Type 0} (P : X → Type 0) (f : X → List Y) (xs : List X) → AllByRecursion P xs → ((x : X) → P x → f x ≡ []) → flat_map f xs ≡ []
+flat_map-none : {X Y : Type 0} (P : X → Type 0) (f : X → List Y) (xs : List X) → AllByRecursion P xs
+    → ((x : X) → P x → f x ≡ []) → flat_map f xs ≡ []
 flat_map-none P f [] all h = refl
 flat_map-none P f (x ∷ xs) all h = ap (λ ys. ys ++ flat_map f xs) (h x all.0) ∙ flat_map-none P f xs all.1 h
 
-one_more : {X Y : Type 0} (p : X → Bool) (f g : X → List Y) (x : X) (xs : List X) (b : Bool) → p x ≡ b → f x ≡ g x → (p x ≡ false → f x ≡ [])
-    → flat_map f xs ≡ flat_map g (filter p xs) → f x ++ flat_map f xs ≡ flat_map g (cond b (x ∷ filter p xs) (filter p xs))
+one_more : {X Y : Type 0} (p : X → Bool) (f g : X → List Y) (x : X) (xs : List X) (b : Bool) → p x ≡ b → f x ≡ g x
+    → (p x ≡ false → f x ≡ [])
+    → flat_map f xs ≡ flat_map g (filter p xs)
+    → f x ++ flat_map f xs ≡ flat_map g (cond b (x ∷ filter p xs) (filter p xs))
 one_more p f g x xs true e same none rest = ap (λ ys. ys ++ flat_map f xs) same ∙ ap (λ ys. g x ++ ys) rest
 one_more p f g x xs false e same none rest = ap (λ ys. ys ++ flat_map f xs) (none e) ∙ rest
 
@@ -61,7 +69,8 @@ abbrev pub behind : Elements → ℕ → List Source → List Bound → List (Li
 behind elements n [] c = c ∷ []
 behind elements n (s ∷ ss) c = flat_map (λ b. behind elements (n + 1) ss (c ++ b ∷ [])) (elements n s c)
 
-pub all_behind : (elements : Elements) (n : ℕ) (cs : List (List Bound)) (ss : List Source) → all_with elements n cs ss ≡ flat_map (behind elements n ss) cs
+pub all_behind : (elements : Elements) (n : ℕ) (cs : List (List Bound)) (ss : List Source)
+    → all_with elements n cs ss ≡ flat_map (behind elements n ss) cs
 all_behind elements n cs [] = sym (flat_map-alone cs)
 all_behind elements n cs (s ∷ ss) =
     all_behind elements (n + 1) (flat_map (lengthened elements n s) cs) ss
@@ -88,17 +97,21 @@ SomeLeft passes n (b ∷ bs) = (passes n b ≡ false) ⊎ SomeLeft passes (n + 1
 -- what the sources give fits them
 abbrev pub Gives : (ℕ → Source → Bound → Type 0) → Elements → ℕ → List Source → Type 0
 Gives Fits elements n [] = Unit {0}
-Gives Fits elements n (s ∷ ss) = ((c : List Bound) → AllByRecursion (Fits n s) (elements n s c)) × Gives Fits elements (n + 1) ss
+Gives Fits elements n (s ∷ ss) =
+    ((c : List Bound) → AllByRecursion (Fits n s) (elements n s c)) × Gives Fits elements (n + 1) ss
 
-module _ (Fits : ℕ → Source → Bound → Type 0) (elements : Elements) (passes : ℕ → Bound → Bool) (keep : List Bound → Bool) where
+module _ (Fits : ℕ → Source → Bound → Type 0) (elements : Elements) (passes : ℕ → Bound → Bool)
+    (keep : List Bound → Bool) where
   -- where no combination from here on is kept, nothing is
-  nothing : (n : ℕ) (ss : List Source) (c : List Bound) → Gives Fits elements n ss → ((rest : List Bound) → AllFit Fits n ss rest → keep (c ++ rest) ≡ false)
+  nothing : (n : ℕ) (ss : List Source) (c : List Bound) → Gives Fits elements n ss
+      → ((rest : List Bound) → AllFit Fits n ss rest → keep (c ++ rest) ≡ false)
       → filter keep (behind elements n ss c) ≡ []
   nothing n [] c gives none = ap (λ b. cond b (c ∷ []) []) (ap keep (sym (append-nil c)) ∙ none [] tt)
   nothing n (s ∷ ss) c gives none =
       filter-flat_map keep _ (elements n s c)
       ∙ flat_map-none (Fits n s) _ (elements n s c) (gives.0 c)
-      (λ b fits. nothing (n + 1) ss (c ++ b ∷ []) gives.1 (λ rest all. ap keep (append_assoc c (b ∷ []) rest) ∙ none (b ∷ rest) (fits, all)))
+      (λ b fits. nothing (n + 1) ss (c ++ b ∷ []) gives.1
+      (λ rest all. ap keep (append_assoc c (b ∷ []) rest) ∙ none (b ∷ rest) (fits, all)))
 
   pub cut_behind : (n : ℕ) (ss : List Source) (c : List Bound) → Gives Fits elements n ss
       → ((rest : List Bound) → AllFit Fits n ss rest → SomeLeft passes n rest → keep (c ++ rest) ≡ false)
@@ -106,7 +119,9 @@ module _ (Fits : ℕ → Source → Bound → Type 0) (elements : Elements) (pas
   cut_behind n [] c gives none = refl
   cut_behind n (s ∷ ss) c gives none =
       filter-flat_map keep _ (elements n s c)
-      ∙ flat_map-filter (Fits n s) (passes n) _ (λ b. filter keep (behind (cut_elements passes elements) (n + 1) ss (c ++ b ∷ []))) (elements n s c) (gives.0 c)
+      ∙ flat_map-filter (Fits n s) (passes n)
+      _ (λ b. filter keep (behind (cut_elements passes elements) (n + 1) ss (c ++ b ∷ []))) (elements n s c)
+      (gives.0 c)
       (λ b fits. cut_behind (n + 1) ss (c ++ b ∷ []) gives.1
       (λ rest all left. ap keep (append_assoc c (b ∷ []) rest) ∙ none (b ∷ rest) (fits, all) (inr left)))
       (λ b fits unread. nothing (n + 1) ss (c ++ b ∷ []) gives.1

@@ -15,11 +15,13 @@ abbrev pub meets_row : (Row → Bool) → Option Row → Bool
 meets_row test None = false
 meets_row test (Some row) = test row
 
-skip_row : (test : Row → Bool) (o : Option Row) (rows : List Row) → meets_row test o ≡ false → filter test (cons_option o rows) ≡ filter test rows
+skip_row : (test : Row → Bool) (o : Option Row) (rows : List Row) → meets_row test o ≡ false
+    → filter test (cons_option o rows) ≡ filter test rows
 skip_row test None rows h = refl
 skip_row test (Some row) rows h = ap (λ b. cond b (row ∷ filter test rows) (filter test rows)) h
 
-keep_row : (test : Row → Bool) (o : Option Row) (rows more : List Row) → filter test rows ≡ filter test more → filter test (cons_option o rows) ≡ filter test (cons_option o more)
+keep_row : (test : Row → Bool) (o : Option Row) (rows more : List Row) → filter test rows ≡ filter test more
+    → filter test (cons_option o rows) ≡ filter test (cons_option o more)
 keep_row test None rows more h = h
 keep_row test (Some row) rows more h = ap (λ xs. cond (test row) (row ∷ xs) xs) h
 
@@ -35,42 +37,55 @@ met table test docs = filter test (filter_map (row_of table) docs)
 
 -- none of those meets the test
 abbrev pub Silent : TableId → (Row → Bool) → (ℕ → Bool) → List Draft → Type 0
-Silent table test those docs = AllByRecursion (λ d. those d.id.raw ≡ true → meets_row test (row_of table d) ≡ false) docs
+Silent table test those docs =
+    AllByRecursion (λ d. those d.id.raw ≡ true → meets_row test (row_of table d) ≡ false) docs
 
 -- a document and a revision of it are alike among those or not
 alike_id : (those : ℕ → Bool) (a b : ℕ) (v : Bool) → (a == b) ≡ true → those b ≡ v → those a ≡ v
 alike_id those a b v same h = ap those (eqb-true a b same) ∙ h
 
 module _ (table : TableId) (test : Row → Bool) (those : ℕ → Bool) where
-  met_others_by : (d : Draft) (ds : List Draft) (b : Bool) → those d.id.raw ≡ b → (those d.id.raw ≡ true → meets_row test (row_of table d) ≡ false)
-      → met table test ds ≡ met table test (others those ds) → met table test (d ∷ ds) ≡ met table test (cond (not b) (d ∷ others those ds) (others those ds))
+  met_others_by : (d : Draft) (ds : List Draft) (b : Bool) → those d.id.raw ≡ b
+      → (those d.id.raw ≡ true → meets_row test (row_of table d) ≡ false)
+      → met table test ds ≡ met table test (others those ds)
+      → met table test (d ∷ ds) ≡ met table test (cond (not b) (d ∷ others those ds) (others those ds))
   met_others_by d ds true e h ih = skip_row test (row_of table d) (filter_map (row_of table) ds) (h e) ∙ ih
-  met_others_by d ds false e h ih = keep_row test (row_of table d) (filter_map (row_of table) ds) (filter_map (row_of table) (others those ds)) ih
+  met_others_by d ds false e h ih =
+      keep_row test (row_of table d) (filter_map (row_of table) ds) (filter_map (row_of table) (others those ds)) ih
 
-  met_others : (docs : List Draft) → Silent table test those docs → met table test docs ≡ met table test (others those docs)
+  met_others : (docs : List Draft) → Silent table test those docs
+      → met table test docs ≡ met table test (others those docs)
   met_others [] h = refl
   met_others (d ∷ ds) h = met_others_by d ds (those d.id.raw) refl h.0 (met_others ds h.1)
 
-  others_put_by : (d p : Draft) (ds : List Draft) (b c : Bool) → those d.id.raw ≡ b → (d.id.raw == p.id.raw) ≡ c → those p.id.raw ≡ false
+  others_put_by : (d p : Draft) (ds : List Draft) (b c : Bool) → those d.id.raw ≡ b → (d.id.raw == p.id.raw) ≡ c
+      → those p.id.raw ≡ false
       → others those (put ds p) ≡ put (others those ds) p
       → others those (cond c (p ∷ ds) (d ∷ put ds p)) ≡ put (cond (not b) (d ∷ others those ds) (others those ds)) p
-  others_put_by d p ds true true eb ec e ih = absurd (both_ways (those d.id.raw) (alike_id those d.id.raw p.id.raw false ec e) eb)
-  others_put_by d p ds true false eb ec e ih = ap (λ b. cond (not b) (d ∷ others those (put ds p)) (others those (put ds p))) eb ∙ ih
+  others_put_by d p ds true true eb ec e ih =
+      absurd (both_ways (those d.id.raw) (alike_id those d.id.raw p.id.raw false ec e) eb)
+  others_put_by d p ds true false eb ec e ih =
+      ap (λ b. cond (not b) (d ∷ others those (put ds p)) (others those (put ds p))) eb ∙ ih
   others_put_by d p ds false true eb ec e ih =
-      ap (λ b. cond (not b) (p ∷ others those ds) (others those ds)) e ∙ ap (λ b. cond b (p ∷ others those ds) (d ∷ put (others those ds) p)) (sym ec)
+      ap (λ b. cond (not b) (p ∷ others those ds) (others those ds)) e
+      ∙ ap (λ b. cond b (p ∷ others those ds) (d ∷ put (others those ds) p)) (sym ec)
   others_put_by d p ds false false eb ec e ih =
       ap (λ b. cond (not b) (d ∷ others those (put ds p)) (others those (put ds p))) eb ∙ ap (λ xs. d ∷ xs) ih
       ∙ ap (λ b. cond b (p ∷ others those ds) (d ∷ put (others those ds) p)) (sym ec)
 
-  others_put : (docs : List Draft) (p : Draft) → those p.id.raw ≡ false → others those (put docs p) ≡ put (others those docs) p
+  others_put : (docs : List Draft) (p : Draft) → those p.id.raw ≡ false
+      → others those (put docs p) ≡ put (others those docs) p
   others_put [] p e = ap (λ b. cond (not b) (p ∷ []) []) e
-  others_put (d ∷ ds) p e = others_put_by d p ds (those d.id.raw) (d.id.raw == p.id.raw) refl refl e (others_put ds p e)
+  others_put (d ∷ ds) p e =
+      others_put_by d p ds (those d.id.raw) (d.id.raw == p.id.raw) refl refl e (others_put ds p e)
 
-  others_own_by : (d p : Draft) (ds : List Draft) (c : Bool) → (d.id.raw == p.id.raw) ≡ c → those p.id.raw ≡ true → others those (put ds p) ≡ others those ds
+  others_own_by : (d p : Draft) (ds : List Draft) (c : Bool) → (d.id.raw == p.id.raw) ≡ c → those p.id.raw ≡ true
+      → others those (put ds p) ≡ others those ds
       → others those (cond c (p ∷ ds) (d ∷ put ds p)) ≡ others those (d ∷ ds)
   others_own_by d p ds true ec e ih =
       ap (λ b. cond (not b) (p ∷ others those ds) (others those ds)) e
-      ∙ ap (λ b. cond (not b) (d ∷ others those ds) (others those ds)) (sym (alike_id those d.id.raw p.id.raw true ec e))
+      ∙ ap (λ b. cond (not b) (d ∷ others those ds) (others those ds))
+      (sym (alike_id those d.id.raw p.id.raw true ec e))
   others_own_by d p ds false ec e ih = ap (λ xs. cond (not (those d.id.raw)) (d ∷ xs) xs) ih
 
   others_own : (docs : List Draft) (p : Draft) → those p.id.raw ≡ true → others those (put docs p) ≡ others those docs
@@ -78,22 +93,27 @@ module _ (table : TableId) (test : Row → Bool) (those : ℕ → Bool) where
   others_own (d ∷ ds) p e = others_own_by d p ds (d.id.raw == p.id.raw) refl e (others_own ds p e)
 
   -- revisions of those alone
-  pub others_after : (docs new : List Draft) → AllByRecursion (λ (p : Draft). those p.id.raw ≡ true) new → others those (latest_from docs new) ≡ others those docs
+  pub others_after : (docs new : List Draft) → AllByRecursion (λ (p : Draft). those p.id.raw ≡ true) new
+      → others those (latest_from docs new) ≡ others those docs
   others_after docs [] h = refl
   others_after docs (p ∷ ps) h = others_after (put docs p) ps h.1 ∙ others_own docs p h.0
 
-  silent_put_by : (d p : Draft) (ds : List Draft) (c : Bool) → Silent table test those (d ∷ ds) → those p.id.raw ≡ false
+  silent_put_by : (d p : Draft) (ds : List Draft) (c : Bool) → Silent table test those (d ∷ ds)
+      → those p.id.raw ≡ false
       → Silent table test those (put ds p) → Silent table test those (cond c (p ∷ ds) (d ∷ put ds p))
   silent_put_by d p ds true h e ih = (λ t. absurd (both_ways (those p.id.raw) e t), h.1)
   silent_put_by d p ds false h e ih = (h.0, ih)
 
-  silent_put : (docs : List Draft) (p : Draft) → Silent table test those docs → those p.id.raw ≡ false → Silent table test those (put docs p)
+  silent_put : (docs : List Draft) (p : Draft) → Silent table test those docs → those p.id.raw ≡ false
+      → Silent table test those (put docs p)
   silent_put [] p h e = (λ t. absurd (both_ways (those p.id.raw) e t), tt)
   silent_put (d ∷ ds) p h e = silent_put_by d p ds (d.id.raw == p.id.raw) h e (silent_put ds p h.1 e)
 
   -- documents that differ in silent ones alone, before and after pending changes of others
-  pub alike : (d e pending : List Draft) → others those d ≡ others those e → Silent table test those d → Silent table test those e
-      → AllByRecursion (λ (p : Draft). those p.id.raw ≡ false) pending → met table test (latest_from d pending) ≡ met table test (latest_from e pending)
+  pub alike : (d e pending : List Draft) → others those d ≡ others those e → Silent table test those d
+      → Silent table test those e
+      → AllByRecursion (λ (p : Draft). those p.id.raw ≡ false) pending
+      → met table test (latest_from d pending) ≡ met table test (latest_from e pending)
   alike d e [] same hd he apart = met_others d hd ∙ ap (met table test) same ∙ sym (met_others e he)
   alike d e (p ∷ ps) same hd he apart =
       alike (put d p) (put e p) ps (others_put d p apart.0 ∙ ap (λ xs. put xs p) same ∙ sym (others_put e p apart.0))
@@ -105,7 +125,7 @@ latest_after docs (x ∷ xs) ys = latest_after (put docs x) xs ys
 
 -- ---- each shows its latest revision
 
-abbrev Distinct : List Draft → Type 0
+abbrev pub Distinct : List Draft → Type 0
 Distinct [] = Unit {0}
 Distinct (d ∷ ds) = AllByRecursion (λ (x : Draft). (x.id.raw == d.id.raw) ≡ false) ds × Distinct ds
 
@@ -113,7 +133,8 @@ Distinct (d ∷ ds) = AllByRecursion (λ (x : Draft). (x.id.raw == d.id.raw) ≡
 abbrev pub IsLatest : List Recorded → Draft → Type 0
 IsLatest rs d = option_map draft_of (latest_of rs d.id.raw) ≡ Some d
 
-pub latest_of-append : (xs ys : List Recorded) (id : ℕ) → latest_of (xs ++ ys) id ≡ or_else (latest_of ys id) (latest_of xs id)
+pub latest_of-append : (xs ys : List Recorded) (id : ℕ)
+    → latest_of (xs ++ ys) id ≡ or_else (latest_of ys id) (latest_of xs id)
 latest_of-append [] ys id = nothing (latest_of ys id) where
   nothing : (o : Option Recorded) → o ≡ or_else o None
   nothing None = refl
@@ -133,45 +154,62 @@ module _ (done : List Recorded) (r : Recorded) where
   own : IsLatest (done ++ r ∷ []) (draft_of r)
   own =
       ap (option_map draft_of) (latest_of-append done (r ∷ []) r.revision.metadata.id.raw
-      ∙ ap (λ b. or_else (cond b (Some r) None) (latest_of done r.revision.metadata.id.raw)) (eq-eqb r.revision.metadata.id.raw r.revision.metadata.id.raw refl))
+      ∙ ap (λ b. or_else (cond b (Some r) None) (latest_of done r.revision.metadata.id.raw))
+      (eq-eqb r.revision.metadata.id.raw r.revision.metadata.id.raw refl))
 
-  still_latest : (d : Draft) → (d.id.raw == r.revision.metadata.id.raw) ≡ false → IsLatest done d → IsLatest (done ++ r ∷ []) d
+  still_latest : (d : Draft) → (d.id.raw == r.revision.metadata.id.raw) ≡ false → IsLatest done d
+      → IsLatest (done ++ r ∷ []) d
   still_latest d other h =
       ap (option_map draft_of) (latest_of-append done (r ∷ []) d.id.raw
-      ∙ ap (λ b. or_else (cond b (Some r) None) (latest_of done d.id.raw)) (symmetric d.id.raw r.revision.metadata.id.raw false other)) ∙ h
+      ∙ ap (λ b. or_else (cond b (Some r) None) (latest_of done d.id.raw))
+      (symmetric d.id.raw r.revision.metadata.id.raw false other)) ∙ h
 
-  all_still : (d : Draft) (ds : List Draft) → (d.id.raw == r.revision.metadata.id.raw) ≡ true → AllByRecursion (λ (x : Draft). (x.id.raw == d.id.raw) ≡ false) ds
+  all_still : (d : Draft) (ds : List Draft) → (d.id.raw == r.revision.metadata.id.raw) ≡ true
+      → AllByRecursion (λ (x : Draft). (x.id.raw == d.id.raw) ≡ false) ds
       → AllByRecursion (IsLatest done) ds → AllByRecursion (IsLatest (done ++ r ∷ [])) ds
   all_still d [] same distinct h = tt
-  all_still d (x ∷ xs) same distinct h =
-      (still_latest x (subst (λ n. (x.id.raw == n) ≡ false) (eqb-true d.id.raw r.revision.metadata.id.raw same) distinct.0) h.0, all_still d xs same distinct.1 h.1)
+  all_still d (x ∷ xs) same distinct h = (
+    still_latest x (subst (λ n. (x.id.raw == n) ≡ false)
+        (eqb-true d.id.raw r.revision.metadata.id.raw same) distinct.0) h.0,
+    all_still d xs same distinct.1 h.1,
+  )
 
-  put_latest_by : (d : Draft) (ds : List Draft) (b : Bool) → (d.id.raw == r.revision.metadata.id.raw) ≡ b → Distinct (d ∷ ds) → AllByRecursion (IsLatest done) (d ∷ ds)
-      → AllByRecursion (IsLatest (done ++ r ∷ [])) (put ds (draft_of r)) → AllByRecursion (IsLatest (done ++ r ∷ [])) (cond b (draft_of r ∷ ds) (d ∷ put ds (draft_of r)))
+  put_latest_by : (d : Draft) (ds : List Draft) (b : Bool) → (d.id.raw == r.revision.metadata.id.raw) ≡ b
+      → Distinct (d ∷ ds) → AllByRecursion (IsLatest done) (d ∷ ds)
+      → AllByRecursion (IsLatest (done ++ r ∷ [])) (put ds (draft_of r))
+      → AllByRecursion (IsLatest (done ++ r ∷ [])) (cond b (draft_of r ∷ ds) (d ∷ put ds (draft_of r)))
   put_latest_by d ds true e distinct h ih = (own, all_still d ds e distinct.0 h.1)
   put_latest_by d ds false e distinct h ih = (still_latest d e h.0, ih)
 
-  put_latest : (docs : List Draft) → Distinct docs → AllByRecursion (IsLatest done) docs → AllByRecursion (IsLatest (done ++ r ∷ [])) (put docs (draft_of r))
+  put_latest : (docs : List Draft) → Distinct docs → AllByRecursion (IsLatest done) docs
+      → AllByRecursion (IsLatest (done ++ r ∷ [])) (put docs (draft_of r))
   put_latest [] distinct h = (own, tt)
-  put_latest (d ∷ ds) distinct h = put_latest_by d ds (d.id.raw == r.revision.metadata.id.raw) refl distinct h (put_latest ds distinct.1 h.1)
+  put_latest (d ∷ ds) distinct h =
+      put_latest_by d ds (d.id.raw == r.revision.metadata.id.raw) refl distinct h (put_latest ds distinct.1 h.1)
 
-all_put_by : (P : Draft → Type 0) (d r : Draft) (ds : List Draft) (b : Bool) → AllByRecursion P (d ∷ ds) → P r → AllByRecursion P (put ds r) → AllByRecursion P (cond b (r ∷ ds) (d ∷ put ds r))
+all_put_by : (P : Draft → Type 0) (d r : Draft) (ds : List Draft) (b : Bool) → AllByRecursion P (d ∷ ds) → P r
+    → AllByRecursion P (put ds r) → AllByRecursion P (cond b (r ∷ ds) (d ∷ put ds r))
 all_put_by P d r ds true h p ih = (p, h.1)
 all_put_by P d r ds false h p ih = (h.0, ih)
 
-pub all_put : (P : Draft → Type 0) (ds : List Draft) (r : Draft) → AllByRecursion P ds → P r → AllByRecursion P (put ds r)
+pub all_put : (P : Draft → Type 0) (ds : List Draft) (r : Draft) → AllByRecursion P ds → P r
+    → AllByRecursion P (put ds r)
 all_put P [] r h p = (p, tt)
 all_put P (d ∷ ds) r h p = all_put_by P d r ds (d.id.raw == r.id.raw) h p (all_put P ds r h.1 p)
 
-same_others : (d r : Draft) (ds : List Draft) → (d.id.raw == r.id.raw) ≡ true → AllByRecursion (λ (x : Draft). (x.id.raw == d.id.raw) ≡ false) ds
+same_others : (d r : Draft) (ds : List Draft) → (d.id.raw == r.id.raw) ≡ true
+    → AllByRecursion (λ (x : Draft). (x.id.raw == d.id.raw) ≡ false) ds
     → AllByRecursion (λ (x : Draft). (x.id.raw == r.id.raw) ≡ false) ds
-same_others d r ds e h = subst (λ n. AllByRecursion (λ (x : Draft). (x.id.raw == n) ≡ false) ds) (eqb-true d.id.raw r.id.raw e) h
+same_others d r ds e h =
+    subst (λ n. AllByRecursion (λ (x : Draft). (x.id.raw == n) ≡ false) ds) (eqb-true d.id.raw r.id.raw e) h
 
-distinct_put_by : (d r : Draft) (ds : List Draft) (b : Bool) → (d.id.raw == r.id.raw) ≡ b → Distinct (d ∷ ds) → Distinct (put ds r) → Distinct (cond b (r ∷ ds) (d ∷ put ds r))
+distinct_put_by : (d r : Draft) (ds : List Draft) (b : Bool) → (d.id.raw == r.id.raw) ≡ b → Distinct (d ∷ ds)
+    → Distinct (put ds r) → Distinct (cond b (r ∷ ds) (d ∷ put ds r))
 distinct_put_by d r ds true e h ih = (same_others d r ds e h.0, h.1)
-distinct_put_by d r ds false e h ih = (all_put (λ x. (x.id.raw == d.id.raw) ≡ false) ds r h.0 (symmetric d.id.raw r.id.raw false e), ih)
+distinct_put_by d r ds false e h ih =
+    (all_put (λ x. (x.id.raw == d.id.raw) ≡ false) ds r h.0 (symmetric d.id.raw r.id.raw false e), ih)
 
-distinct_put : (ds : List Draft) (r : Draft) → Distinct ds → Distinct (put ds r)
+pub distinct_put : (ds : List Draft) (r : Draft) → Distinct ds → Distinct (put ds r)
 distinct_put [] r h = (tt, tt)
 distinct_put (d ∷ ds) r h = distinct_put_by d r ds (d.id.raw == r.id.raw) refl h (distinct_put ds r h.1)
 
@@ -179,8 +217,10 @@ latest_all : (done rs : List Recorded) (docs : List Draft) → Distinct docs →
     → AllByRecursion (IsLatest (done ++ rs)) (latest_from docs (map draft_of rs))
 latest_all done [] docs distinct h = subst (λ xs. AllByRecursion (IsLatest xs) docs) (sym (append-nil done)) h
 latest_all done (r ∷ rs) docs distinct h =
-    subst (λ xs. AllByRecursion (IsLatest xs) (latest_from (put docs (draft_of r)) (map draft_of rs))) (append_assoc done (r ∷ []) rs)
-    (latest_all (done ++ r ∷ []) rs (put docs (draft_of r)) (distinct_put docs (draft_of r) distinct) (put_latest done r docs distinct h))
+    subst (λ xs. AllByRecursion (IsLatest xs) (latest_from (put docs (draft_of r)) (map draft_of rs)))
+    (append_assoc done (r ∷ []) rs)
+    (latest_all (done ++ r ∷ []) rs (put docs (draft_of r)) (distinct_put docs (draft_of r) distinct)
+    (put_latest done r docs distinct h))
 
 pub all_latest : (rs : List Recorded) → AllByRecursion (IsLatest rs) (latest (map draft_of rs))
 all_latest rs = latest_all [] rs [] tt tt

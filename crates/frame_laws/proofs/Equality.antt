@@ -35,25 +35,31 @@ pub null_is : is_true (truth_in null) ≡ false
 null_is = search (rules, values.the_lemmas)
 
 -- both sides of an AND that is true are
-both_true : (a b f : Bool) → is_true (truth_in (if f then truth false else if a && b then truth true else null)) ≡ true → (a && b) ≡ true
+both_true : (a b f : Bool) → is_true (truth_in (if f then truth false else if a && b then truth true else null)) ≡ true
+    → (a && b) ≡ true
 both_true a b true h = absurd (false≢true (sym (truth_is false) ∙ h))
 both_true true true false h = refl
 both_true true false false h = absurd (false≢true (sym null_is ∙ h))
 both_true false b false h = absurd (false≢true (sym null_is ∙ h))
 
-pub conjunction_true : (a b : Option Bool) → is_true (truth_in (conjunction a b)) ≡ true → (is_true a ≡ true) × (is_true b ≡ true)
-conjunction_true a b h = and_parts (is_true a) (is_true b) (both_true (is_true a) (is_true b) (is_false a || is_false b) h)
+pub conjunction_true : (a b : Option Bool) → is_true (truth_in (conjunction a b)) ≡ true
+    → (is_true a ≡ true) × (is_true b ≡ true)
+conjunction_true a b h =
+    and_parts (is_true a) (is_true b) (both_true (is_true a) (is_true b) (is_false a || is_false b) h)
 
-if_null : (v w : Value) (b : Bool) → is_true (truth_in (if b then null else truth (are_equal v w))) ≡ true → are_equal v w ≡ true
+if_null : (v w : Value) (b : Bool) → is_true (truth_in (if b then null else truth (are_equal v w))) ≡ true
+    → are_equal v w ≡ true
 if_null v w true h = absurd (false≢true (sym null_is ∙ h))
 if_null v w false h = sym (truth_is (are_equal v w)) ∙ h
 
 -- what equals a value
-pub equal_right : (e : Evaluated) (v : Value) → is_true (truth_in (equal e (Found v))) ≡ true → (w : Value) × (e ≡ Found w) × (are_equal w v ≡ true)
+pub equal_right : (e : Evaluated) (v : Value) → is_true (truth_in (equal e (Found v))) ≡ true
+    → (w : Value) × (e ≡ Found w) × (are_equal w v ≡ true)
 equal_right Missing v h = absurd (false≢true h)
 equal_right (Found w) v h = (w, refl, if_null w v (is_null w || is_null v) h)
 
-pub equal_left : (v : Value) (e : Evaluated) → is_true (truth_in (equal (Found v) e)) ≡ true → (w : Value) × (e ≡ Found w) × (are_equal v w ≡ true)
+pub equal_left : (v : Value) (e : Evaluated) → is_true (truth_in (equal (Found v) e)) ≡ true
+    → (w : Value) × (e ≡ Found w) × (are_equal v w ≡ true)
 equal_left v Missing h = absurd (false≢true h)
 equal_left v (Found w) h = (w, refl, if_null v w (is_null v || is_null w) h)
 
@@ -68,7 +74,8 @@ tie_is (Some Greater) h = absurd (false≢true h)
 pub inside : {A : Type 0} (a b : A) → Some a ≡ Some b → a ≡ b
 inside a b h = cc h
 
-no_key_seen : (s : Seen) (k : Key) → is_container_seen s ≡ true → option_map key_of_scalar (scalar_of_body s) ≡ Some k → ⊥
+no_key_seen : (s : Seen) (k : Key) → is_container_seen s ≡ true → option_map key_of_scalar (scalar_of_body s) ≡ Some k
+    → ⊥
 no_key_seen (Body-F.List vs) k h e = cc
 no_key_seen (Body-F.Sexp vs) k h e = cc
 no_key_seen (Body-F.Struct fs) k h e = cc
@@ -88,10 +95,12 @@ same_key_right w v k s e = s.1 ∙ (sym s.2 ∙ e)
 same_key_left : (v w : Value) (k : Key) → SameKey v w → key_of v ≡ Some k → key_of w ≡ Some k
 same_key_left v w k s e = s.2 ∙ (sym s.1 ∙ e)
 
-equals : (v w : Value) → are_equal v w ≡ true → (is_tie v w ≡ true) ⊎ ((is_container v ≡ true) × (is_container w ≡ true))
+equals : (v w : Value) → are_equal v w ≡ true
+    → (is_tie v w ≡ true) ⊎ ((is_container v ≡ true) × (is_container w ≡ true))
 unfolding are_equal
 equals v w h =
-    elim (or_cases (is_tie v w) _ h) as (λ _. (is_tie v w ≡ true) ⊎ ((is_container v ≡ true) × (is_container w ≡ true))) [
+    elim (or_cases (is_tie v w) _ h) as (λ _. (is_tie v w ≡ true)
+    ⊎ ((is_container v ≡ true) × (is_container w ≡ true))) [
       | inl tie ↦ inl tie
       | inr both ↦
           let first = and_parts (is_container v && is_container w) _ both in
@@ -115,7 +124,8 @@ key_left v w k h e =
 
 -- ---- keys of texts
 
-text_key_seen : (s : Seen) (t : List ℕ) → text_seen s ≡ Some t → option_map key_of_scalar (scalar_of_body s) ≡ Some (key.Text t)
+text_key_seen : (s : Seen) (t : List ℕ) → text_seen s ≡ Some t
+    → option_map key_of_scalar (scalar_of_body s) ≡ Some (key.Text t)
 text_key_seen (Body-F.Symbol u) t h = ap (λ x. Some (key.Text x)) (inside u t h)
 text_key_seen (Body-F.String u) t h = ap (λ x. Some (key.Text x)) (inside u t h)
 text_key_seen (Body-F.List vs) t h = cc

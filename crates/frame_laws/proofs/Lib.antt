@@ -11,12 +11,21 @@ pub mod Schemas
 pub mod Selects
 pub mod Owning
 pub mod Framing
+pub mod Steps
 pub mod Transactions
-mod ReadRows
+pub mod Revised
+pub mod Committed
 pub mod Naming
+pub mod Written
+pub mod NamedBy
+pub mod Changing
+pub mod Pending
 pub mod Conflicts
 pub mod Rows
 pub mod Following
 pub mod RunsOwn
+pub mod Settling
 pub mod Journals
 pub mod StillDocuments
+pub mod Histories
+pub mod Sources

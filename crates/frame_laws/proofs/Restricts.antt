@@ -31,7 +31,8 @@ combined_is views params n cs (s ∷ ss) = combined_is views params (n + 1) (fla
 read_is : (views : Viewed) (params : List Value) (reads : Reads) (n : ℕ) (cs : List Combined) (ss : List Source)
     → read_with views params reads n cs ss ≡ all_with (read_at views params reads) n cs ss
 read_is views params reads n cs [] = refl
-read_is views params reads n cs (s ∷ ss) = read_is views params reads (n + 1) (flat_map (extended (cut (reads n) views) params s) cs) ss
+read_is views params reads n cs (s ∷ ss) =
+    read_is views params reads (n + 1) (flat_map (extended (cut (reads n) views) params s) cs) ss
 
 -- ---- cutting what a source gives
 
@@ -41,7 +42,8 @@ passes reads n b = option_map_or (λ id. reads n (record { id = id; value = b.va
 
 cut_row : (reads : Reads) (n : ℕ) (s : Source) (r : Row) (rows : List Row) (b : Bool)
     → filter (passes reads n) (map (bound_row s) rows) ≡ map (bound_row s) (filter (reads n) rows)
-    → cond b (bound_row s r ∷ filter (passes reads n) (map (bound_row s) rows)) (filter (passes reads n) (map (bound_row s) rows))
+    → cond b (bound_row s r ∷ filter (passes reads n) (map (bound_row s) rows))
+    (filter (passes reads n) (map (bound_row s) rows))
     ≡ map (bound_row s) (cond b (r ∷ filter (reads n) rows) (filter (reads n) rows))
 cut_row reads n s r rows true ih = ap (λ bs. bound_row s r ∷ bs) ih
 cut_row reads n s r rows false ih = ih
@@ -56,7 +58,8 @@ cut_values : (reads : Reads) (n : ℕ) (s : Source) (vs : List Value)
 cut_values reads n s [] = refl
 cut_values reads n s (v ∷ vs) = ap (λ bs. bound_element s v ∷ bs) (cut_values reads n s vs)
 
-cut_given : (views : Viewed) (params : List Value) (reads : Reads) (n : ℕ) (s : Source) (kind : SourceKind) (c : Combined)
+cut_given : (views : Viewed) (params : List Value) (reads : Reads) (n : ℕ) (s : Source) (kind : SourceKind)
+    (c : Combined)
     → filter (passes reads n) (given_by views params s kind c) ≡ given_by (cut (reads n) views) params s kind c
 cut_given views params reads n s (source.Table name) c = cut_rows reads n s _
 cut_given views params reads n s (source.History table start end) c = cut_rows reads n s _
@@ -72,29 +75,36 @@ behind-same e f same n (s ∷ ss) c =
 -- ---- what the sources give
 
 abbrev Fits : Reads → ℕ → Source → Bound → Type 0
-Fits known n s b = (called_in_row b ≡ called s) × (((row : Row) × (b ≡ bound_row s row) × (known n row ≡ true)) ⊎ (b.id ≡ None))
+Fits known n s b =
+    (called_in_row b ≡ called s) × (((row : Row) × (b ≡ bound_row s row) × (known n row ≡ true)) ⊎ (b.id ≡ None))
 
 rows_fit : (known : Reads) (n : ℕ) (s : Source) (rows : List Row) → AllByRecursion (λ row. known n row ≡ true) rows
     → AllByRecursion (Fits known n s) (map (bound_row s) rows)
 rows_fit known n s [] h = tt
 rows_fit known n s (r ∷ rows) h = ((refl, inl (r, refl, h.0)), rows_fit known n s rows h.1)
 
-values_fit : (known : Reads) (n : ℕ) (s : Source) (vs : List Value) → AllByRecursion (Fits known n s) (map (bound_element s) vs)
+values_fit : (known : Reads) (n : ℕ) (s : Source) (vs : List Value)
+    → AllByRecursion (Fits known n s) (map (bound_element s) vs)
 values_fit known n s [] = tt
 values_fit known n s (v ∷ vs) = ((refl, inr refl), values_fit known n s vs)
 
-given_fit : (views : Viewed) (params : List Value) (known : Reads) (n : ℕ) (s : Source) (kind : SourceKind) (c : Combined)
-    → AllByRecursion (λ row. known n row ≡ true) (rows_given views params kind) → AllByRecursion (Fits known n s) (given_by views params s kind c)
+given_fit : (views : Viewed) (params : List Value) (known : Reads) (n : ℕ) (s : Source) (kind : SourceKind)
+    (c : Combined)
+    → AllByRecursion (λ row. known n row ≡ true) (rows_given views params kind)
+    → AllByRecursion (Fits known n s) (given_by views params s kind c)
 given_fit views params known n s (source.Table name) c h = rows_fit known n s _ h
 given_fit views params known n s (source.History table start end) c h = rows_fit known n s _ h
 given_fit views params known n s (source.Path path) c h = values_fit known n s _
 
-all_given : (views : Viewed) (params : List Value) (known : Reads) (n : ℕ) (ss : List Source) → AllKnown views params known n ss
+all_given : (views : Viewed) (params : List Value) (known : Reads) (n : ℕ) (ss : List Source)
+    → AllKnown views params known n ss
     → Gives (Fits known) (given_at views params) n ss
 all_given views params known n [] h = tt
-all_given views params known n (s ∷ ss) h = ((λ c. given_fit views params known n s s.from c h.0), all_given views params known (n + 1) ss h.1)
+all_given views params known n (s ∷ ss) h =
+    ((λ c. given_fit views params known n s s.from c h.0), all_given views params known (n + 1) ss h.1)
 
-all_called : (known : Reads) (n : ℕ) (ss : List Source) (bs : List Bound) → AllFit (Fits known) n ss bs → map called_in_row bs ≡ map called ss
+all_called : (known : Reads) (n : ℕ) (ss : List Source) (bs : List Bound) → AllFit (Fits known) n ss bs
+    → map called_in_row bs ≡ map called ss
 all_called known n [] [] h = refl
 all_called known n [] (b ∷ bs) h = absurd h
 all_called known n (s ∷ ss) [] h = absurd h
@@ -107,16 +117,28 @@ LeftAt known reads n ss bs =
     (k : ℕ) × (s : Source) × (row : Row) × (slice_get ss k ≡ Some s) × (slice_get bs k ≡ Some (bound_row s row))
     × (known (n + k) row ≡ true) × (reads (n + k) row ≡ false)
 
-left_here : (known reads : Reads) (n : ℕ) (s : Source) (ss : List Source) (b : Bound) (bs : List Bound) → passes reads n b ≡ false
-    → ((row : Row) × (b ≡ bound_row s row) × (known n row ≡ true)) ⊎ (b.id ≡ None) → LeftAt known reads n (s ∷ ss) (b ∷ bs)
+left_here : (known reads : Reads) (n : ℕ) (s : Source) (ss : List Source) (b : Bound) (bs : List Bound)
+    → passes reads n b ≡ false
+    → ((row : Row) × (b ≡ bound_row s row) × (known n row ≡ true)) ⊎ (b.id ≡ None)
+    → LeftAt known reads n (s ∷ ss) (b ∷ bs)
 left_here known reads n s ss b bs left (inl w) =
     let here : n ≡ n + 0 = omega arith in
-    let unread : reads n w.0 ≡ false = subst (λ x. passes reads n x ≡ false) w.1 left in
-    (0, s, w.0, refl, ap Some w.1, subst (λ m. known m w.0 ≡ true) here w.2, subst (λ m. reads m w.0 ≡ false) here unread)
+    let unread : reads n w.0 ≡ false = subst (λ x. passes reads n x ≡ false) w.1 left in (
+      0,
+      s,
+      w.0,
+      refl,
+      ap Some w.1,
+      subst (λ m. known m w.0 ≡ true) here w.2,
+      subst
+          (λ m. reads m w.0 ≡ false) here unread,
+    )
 left_here known reads n s ss b bs left (inr none) =
-    absurd (false≢true (sym left ∙ ap (λ o. option_map_or (λ id. reads n (record { id = id; value = b.value })) o true) none))
+    absurd (false≢true (sym left ∙ ap (λ o. option_map_or (λ id. reads n (record { id = id; value = b.value })) o true)
+    none))
 
-left_at : (known reads : Reads) (n : ℕ) (ss : List Source) (bs : List Bound) → AllFit (Fits known) n ss bs → SomeLeft (passes reads) n bs
+left_at : (known reads : Reads) (n : ℕ) (ss : List Source) (bs : List Bound) → AllFit (Fits known) n ss bs
+    → SomeLeft (passes reads) n bs
     → LeftAt known reads n ss bs
 left_at known reads n [] [] h left = absurd left
 left_at known reads n [] (b ∷ bs) h left = absurd h
@@ -124,8 +146,16 @@ left_at known reads n (s ∷ ss) [] h left = absurd left
 left_at known reads n (s ∷ ss) (b ∷ bs) h (inl left) = left_here known reads n s ss b bs left h.0.1
 left_at known reads n (s ∷ ss) (b ∷ bs) h (inr left) =
     let w = left_at known reads (n + 1) ss bs h.1 left in
-    let there : n + 1 + w.0 ≡ n + suc w.0 = omega arith in
-    (suc w.0, w.1, w.2, w.3, w.4, subst (λ m. known m w.2 ≡ true) there w.5, subst (λ m. reads m w.2 ≡ false) there w.6)
+    let there : n + 1 + w.0 ≡ n + suc w.0 = omega arith in (
+      suc w.0,
+      w.1,
+      w.2,
+      w.3,
+      w.4,
+      subst (λ m. known m w.2 ≡ true) there w.5,
+      subst
+          (λ m. reads m w.2 ≡ false) there w.6,
+    )
 
 -- ---- the laws
 
@@ -134,16 +164,22 @@ one_start elements ss = all_behind elements 0 ([] ∷ []) ss ∙ append-nil (beh
 
 pub restriction : Restriction
 restriction views params from known reads all covers =
-    ap (filter (is_kept params from)) (combined_is views params 0 ([] ∷ []) from.sources ∙ one_start (given_at views params) from.sources)
-    ∙ cut_behind (Fits known) (given_at views params) (passes reads) (is_kept params from) 0 from.sources [] (all_given views params known 0 from.sources all)
+    ap (filter (is_kept params from)) (combined_is views params 0 ([] ∷ []) from.sources
+    ∙ one_start (given_at views params) from.sources)
+    ∙ cut_behind (Fits known) (given_at views params) (passes reads) (is_kept params from) 0 from.sources []
+    (all_given views params known 0 from.sources all)
     (λ rest fit left.
     let w = left_at known reads 0 from.sources rest fit left in
     let here : 0 + w.0 ≡ w.0 = omega arith in
-    covers rest w.0 w.1 w.2 (all_called known 0 from.sources rest fit) w.3 w.4 (subst (λ m. known m w.2 ≡ true) here w.5) (subst (λ m. reads m w.2 ≡ false) here w.6))
-    ∙ ap (filter (is_kept params from)) (behind-same (cut_elements (passes reads) (given_at views params)) (read_at views params reads) (λ n s c. cut_given views params reads n s s.from c) 0 from.sources [])
-    ∙ sym (ap (filter (is_kept params from)) (read_is views params reads 0 ([] ∷ []) from.sources ∙ one_start (read_at views params reads) from.sources))
+    covers rest w.0 w.1 w.2 (all_called known 0 from.sources rest fit) w.3 w.4
+    (subst (λ m. known m w.2 ≡ true) here w.5) (subst (λ m. reads m w.2 ≡ false) here w.6))
+    ∙ ap (filter (is_kept params from)) (behind-same (cut_elements (passes reads) (given_at views params))
+    (read_at views params reads) (λ n s c. cut_given views params reads n s s.from c) 0 from.sources [])
+    ∙ sym (ap (filter (is_kept params from))
+    (read_is views params reads 0 ([] ∷ []) from.sources ∙ one_start (read_at views params reads) from.sources))
 
-same_given : (before now : Viewed) (params : List Value) (p : Row → Bool) (s : Source) (kind : SourceKind) (c : Combined)
+same_given : (before now : Viewed) (params : List Value) (p : Row → Bool) (s : Source) (kind : SourceKind)
+    (c : Combined)
     → filter p (rows_given before params kind) ≡ filter p (rows_given now params kind)
     → given_by (cut p before) params s kind c ≡ given_by (cut p now) params s kind c
 same_given before now params p s (source.Table name) c same = ap (map (bound_row s)) same
@@ -151,7 +187,8 @@ same_given before now params p s (source.History table start end) c same = ap (m
 same_given before now params p s (source.Path path) c same = refl
 
 same_read : (before now : Viewed) (params : List Value) (reads : Reads) (n : ℕ) (cs : List Combined) (ss : List Source)
-    → SameRead before now params reads n ss → read_with before params reads n cs ss ≡ read_with now params reads n cs ss
+    → SameRead before now params reads n ss
+    → read_with before params reads n cs ss ≡ read_with now params reads n cs ss
 same_read before now params reads n cs [] same = refl
 same_read before now params reads n cs (s ∷ ss) same =
     ap (λ ds. read_with before params reads (n + 1) ds ss)

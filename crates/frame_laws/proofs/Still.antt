@@ -32,11 +32,13 @@ use Rattle.frame_laws.proofs.Documents.{IsLatest, Silent, alike, all_latest, lat
 abbrev Unmet : TableId → Item → Draft → Type 0
 Unmet table i d = meets_row (meets table i) (row_of table d) ≡ false
 
--- what holds of a document that an untouched revision is of: where the revision isn't of a table, the document isn't in it
+-- what holds of a document that an untouched revision is of: where the revision isn't of a table, the document isn't
+-- in it
 abbrev NotIn : Draft → TableId → Type 0
 NotIn d read = (d.table.raw == read.raw) ≡ false
 
-other_table : (d : Draft) (read table : TableId) → (d.table.raw == table.raw) ≡ true → NotIn d read → (read.raw == table.raw) ≡ false
+other_table : (d : Draft) (read table : TableId) → (d.table.raw == table.raw) ≡ true → NotIn d read
+    → (read.raw == table.raw) ≡ false
 other_table d read table here not =
     false_from_ne_true (read.raw == table.raw) (λ same.
     both_ways (d.table.raw == read.raw) not
@@ -44,9 +46,11 @@ other_table d read table here not =
 
 -- where a document is in the table and has a content
 abbrev UnmetThere : TableId → Item → Draft → Type 0
-UnmetThere table i d = (v : Value) → (d.table.raw == table.raw) ≡ true → d.content ≡ Kept v → meets table i (record { id = d.id; value = v }) ≡ false
+UnmetThere table i d = (v : Value) → (d.table.raw == table.raw) ≡ true → d.content ≡ Kept v
+    → meets table i (record { id = d.id; value = v }) ≡ false
 
-unmet_live : (table : TableId) (i : Item) (d : Draft) (content : Content) → d.content ≡ content → (d.table.raw == table.raw) ≡ true → UnmetThere table i d
+unmet_live : (table : TableId) (i : Item) (d : Draft) (content : Content) → d.content ≡ content
+    → (d.table.raw == table.raw) ≡ true → UnmetThere table i d
     → meets_row (meets table i) (live d.id content) ≡ false
 unmet_live table i d Deleted e here h = refl
 unmet_live table i d (Redacted hash) e here h = refl
@@ -63,7 +67,7 @@ unmet table i d h = unmet_by table i d (d.table.raw == table.raw) refl h
 -- ---- a revision that touches nothing, and a document that it is of
 
 -- whether a revision of the block touches the item
-abbrev revision_touches : State → Block → Item → Recorded → Bool
+abbrev pub revision_touches : State → Block → Item → Recorded → Bool
 revision_touches s b (item.TableName name) r = false
 revision_touches s b item.TableList r = false
 revision_touches s b (item.Table read) r = is_of_table s read r
@@ -75,21 +79,26 @@ module _ (s : State) (b : Block) (table : TableId) (d : Draft) (r : Recorded) wh
   abbrev Shown : Type 0
   Shown =
       ((read : TableId) → is_of_table s read r ≡ false → NotIn d read)
-      × ((field : List ℕ) (k : Key) → (has_key_at s field k (id_of r) || has_key_at (after s b) field k (id_of r)) ≡ false → has_key_in field k (kept d.content) ≡ false)
+      × ((field : List ℕ) (k : Key) → (has_key_at s field k (id_of r) || has_key_at (after s b) field k (id_of r))
+      ≡ false → has_key_in field k (kept d.content) ≡ false)
 
   unmet_here : (i : Item) → id_of r ≡ d.id.raw → Shown → revision_touches s b i r ≡ false → UnmetThere table i d
   unmet_here (item.TableName name) same shown un v here e = refl
   unmet_here item.TableList same shown un v here e = refl
   unmet_here (item.Table read) same shown un v here e = other_table d read table here (shown.0 read un)
   unmet_here (item.Doc read id) same shown un v here e =
-      elim (and_cases (is_of_table s read r) (id_of r == id.raw) un) as (λ _. ((read.raw == table.raw) && (d.id.raw == id.raw)) ≡ false) [
+      elim (and_cases (is_of_table s read r) (id_of r == id.raw) un) as
+      (λ _. ((read.raw == table.raw) && (d.id.raw == id.raw)) ≡ false) [
         | inl not ↦ and_left (read.raw == table.raw) _ (other_table d read table here (shown.0 read not))
         | inr not ↦ and_right (read.raw == table.raw) _ (subst (λ n. (n == id.raw) ≡ false) same not)
       ]
   unmet_here (item.IndexValue read field k) same shown un v here e =
-      elim (and_cases (is_of_table s read r) (has_key_at s field k (id_of r) || has_key_at (after s b) field k (id_of r)) un) as (λ _. ((read.raw == table.raw) && has_key k (key_in (field_of field v))) ≡ false) [
+      elim (and_cases (is_of_table s read r)
+      (has_key_at s field k (id_of r) || has_key_at (after s b) field k (id_of r)) un) as
+      (λ _. ((read.raw == table.raw) && has_key k (key_in (field_of field v))) ≡ false) [
         | inl not ↦ and_left (read.raw == table.raw) _ (other_table d read table here (shown.0 read not))
-        | inr not ↦ and_right (read.raw == table.raw) _ (sym (ap (λ c. has_key_in field k (kept c)) e) ∙ shown.1 field k not)
+        | inr not ↦ and_right (read.raw == table.raw)
+            _ (sym (ap (λ c. has_key_in field k (kept c)) e) ∙ shown.1 field k not)
       ]
 
 -- ---- revisions in a block
@@ -98,12 +107,14 @@ module _ (s : State) (b : Block) (table : TableId) (d : Draft) (r : Recorded) wh
 abbrev OneOf : (Recorded → Bool) → ℕ → Type 0
 OneOf p id = (r : Recorded) × (id_of r ≡ id) × (p r ≡ false)
 
-pub one_of : (p : Recorded → Bool) (id : ℕ) (rs : List Recorded) → list_any (has_revision_of id) rs ≡ true → list_any p rs ≡ false
+pub one_of : (p : Recorded → Bool) (id : ℕ) (rs : List Recorded) → list_any (has_revision_of id) rs ≡ true
+    → list_any p rs ≡ false
     → (r : Recorded) × (id_of r ≡ id) × (p r ≡ false)
 one_of p id [] has none = absurd (both_ways false refl has)
 one_of p id (r ∷ rs) has none =
     let parts = or_parts (p r) (list_any p rs) none in
-    elim (or_cases (id_of r == id) (list_any (has_revision_of id) rs) has) as (λ _. (x : Recorded) × (id_of x ≡ id) × (p x ≡ false)) [
+    elim (or_cases (id_of r == id) (list_any (has_revision_of id) rs) has) as
+    (λ _. (x : Recorded) × (id_of x ≡ id) × (p x ≡ false)) [
       | inl here ↦ (r, eqb-true (id_of r) id here, parts.0)
       | inr later ↦ one_of p id rs later parts.1
     ]
@@ -112,14 +123,25 @@ one_of p id (r ∷ rs) has none =
 abbrev LatestOne : (Recorded → Bool) → ℕ → List Recorded → Type 0
 LatestOne p id rs = (r : Recorded) × (latest_of rs id ≡ Some r) × (id_of r ≡ id) × (p r ≡ false)
 
-latest_by : (p : Recorded → Bool) (id : ℕ) (r : Recorded) (rs : List Recorded) (b : Bool) → (id_of r == id) ≡ b → p r ≡ false
+latest_by : (p : Recorded → Bool) (id : ℕ) (r : Recorded) (rs : List Recorded) (b : Bool) → (id_of r == id) ≡ b
+    → p r ≡ false
     → LatestOne p id rs ⊎ ((latest_of rs id ≡ None) × (list_any (has_revision_of id) rs ≡ false))
     → LatestOne p id (r ∷ rs) ⊎ ((latest_of (r ∷ rs) id ≡ None) × (list_any (has_revision_of id) (r ∷ rs) ≡ false))
 latest_by p id r rs b e not (inl w) = inl (w.0, ap (λ o. or_else o (cond (id_of r == id) (Some r) None)) w.1, w.2, w.3)
 latest_by p id r rs true e not (inr none) =
-    inl (r, ap (λ o. or_else o (cond (id_of r == id) (Some r) None)) none.0 ∙ ap (λ c. cond c (Some r) None) e, eqb-true (id_of r) id e, not)
+    inl (
+      r,
+      ap (λ o. or_else o (cond (id_of r == id) (Some r) None)) none.0
+          ∙ ap (λ c. cond c (Some r) None) e,
+      eqb-true (id_of r) id e,
+      not,
+    )
 latest_by p id r rs false e not (inr none) =
-    inr (ap (λ o. or_else o (cond (id_of r == id) (Some r) None)) none.0 ∙ ap (λ c. cond c (Some r) None) e, or_from (id_of r == id) _ e none.1)
+    inr (
+      ap (λ o. or_else o (cond (id_of r == id) (Some r) None)) none.0
+          ∙ ap (λ c. cond c (Some r) None) e,
+      or_from (id_of r == id) _ e none.1,
+    )
 
 latest_or : (p : Recorded → Bool) (id : ℕ) (rs : List Recorded) → list_any p rs ≡ false
     → LatestOne p id rs ⊎ ((latest_of rs id ≡ None) × (list_any (has_revision_of id) rs ≡ false))
@@ -128,13 +150,16 @@ latest_or p id (r ∷ rs) none =
     let parts = or_parts (p r) (list_any p rs) none in
     latest_by p id r rs (id_of r == id) refl parts.0 (latest_or p id rs parts.1)
 
-latest_one : (p : Recorded → Bool) (id : ℕ) (rs : List Recorded) → list_any (has_revision_of id) rs ≡ true → list_any p rs ≡ false → LatestOne p id rs
+latest_one : (p : Recorded → Bool) (id : ℕ) (rs : List Recorded) → list_any (has_revision_of id) rs ≡ true
+    → list_any p rs ≡ false → LatestOne p id rs
 latest_one p id rs has none =
-    elim (latest_or p id rs none) as (λ _. LatestOne p id rs) [ inl w ↦ w | inr not ↦ absurd (both_ways (list_any (has_revision_of id) rs) not.1 has) ]
+    elim (latest_or p id rs none) as (λ _. LatestOne p id rs)
+    [ inl w ↦ w | inr not ↦ absurd (both_ways (list_any (has_revision_of id) rs) not.1 has) ]
 
 -- ---- one block
 
-in_option : (rs : List Recorded) (id : ℕ) (d : Draft) (o : Option Recorded) → latest_of rs id ≡ o → option_map draft_of o ≡ Some d
+in_option : (rs : List Recorded) (id : ℕ) (d : Draft) (o : Option Recorded) → latest_of rs id ≡ o
+    → option_map draft_of o ≡ Some d
     → (r : Recorded) × (latest_of rs id ≡ Some r) × (draft_of r ≡ d)
 in_option rs id d None e h = cc
 in_option rs id d (Some r) e h = (r, e, inside (draft_of r) d h)
@@ -152,25 +177,29 @@ module _ (s : State) (b : Block) (table : TableId) where
             sym (ap (λ (x : Draft). x.table.raw == read.raw) w.2) ∙ (sym (ap (is_in read) at) ∙ parts.1)),
         (λ field k not.
             let parts = or_parts (has_key_at s field k (id_of r)) (has_key_at (after s b) field k (id_of r)) not in
-            sym (ap (λ (x : Draft). has_key_in field k (kept x.content)) w.2) ∙ (sym (ap (λ o. has_key_in field k (content_in o)) at) ∙ parts.0)),
+            sym (ap (λ (x : Draft). has_key_in field k (kept x.content)) w.2)
+            ∙ (sym (ap (λ o. has_key_in field k (content_in o)) at) ∙ parts.0)),
       )
 
-  shown_after : (d : Draft) (r : Recorded) → id_of r ≡ d.id.raw → latest_of new d.id.raw ≡ Some r → IsLatest (after s b).revisions d → Shown s b table d r
+  shown_after : (d : Draft) (r : Recorded) → id_of r ≡ d.id.raw → latest_of new d.id.raw ≡ Some r
+      → IsLatest (after s b).revisions d → Shown s b table d r
   shown_after d r same last is =
       let at : latest_of (after s b).revisions d.id.raw ≡ Some r =
       latest_of-append s.revisions new d.id.raw ∙ ap (λ o. or_else o (latest_of s.revisions d.id.raw)) last in
-      let there : latest_of (after s b).revisions (id_of r) ≡ Some r = ap (latest_of (after s b).revisions) same ∙ at in
+      let there : latest_of (after s b).revisions (id_of r) ≡ Some r = ap (latest_of (after s b).revisions) same
+      ∙ at in
       let it : draft_of r ≡ d = inside (draft_of r) d (sym (ap (option_map draft_of) at) ∙ is) in (
         (λ read not.
             let parts = or_parts (is_in read (Some r)) (is_in read (latest_of s.revisions (id_of r))) not in
             sym (ap (λ (x : Draft). x.table.raw == read.raw) it) ∙ parts.0),
         (λ field k not.
             let parts = or_parts (has_key_at s field k (id_of r)) (has_key_at (after s b) field k (id_of r)) not in
-            sym (ap (λ (x : Draft). has_key_in field k (kept x.content)) it) ∙ (sym (ap (λ o. has_key_in field k (content_in o)) there) ∙ parts.1)),
+            sym (ap (λ (x : Draft). has_key_in field k (kept x.content)) it)
+            ∙ (sym (ap (λ o. has_key_in field k (content_in o)) there) ∙ parts.1)),
       )
 
   -- the block's revisions don't touch an item of documents that isn't touched
-  revisions_untouched : (i : Item) → touched s b i ≡ false → list_any (revision_touches s b i) new ≡ false
+  pub revisions_untouched : (i : Item) → touched s b i ≡ false → list_any (revision_touches s b i) new ≡ false
   revisions_untouched (item.TableName name) h = none new where
     none : (rs : List Recorded) → list_any (λ r. false) rs ≡ false
     none [] = refl
@@ -183,12 +212,14 @@ module _ (s : State) (b : Block) (table : TableId) where
   revisions_untouched (item.Doc read id) h = h
   revisions_untouched (item.IndexValue read field k) h = h
 
-  pub unmet_before : (i : Item) (d : Draft) → touched s b i ≡ false → block_revises d.id.raw b ≡ true → IsLatest s.revisions d → Unmet table i d
+  pub unmet_before : (i : Item) (d : Draft) → touched s b i ≡ false → block_revises d.id.raw b ≡ true
+      → IsLatest s.revisions d → Unmet table i d
   unmet_before i d un has is =
       let w = one_of (revision_touches s b i) d.id.raw new has (revisions_untouched i un) in
       unmet table i d (unmet_here s b table d w.0 i w.1 (shown_before d w.0 w.1 is) w.2)
 
-  pub unmet_after : (i : Item) (d : Draft) → touched s b i ≡ false → block_revises d.id.raw b ≡ true → IsLatest (after s b).revisions d → Unmet table i d
+  pub unmet_after : (i : Item) (d : Draft) → touched s b i ≡ false → block_revises d.id.raw b ≡ true
+      → IsLatest (after s b).revisions d → Unmet table i d
   unmet_after i d un has is =
       let w = latest_one (revision_touches s b i) d.id.raw new has (revisions_untouched i un) in
       unmet table i d (unmet_here s b table d w.0 i w.2 (shown_after d w.0 w.2 w.1 is) w.3)
@@ -198,26 +229,35 @@ module _ (s : State) (b : Block) (table : TableId) where
   abbrev AllUntouched : List Item → Type 0
   AllUntouched items = AllByRecursion (λ i. touched s b i ≡ false) items
 
-  none_met : (row : Row) (items : List Item) → AllByRecursion (λ i. meets table i row ≡ false) items → meets_one table items row ≡ false
+  none_met : (row : Row) (items : List Item) → AllByRecursion (λ i. meets table i row ≡ false) items
+      → meets_one table items row ≡ false
   none_met row [] h = refl
   none_met row (i ∷ items) h = or_from (meets table i row) _ h.0 (none_met row items h.1)
 
-  pub each_unmet : (o : Option Row) (items : List Item) → AllByRecursion (λ i. meets_row (meets table i) o ≡ false) items → meets_row (meets_one table items) o ≡ false
+  pub each_unmet : (o : Option Row) (items : List Item)
+      → AllByRecursion (λ i. meets_row (meets table i) o ≡ false) items → meets_row (meets_one table items) o ≡ false
   each_unmet None items h = refl
   each_unmet (Some row) items h = none_met row items h
 
-  pub all_items : (P : Item → Type 0) (items : List Item) → AllUntouched items → ((i : Item) → touched s b i ≡ false → P i) → AllByRecursion P items
+  pub all_items : (P : Item → Type 0) (items : List Item) → AllUntouched items
+      → ((i : Item) → touched s b i ≡ false → P i) → AllByRecursion P items
   all_items P [] h f = tt
   all_items P (i ∷ items) h f = (f i h.0, all_items P items h.1 f)
 
   silent_by : (rs : List Recorded) (items : List Item) → AllUntouched items
-      → ((i : Item) (d : Draft) → touched s b i ≡ false → block_revises d.id.raw b ≡ true → IsLatest rs d → Unmet table i d)
-      → (docs : List Draft) → AllByRecursion (IsLatest rs) docs → Silent table (meets_one table items) (λ id. block_revises id b) docs
+      → ((i : Item) (d : Draft) → touched s b i ≡ false → block_revises d.id.raw b ≡ true → IsLatest rs d
+      → Unmet table i d)
+      → (docs : List Draft) → AllByRecursion (IsLatest rs) docs
+      → Silent table (meets_one table items) (λ id. block_revises id b) docs
   silent_by rs items h f [] all = tt
-  silent_by rs items h f (d ∷ ds) all =
-      ((λ has. each_unmet (row_of table d) items (all_items (λ i. Unmet table i d) items h (λ i un. f i d un has all.0))), silent_by rs items h f ds all.1)
+  silent_by rs items h f (d ∷ ds) all = (
+    (λ has. each_unmet (row_of table d) items
+        (all_items (λ i. Unmet table i d) items h (λ i un. f i d un has all.0))),
+    silent_by rs items h f ds all.1,
+  )
 
-  has_own : (rs all : List Recorded) → ((r : Recorded) → list_any (has_revision_of (id_of r)) rs ≡ true → list_any (has_revision_of (id_of r)) all ≡ true)
+  has_own : (rs all : List Recorded) → ((r : Recorded) → list_any (has_revision_of (id_of r)) rs ≡ true
+      → list_any (has_revision_of (id_of r)) all ≡ true)
       → AllByRecursion (λ (p : Draft). list_any (has_revision_of p.id.raw) all ≡ true) (map draft_of rs)
   has_own [] all f = tt
   has_own (r ∷ rs) all f = (
@@ -225,29 +265,36 @@ module _ (s : State) (b : Block) (table : TableId) where
     has_own rs all (λ x h. f x (or_right (id_of r == id_of x) _ h)),
   )
 
-  pub one_block : (items : List Item) (pending : List Draft) → AllUntouched items → AllByRecursion (λ (p : Draft). block_revises p.id.raw b ≡ false) pending
+  pub one_block : (items : List Item) (pending : List Draft) → AllUntouched items
+      → AllByRecursion (λ (p : Draft). block_revises p.id.raw b ≡ false) pending
       → rows_met table items (after s b) pending ≡ rows_met table items s pending
   one_block items pending h apart =
       let docs = latest (map draft_of s.revisions) in
       let more = latest_from docs (map draft_of new) in
       let joined : latest (map draft_of (after s b).revisions) ≡ more =
-      ap latest (map-append draft_of s.revisions new) ∙ latest_after [] (map draft_of s.revisions) (map draft_of new) in
+      ap latest (map-append draft_of s.revisions new)
+      ∙ latest_after [] (map draft_of s.revisions) (map draft_of new) in
       let silent_after : Silent table (meets_one table items) (λ id. block_revises id b) more =
       subst (Silent table (meets_one table items) (λ id. block_revises id b)) joined
-      (silent_by (after s b).revisions items h unmet_after (latest (map draft_of (after s b).revisions)) (all_latest (after s b).revisions)) in
-      ap (met table (meets_one table items)) (latest_after [] (map draft_of (after s b).revisions) pending ∙ ap (λ x. latest_from x pending) joined)
+      (silent_by (after s b).revisions items h unmet_after (latest (map draft_of (after s b).revisions))
+      (all_latest (after s b).revisions)) in
+      ap (met table (meets_one table items))
+      (latest_after [] (map draft_of (after s b).revisions) pending ∙ ap (λ x. latest_from x pending) joined)
       ∙ alike table (meets_one table items) (λ id. block_revises id b) more docs pending
-      (others_after table (meets_one table items) (λ id. block_revises id b) docs (map draft_of new) (has_own new new (λ x k. k)))
+      (others_after table (meets_one table items) (λ id. block_revises id b) docs (map draft_of new)
+      (has_own new new (λ x k. k)))
       silent_after (silent_by s.revisions items h unmet_before docs (all_latest s.revisions)) apart
       ∙ sym (ap (met table (meets_one table items)) (latest_after [] (map draft_of s.revisions) pending))
 
 -- ---- all blocks
 
-pub none_named : (m : ℕ) (o : Option Item) (later : Option Named) → named_or m o later ≡ None → (o ≡ None) × (later ≡ None)
+pub none_named : (m : ℕ) (o : Option Item) (later : Option Named) → named_or m o later ≡ None
+    → (o ≡ None) × (later ≡ None)
 none_named m None later h = (refl, h)
 none_named m (Some i) later h = cc
 
-not_found_by : (p : Item → Bool) (i : Item) (b : Bool) (rest : Option Item) → p i ≡ b → cond b (Some i) rest ≡ None → (p i ≡ false) × (rest ≡ None)
+not_found_by : (p : Item → Bool) (i : Item) (b : Bool) (rest : Option Item) → p i ≡ b → cond b (Some i) rest ≡ None
+    → (p i ≡ false) × (rest ≡ None)
 not_found_by p i true rest e h = cc
 not_found_by p i false rest e h = (e, h)
 
@@ -265,7 +312,8 @@ first_apart b bs (p ∷ ps) h =
     let rest = first_apart b bs ps h.1 in
     ((parts.0, rest.0), (parts.1, rest.1))
 
-pub still : (m : ℕ) (s : State) (later : List Block) (table : TableId) (items : List Item) (pending : List Draft) → conflict_from m s later items ≡ None
+pub still : (m : ℕ) (s : State) (later : List Block) (table : TableId) (items : List Item) (pending : List Draft)
+    → conflict_from m s later items ≡ None
     → Apart later pending → rows_met table items (state_from s later) pending ≡ rows_met table items s pending
 still m s [] table items pending none apart = refl
 still m s (b ∷ bs) table items pending none apart =
@@ -274,7 +322,8 @@ still m s (b ∷ bs) table items pending none apart =
     still (m + 1) (after s b) bs table items pending parts.1 aparts.1
     ∙ one_block s b table items pending (none_found (touched s b) items parts.0) aparts.0
 
-pub state_split : (s : State) (since : ℕ) (blocks : List Block) → state_from s blocks ≡ state_from (state_from s (take since blocks)) (drop since blocks)
+pub state_split : (s : State) (since : ℕ) (blocks : List Block)
+    → state_from s blocks ≡ state_from (state_from s (take since blocks)) (drop since blocks)
 state_split s zero blocks = refl
 state_split s (suc n) [] = refl
 state_split s (suc n) (b ∷ bs) = state_split (after s b) n bs

@@ -17,16 +17,17 @@ use Rattle.frame_laws.specs.Stillness.{DocumentsAreStill, IsStill, block_revises
 use Rattle.frame_laws.specs.Touches.{conflict_from, id_of, revisions_in, touched}
 use Rattle.frame_laws.proofs.Documents.{IsLatest, latest_of-append, meets_row}
 use Rattle.frame_laws.proofs.Equality.{inside}
-use Rattle.frame_laws.proofs.Naming.{absent}
+use Rattle.frame_laws.proofs.Revised.{absent}
 use Rattle.frame_laws.proofs.Still.{all_items, each_unmet, none_found, none_named, state_split, unmet_after, unmet_before}
 
-found_by : (id : ℕ) (r x : Recorded) (o : Option Recorded) (b : Bool) → (id_of r == id) ≡ b → or_else o (cond b (Some r) None) ≡ Some x → (o ≡ Some x → id_of x ≡ id) → id_of x ≡ id
+found_by : (id : ℕ) (r x : Recorded) (o : Option Recorded) (b : Bool) → (id_of r == id) ≡ b
+    → or_else o (cond b (Some r) None) ≡ Some x → (o ≡ Some x → id_of x ≡ id) → id_of x ≡ id
 found_by id r x (Some y) b e h ih = ih h
 found_by id r x None true e h ih = sym (ap id_of (inside r x h)) ∙ eqb-true (id_of r) id e
 found_by id r x None false e h ih = cc
 
 -- the latest revision of a document is of it
-latest_id : (id : ℕ) (rs : List Recorded) (x : Recorded) → latest_of rs id ≡ Some x → id_of x ≡ id
+pub latest_id : (id : ℕ) (rs : List Recorded) (x : Recorded) → latest_of rs id ≡ Some x → id_of x ≡ id
 latest_id id [] x h = cc
 latest_id id (r ∷ rs) x h = found_by id r x (latest_of rs id) (id_of r == id) refl h (latest_id id rs x)
 
@@ -38,23 +39,30 @@ by_row test None h = refl
 by_row test (Some row) h = h
 
 module _ (table : TableId) (items : List Item) (id : ℕ) where
-  unmet_latest : (s : State) (b : Block) (rs : List Recorded) (o : Option Recorded) → AllByRecursion (λ i. touched s b i ≡ false) items → latest_of rs id ≡ o → block_revises id b ≡ true
-      → ((i : Item) (d : Draft) → touched s b i ≡ false → block_revises d.id.raw b ≡ true → IsLatest rs d → meets_row (meets table i) (row_of table d) ≡ false)
+  unmet_latest : (s : State) (b : Block) (rs : List Recorded) (o : Option Recorded)
+      → AllByRecursion (λ i. touched s b i ≡ false) items → latest_of rs id ≡ o → block_revises id b ≡ true
+      → ((i : Item) (d : Draft) → touched s b i ≡ false → block_revises d.id.raw b ≡ true → IsLatest rs d
+      → meets_row (meets table i) (row_of table d) ≡ false)
       → is_met table items o ≡ false
   unmet_latest s b rs None un e has unmet = refl
   unmet_latest s b rs (Some x) un e has unmet =
       let own : block_revises (id_of x) b ≡ true = ap (λ n. block_revises n b) (latest_id id rs x e) ∙ has in
       by_row (meets_one table items) (row_of table (draft_of x))
       (each_unmet s b table (row_of table (draft_of x)) items
-      (all_items s b table (λ i. meets_row (meets table i) (row_of table (draft_of x)) ≡ false) items un (λ i h. unmet i (draft_of x) h own (is_latest id rs x e))))
+      (all_items s b table (λ i. meets_row (meets table i) (row_of table (draft_of x)) ≡ false) items un
+      (λ i h. unmet i (draft_of x) h own (is_latest id rs x e))))
 
-  one_block : (s : State) (b : Block) (v : Bool) → block_revises id b ≡ v → AllByRecursion (λ i. touched s b i ≡ false) items → IsStill table items id s (after s b)
+  one_block : (s : State) (b : Block) (v : Bool) → block_revises id b ≡ v
+      → AllByRecursion (λ i. touched s b i ≡ false) items → IsStill table items id s (after s b)
   one_block s b true e un =
       inr (
         unmet_latest s b s.revisions (latest_of s.revisions id) un refl e (λ i d. unmet_before s b table i d),
-        unmet_latest s b (after s b).revisions (latest_of (after s b).revisions id) un refl e (λ i d. unmet_after s b table i d),
+        unmet_latest s b (after s b).revisions (latest_of (after s b).revisions id) un refl e
+            (λ i d. unmet_after s b table i d),
       )
-  one_block s b false e un = inl (latest_of-append s.revisions (revisions_in b) id ∙ ap (λ o. or_else o (latest_of s.revisions id)) (absent id (revisions_in b) e))
+  one_block s b false e un =
+      inl (latest_of-append s.revisions (revisions_in b) id
+      ∙ ap (λ o. or_else o (latest_of s.revisions id)) (absent id (revisions_in b) e))
 
   then_still : (s t u : State) → IsStill table items id s t → IsStill table items id t u → IsStill table items id s u
   then_still s t u (inl e) (inl f) = inl (f ∙ e)
@@ -62,12 +70,16 @@ module _ (table : TableId) (items : List Item) (id : ℕ) where
   then_still s t u (inr e) (inl f) = inr (e.0, ap (is_met table items) f ∙ e.1)
   then_still s t u (inr e) (inr f) = inr (e.0, f.1)
 
-  all_blocks : (m : ℕ) (s : State) (later : List Block) → conflict_from m s later items ≡ None → IsStill table items id s (state_from s later)
+  all_blocks : (m : ℕ) (s : State) (later : List Block) → conflict_from m s later items ≡ None
+      → IsStill table items id s (state_from s later)
   all_blocks m s [] none = inl refl
   all_blocks m s (b ∷ bs) none =
       let parts = none_named m (find (touched s b) items) (conflict_from (m + 1) (after s b) bs items) none in
-      then_still s (after s b) (state_from (after s b) bs) (one_block s b (block_revises id b) refl (none_found (touched s b) items parts.0)) (all_blocks (m + 1) (after s b) bs parts.1)
+      then_still s (after s b) (state_from (after s b) bs)
+      (one_block s b (block_revises id b) refl (none_found (touched s b) items parts.0))
+      (all_blocks (m + 1) (after s b) bs parts.1)
 
 pub documents_are_still : DocumentsAreStill
 documents_are_still blocks since table items id none =
-    subst (IsStill table items id (state (take since blocks))) (sym (state_split empty since blocks)) (all_blocks table items id since (state (take since blocks)) (drop since blocks) none)
+    subst (IsStill table items id (state (take since blocks))) (sym (state_split empty since blocks))
+    (all_blocks table items id since (state (take since blocks)) (drop since blocks) none)

@@ -57,7 +57,8 @@ module _ (b : Block) (r : Revision) where
   of_document id content = record r { content = content; metadata = record (r.metadata) { id = record { raw = id } } }
 
   abbrev block : List Schema → List TableId → List Revision → Block
-  block schema tables revisions = record b { info = record (b.info) { schema = schema; tables = tables }; revisions = revisions }
+  block schema tables revisions =
+      record b { info = record (b.info) { schema = schema; tables = tables }; revisions = revisions }
 
   abbrev changes : List Schema → Block
   changes schema = block schema [] []
@@ -68,7 +69,8 @@ module _ (b : Block) (r : Revision) where
   -- four blocks: t with an index on a, another table, and a document in each
   abbrev made_with : List Schema → List Block
   made_with index =
-      changes (Create (codes "t") t ∷ index) ∷ changes (Create (codes "u") u ∷ []) ∷ block [] (u ∷ []) (of_document 10 (Kept (with_a 5)) ∷ []) ∷ writes 11 (Kept (with_a 1)) ∷ []
+      changes (Create (codes "t") t ∷ index) ∷ changes (Create (codes "u") u ∷ []) ∷ block [] (u ∷ [])
+      (of_document 10 (Kept (with_a 5)) ∷ []) ∷ writes 11 (Kept (with_a 1)) ∷ []
 
   abbrev indexed : List Block
   indexed = made_with (Index (codes "a") t ∷ [])
@@ -93,12 +95,15 @@ module _ (b : Block) (r : Revision) where
   unfolding key_of_number zeros_in
   other_key = search (rules, values.the_lemmas)
 
-  no_index : conflict (with_block (made_with []) (writes 12 (Kept (with_a 5)))) 4 (reads_a 5 (made_with [])) ≡ named 4 (item.Table t)
+  no_index : conflict (with_block (made_with []) (writes 12 (Kept (with_a 5)))) 4 (reads_a 5 (made_with []))
+      ≡ named 4 (item.Table t)
   unfolding key_of_number zeros_in
   no_index = search (rules, values.the_lemmas)
 
   abbrev holds_5 : List Block
-  holds_5 = changes (Create (codes "t") t ∷ []) ∷ changes (Index (codes "a") t ∷ []) ∷ writes 12 (Kept (with_a 5)) ∷ writes 11 (Kept (with_a 1)) ∷ []
+  holds_5 =
+      changes (Create (codes "t") t ∷ []) ∷ changes (Index (codes "a") t ∷ []) ∷ writes 12
+      (Kept (with_a 5)) ∷ writes 11 (Kept (with_a 1)) ∷ []
 
   key_leaves : conflict (with_block holds_5 (writes 12 (Kept (with_a 6)))) 4 (reads_a 5 holds_5) ≡ named 4 (key_a 5)
   unfolding key_of_number zeros_in
@@ -159,7 +164,8 @@ module _ (b : Block) (r : Revision) where
   index_of_other = refl
 
   -- the name of a table that the block makes itself
-  index_of_new : touches_last indexed (changes (Create (codes "v") (table 3) ∷ Index (codes "b") (table 3) ∷ [])) (item.TableName (codes "t")) ≡ false
+  index_of_new : touches_last indexed (changes (Create (codes "v") (table 3) ∷ Index (codes "b") (table 3) ∷ []))
+      (item.TableName (codes "t")) ≡ false
   index_of_new = refl
 
   list_by_create : touches_last indexed (changes (Create (codes "v") (table 3) ∷ [])) item.TableList ≡ true
@@ -176,10 +182,13 @@ module _ (b : Block) (r : Revision) where
 
   -- ---- the first block, and the footprint's first item
 
-  first_block : conflict (with_block indexed (writes 11 Deleted)) 3 (item.Table u ∷ item.Table t ∷ []) ≡ named 3 (item.Table t)
+  first_block : conflict (with_block indexed (writes 11 Deleted)) 3 (item.Table u ∷ item.Table t ∷ [])
+      ≡ named 3 (item.Table t)
   first_block = refl
 
-  first_item : conflict (with_block indexed (writes 11 Deleted)) 4 (item.Table u ∷ item.Doc t (record { raw = 11 }) ∷ item.Table t ∷ []) ≡ named 4 (item.Doc t (record { raw = 11 }))
+  first_item : conflict (with_block indexed (writes 11 Deleted)) 4
+      (item.Table u ∷ item.Doc t (record { raw = 11 }) ∷ item.Table t ∷ [])
+      ≡ named 4 (item.Doc t (record { raw = 11 }))
   first_item = refl
 
   before_since : conflict indexed 4 (item.Table t ∷ item.TableList ∷ []) ≡ None

@@ -1,5 +1,6 @@
 -- What a statement's footprint reads of the rows of its sources, and that this is enough of them.
 use Rattle.std.specs.Prelude.{ℕ, ◌^◌, ◌&&◌, Bool, true, false, nat_lt, List, codes, slice_get, Option, Some, None, option_and_then, if◌then◌else◌}
+use Rattle.std.specs.List.{list_any}
 use Rattle.std.specs.Option.{option_map_or}
 use Rattle.std.specs.Str.{bytes_eq}
 use Rattle.ion_values.specs.declared.value.Body.TheVariants as body
@@ -10,15 +11,17 @@ use Rattle.ql_types.specs.declared.TableId.{TableId}
 use Rattle.pql_model.specs.declared.statement.FromClause.{FromClause}
 use Rattle.pql_model.specs.declared.statement.Source.{Source}
 use Rattle.pql_model.specs.declared.statement.SourceKind.{SourceKind}
+use Rattle.pql_model.specs.declared.statement.SourceKind.TheVariants as source
 use Rattle.pql_model.specs.declared.tables.Row.{Row}
 use Rattle.pql_model.specs.Made.{made}
 use Rattle.pql_model.specs.Steps.{field_of}
 use Rattle.pql_model.specs.Texts.{text_of}
 use Rattle.ledger_model.specs.declared.outcome.Item.{Item}
+use Rattle.ledger_model.specs.declared.outcome.Item.TheVariants as item
 use Rattle.ledger_model.specs.Footprints.{Schemas, equations_of, read_by_sources, shows_metadata}
 use Rattle.ledger_model.specs.State.{active_table}
-use Rattle.ledger_model.specs.Statements.{is_plain, table_in}
-use Rattle.frame_laws.specs.Meets.{meets_one}
+use Rattle.ledger_model.specs.Statements.{table_in}
+use Rattle.frame_laws.specs.Meets.{meets}
 use Rattle.frame_laws.specs.Restriction.{Covers, Reads}
 
 -- the active table that a source names
@@ -44,10 +47,22 @@ document_shown kind row = record { id = row.id; value = content_shown kind row.v
 
 -- ---- what is read of it
 
--- whether the document of a row of the source meets one of the items
+abbrev pub is_no_key : Item → Bool
+is_no_key (item.IndexValue table field k) = false
+is_no_key _ = true
+
+-- history is read by no key
+abbrev pub counts : SourceKind → Item → Bool
+counts (source.Table name) i = true
+counts (source.History table start end) i = is_no_key i
+counts (source.Path path) i = true
+
+-- whether the document of a row of the source meets one of the items that count
+abbrev pub is_met_by : SourceKind → TableId → List Item → Row → Bool
+is_met_by kind table items row = list_any (λ i. counts kind i && meets table i (document_shown kind row)) items
+
 abbrev pub is_read : Schemas → List Item → SourceKind → Row → Bool
-is_read now items kind row =
-    option_map_or (λ table. meets_one table items (document_shown kind row)) (table_of now kind) true
+is_read now items kind row = option_map_or (λ table. is_met_by kind table items row) (table_of now kind) true
 
 abbrev pub reads_of : Schemas → List Item → List Source → Reads
 reads_of now items sources n row =
@@ -77,6 +92,8 @@ FootprintCovers =
     → Covers params from (known_of from.sources)
     (reads_of now (read_by_sources now (equations_of params from) from.sources) from.sources)
 
--- the user view of a table, or a path
-abbrev pub is_of_user : Source → Bool
-is_of_user s = is_plain s.from
+-- a view of the latest revisions, or a path
+abbrev pub is_no_history : SourceKind → Bool
+is_no_history (source.Table name) = true
+is_no_history (source.History table start end) = false
+is_no_history (source.Path path) = true

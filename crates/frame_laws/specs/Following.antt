@@ -1,5 +1,5 @@
--- What a block touches that follows the state before it: there each document stays in its table, so that the tables of the
--- block's own revisions tell it.
+-- What a block touches that follows the state before it: there each document stays in its table, so that the tables
+-- of the block's own revisions tell it.
 use Rattle.std.specs.Prelude.{◌≡◌, ◌==◌, ◌&&◌, ◌||◌, ℕ, Bool, true, List}
 use Rattle.std.specs.List.{list_any}
 use Rattle.ion_values.specs.declared.value.Key.{Key}

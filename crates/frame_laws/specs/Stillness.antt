@@ -50,9 +50,10 @@ is_met table items (Some r) = option_map_or (meets_one table items) (row_of tabl
 abbrev pub IsStill : TableId → List Item → ℕ → State → State → Type 0
 IsStill table items id before now =
     (latest_of now.revisions id ≡ latest_of before.revisions id)
-    ⊎ ((is_met table items (latest_of before.revisions id) ≡ false) × (is_met table items (latest_of now.revisions id) ≡ false))
+    ⊎ ((is_met table items (latest_of before.revisions id) ≡ false)
+    × (is_met table items (latest_of now.revisions id) ≡ false))
 
 abbrev pub DocumentsAreStill : Type 0
 DocumentsAreStill =
-    (blocks : List Block) (since : ℕ) (table : TableId) (items : List Item) (id : ℕ) → conflict blocks since items ≡ None
-    → IsStill table items id (state (take since blocks)) (state blocks)
+    (blocks : List Block) (since : ℕ) (table : TableId) (items : List Item) (id : ℕ)
+    → conflict blocks since items ≡ None → IsStill table items id (state (take since blocks)) (state blocks)

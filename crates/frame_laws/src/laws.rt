@@ -1,12 +1,13 @@
 ghost use Rattle.frame_laws.specs.Conflicts.{ConflictIsFirst};
 ghost use Rattle.frame_laws.specs.Covered.{FootprintCovers};
 ghost use Rattle.frame_laws.specs.Following.{FollowingTouches};
-ghost use Rattle.frame_laws.specs.Framed.{CoveredRowsAreFramed, MeaningIsKept, NameIsFramed, RowsAreFramed, StatementIsFramed, TransactionIsFramed};
+ghost use Rattle.frame_laws.specs.Framed.{CoveredRowsAreFramed, MeaningIsKept, NameIsFramed, RowsAreFramed};
+ghost use Rattle.frame_laws.specs.Framed.{SourceIsStill, StatementIsFramed, TransactionIsFramed};
 ghost use Rattle.frame_laws.specs.Naming.{NamedAreUnrevised};
 ghost use Rattle.frame_laws.specs.Journalled.{UndamagedFollow};
 ghost use Rattle.frame_laws.specs.Own.{OwnIsApart, StillnessOfOwn};
 ghost use Rattle.frame_laws.specs.Restriction.{FrameOfRows, Restriction};
-ghost use Rattle.frame_laws.specs.RunIsOwn.{RunIsKept, RunOwnsAll};
+ghost use Rattle.frame_laws.specs.RunIsOwn.{RunIsKept, RunIsSettled, RunOwnsAll};
 ghost use Rattle.frame_laws.specs.Stillness.{DocumentsAreStill, Stillness, StillnessWithPending};
 
 /// A conflict names the first block that touches something of the footprint, with the first such item;
@@ -76,14 +77,19 @@ pub fn name_is_framed()
     ensures { NameIsFramed }
 {}
 
-/// A FROM over user views and paths gives the same rows behind blocks that touch none of its tables' names and
+/// Blocks that touch neither the name of a source's table nor any of the items leave its rows that meet one of
+/// them as they are: of a user view, with what pends, of a committed view, and of a history.
+pub fn source_is_still()
+    ensures { SourceIsStill }
+{}
+
+/// A FROM gives the same rows behind blocks that touch none of its tables' names and
 /// no item of a list that covers its conditions.
 pub fn covered_rows_are_framed()
     ensures { CoveredRowsAreFramed }
 {}
 
-/// Blocks that touch nothing of what a FROM over user views and paths reads leave its rows as they are,
-/// and what it reads.
+/// Blocks that touch nothing of what a FROM reads leave its rows as they are, and what it reads.
 pub fn rows_are_framed()
     ensures { RowsAreFramed }
 {}
@@ -113,9 +119,16 @@ pub fn undamaged_follow()
     ensures { UndamagedFollow }
 {}
 
-/// The documents and tables that a run made have ids of its transaction's number.
+/// The tables that a run created have ids of its transaction's number, and so have the documents that pend,
+/// but for those of which the state has a revision.
 pub fn run_owns_all()
     ensures { RunOwnsAll }
+{}
+
+/// Blocks that touch nothing of a transaction's footprint have no revision of the documents that pend of it,
+/// where they follow one another and none of them is the transaction's.
+pub fn run_is_settled()
+    ensures { RunIsSettled }
 {}
 
 /// Blocks that touch nothing of a transaction's footprint leave what it comes to as it is, where they

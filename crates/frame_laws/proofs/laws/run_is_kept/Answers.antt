@@ -1,4 +1,4 @@
-use Rattle.frame_laws.proofs.RunsOwn.{run_is_kept}
+use Rattle.frame_laws.proofs.Settling.{run_is_kept}
 use Rattle.frame_laws.proofs.laws.run_is_kept.Goals as goal
 
 pub returns : goal.returns

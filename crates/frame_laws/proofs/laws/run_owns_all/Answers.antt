@@ -1,4 +1,4 @@
-use Rattle.frame_laws.proofs.RunsOwn.{run_owns_all}
+use Rattle.frame_laws.proofs.Settling.{run_owns_all}
 use Rattle.frame_laws.proofs.laws.run_owns_all.Goals as goal
 
 pub returns : goal.returns
