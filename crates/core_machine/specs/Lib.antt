@@ -1,0 +1,4 @@
+pub mod Machine
+pub mod Ranges
+pub mod History
+pub mod Entries
