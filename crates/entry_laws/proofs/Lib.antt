@@ -1,0 +1,25 @@
+pub mod Lists
+pub mod Reaches
+pub mod Makes
+pub mod Grown
+pub mod Tells
+pub mod Links
+pub mod Told
+pub mod Dealt
+pub mod Sealed
+pub mod Serial
+pub mod Owners
+pub mod Order
+pub mod Fitting
+pub mod Earlier
+pub mod Pairs
+pub mod Made
+pub mod NoConflicts
+pub mod InRows
+pub mod InOrder
+pub mod Implied
+pub mod Passes
+pub mod OneList
+pub mod Driving
+pub mod Steps
+mod RunRows

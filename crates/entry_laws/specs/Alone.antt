@@ -1,0 +1,106 @@
+-- Runs of one worker, or of one session: none of its transactions meets a conflict, and its numbers and blocks come in
+-- the script's order (the ledger's own).
+use Rattle.std.specs.Prelude.{◌≡◌, ℕ, ◌+◌, ◌-◌, ◌^◌, ◌≤◌, Bool, true, false, List, [], ◌∷◌, ◌++◌, length, slice_get, None, Some}
+use Rattle.std.specs.List.{AllByRecursion}
+use Rattle.ql_types.specs.Ids.{raw_id}
+use Rattle.ledger_model.specs.declared.outcome.Outcome.{Outcome}
+use Rattle.ledger_model.specs.declared.outcome.Outcome.TheVariants.{Committed, IdsSpent, OutOfMemory}
+use Rattle.ledger_model.specs.declared.outcome.PlacedOutcome.{PlacedOutcome}
+use Rattle.ledger_model.specs.Script.{Placed}
+use Rattle.session_driver.specs.Retries.{is_conflict}
+use Rattle.turn_lock.specs.declared.view.Known.{Known}
+use Rattle.turn_lock.specs.History.{Stands, placed}
+use Rattle.ledger_claims.specs.Fits.{RunRecord, Fits, HaveOneWorker, greatest, told_ids}
+use Rattle.core_machine.specs.Entries.{Entry, Opening}
+use Rattle.entry_laws.specs.Claims.{FitsInterleaved}
+use Rattle.entry_laws.specs.Runs.{AreWorkers, IsRunBy, Served, Works}
+
+-- ---- what one job after another meets
+
+-- one worker runs all jobs, as where there is one worker or one session
+abbrev pub HasOneWorker : RunRecord → Type 0
+HasOneWorker t =
+    AllByRecursion
+    (λ (p : Placed). AllByRecursion (λ (q : Placed). HaveOneWorker t.workers p.place.session q.place.session) t.jobs)
+    t.jobs
+
+-- no transaction met a conflict
+abbrev pub MeetsNoConflict : RunRecord → Type 0
+MeetsNoConflict t = AllByRecursion (λ (o : PlacedOutcome). is_conflict o.outcome ≡ false) t.outcomes
+
+-- where one worker runs all jobs, the claim itself leaves no room for a conflict
+abbrev pub NoneConflicts : Type 0
+NoneConflicts = (t : RunRecord) → HasOneWorker t → FitsInterleaved t → MeetsNoConflict t
+
+-- ---- one job after another without a lock
+
+-- no job sends a digest
+abbrev pub SendsNone : RunRecord → Type 0
+SendsNone t = AllByRecursion (λ (p : Placed). p.job.digest ≡ None) t.jobs
+
+-- what is claimed of a run that takes its jobs one after another gives what is claimed of any run
+abbrev pub EarlierFit : Type 0
+EarlierFit = (t : RunRecord) → SendsNone t → Fits t → FitsInterleaved t
+
+-- ---- numbers and blocks in the script's order
+
+-- each of these ids is that of the number behind the one before
+abbrev pub AreNext : ℕ → ℕ → List ℕ → Type 0
+AreNext mask last [] = Unit {0}
+AreNext mask last (raw ∷ raws) = (raw ≡ raw_id mask (last + 1) 0) × AreNext mask (last + 1) raws
+
+-- the blocks that outcomes tell, in order
+abbrev pub told_block : Outcome → List ℕ
+told_block (Committed tx block) = block ∷ []
+told_block other = []
+
+abbrev pub told_blocks : List PlacedOutcome → List ℕ
+told_blocks [] = []
+told_blocks (o ∷ os) = told_block o.outcome ++ told_blocks os
+
+-- each of these numbers is the one behind the one before
+abbrev pub InRow : ℕ → List ℕ → Type 0
+InRow n [] = Unit {0}
+InRow n (x ∷ xs) = (x ≡ n) × InRow (n + 1) xs
+
+abbrev pub is_spent : Outcome → Bool
+is_spent (IdsSpent last) = true
+is_spent other = false
+
+-- where no number is left, the journal and the jobs in front, of which each one uses at most one, have used all
+abbrev pub EachSpent : RunRecord → ℕ → List PlacedOutcome → Type 0
+EachSpent t n [] = Unit {0}
+EachSpent t n (o ∷ os) =
+    (is_spent o.outcome ≡ true → 2 ^ 64 - 1 ≤ greatest t.mask t.before + n) × EachSpent t (n + 1) os
+
+-- No transaction meets a conflict. Where none wants memory, the numbers follow one another from the journal's greatest
+-- on. The blocks that were made are the committed jobs in the script's order.
+pub record RunsInOrder (t : RunRecord) : Type 0 where
+  pub calm : MeetsNoConflict t
+  pub numbers : AllByRecursion (λ (o : PlacedOutcome). o.outcome ≡ OutOfMemory → ⊥) t.outcomes
+      → AreNext t.mask (greatest t.mask t.before) (told_ids t.outcomes)
+  pub blocks : InRow (length t.before) (told_blocks t.outcomes)
+  pub all_told : length t.before + length (told_blocks t.outcomes) ≡ length t.after
+  pub spent : EachSpent t 0 t.outcomes
+
+-- a run by one worker runs so
+abbrev pub OneWorkerInOrder : Type 0
+OneWorkerInOrder =
+    (t : RunRecord) (ss : List Served) (entries : List Entry) (pass_of : ℕ → Known Entry)
+    → IsRunBy t ss entries pass_of → t.workers ≡ 1 → RunsInOrder t
+
+-- and what was claimed of runs that take their jobs one after another is claimed of it
+abbrev pub EarlierMet : Type 0
+EarlierMet = (t : RunRecord) → SendsNone t → FitsInterleaved t → RunsInOrder t → Fits t
+
+-- ---- one list of entries and no lock
+
+-- each entry that it has seen is its own
+abbrev pub OwnsAll : Known Entry → Type 0
+OwnsAll k = (i : ℕ) (e : Entry) → slice_get k.seen i ≡ Some e → Stands (placed i e) k.own
+
+-- a worker that runs all jobs with a list of its own is the one worker of a run
+abbrev pub OneListWorks : Type 0
+OneListWorks =
+    (o : Opening) (ss : List Served) (start now : Known Entry)
+    → start.own ≡ [] → Works o ss start now → OwnsAll now → AreWorkers o 1 ss now.seen (λ rest. now)

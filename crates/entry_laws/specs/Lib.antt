@@ -1,0 +1,7 @@
+pub mod Seen
+pub mod Attempts
+pub mod Claims
+pub mod Runs
+pub mod Alone
+pub mod Passes
+pub mod Steps
