@@ -5,6 +5,7 @@ mod laws;
 mod stream;
 mod writing;
 
+pub use ion_values::{IonFault, IonKind};
 pub use laws::{read_is_within, written_is_read};
 pub use stream::{ReadFault, read_stream};
 pub use writing::write;

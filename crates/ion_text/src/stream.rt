@@ -14,12 +14,15 @@ use ion_values::{IonFault, IonKind, OutOfMemory, Values};
 use reader::{Reader, Refused};
 use std::alloc::Global;
 use std::str;
+use thiserror::Error;
 
 /// Why no values are read.
-#[derive(Clone, Copy, Debug, PartialEq, Eq)]
+#[derive(Clone, Copy, Debug, PartialEq, Eq, Error)]
 pub enum ReadFault {
     /// The text is refused.
+    #[error("the text is refused: {0:?}")]
     Ion(IonFault),
+    #[error("out of memory")]
     OutOfMemory,
 }
 

@@ -11,12 +11,15 @@ use crate::registry::Registry;
 use ion_values::OutOfMemory;
 use ledger_model::{Block, Blocks, Damage};
 use std::alloc::Global;
+use thiserror::Error;
 
 /// Why no journal is read.
-#[derive(Clone, Copy, Debug, PartialEq, Eq)]
+#[derive(Clone, Copy, Debug, PartialEq, Eq, Error)]
 pub enum JournalFault {
     /// The first damaged line, counted from 0, and the check that it fails first.
+    #[error("line {sequence} is damaged: {kind:?}")]
     Damaged { sequence: u64, kind: Damage },
+    #[error("out of memory")]
     OutOfMemory,
 }
 

@@ -17,3 +17,4 @@ mod words;
 pub use evaluation::{eval, eval_source_path};
 pub use made::is_unknown;
 pub use operators::operate;
+pub use pql_model::Evaluated;
