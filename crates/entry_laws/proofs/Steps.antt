@@ -102,7 +102,8 @@ module _ (o : Opening) (job : Job) (place : Place) (k : Known Entry) (tx : TxId)
   -- behind the checks
   module _ (digest : SendsOwn job tx) where
     made : ending m c t t.done ≡ seals (own_block m t c r.progress)
-        → IsMadeOf (begun_as o begun.number) (blocks_in o front) place c.time job.statements (own_block m t c r.progress)
+        → IsMadeOf (begun_as o begun.number) (blocks_in o front) place c.time job.statements
+        (own_block m t c r.progress)
     made is =
         let b : IsMadeOf (record { mask = m.mask; number = t.number }) m.blocks t.place c.time t.asked
         (own_block m t c r.progress) =
