@@ -1,0 +1,5 @@
+pub mod Counts
+pub mod Cuts
+pub mod InRows
+pub mod Kept
+pub mod Spans

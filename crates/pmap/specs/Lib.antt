@@ -1,0 +1,5 @@
+pub mod KeyOrder
+pub mod Keys
+pub mod Levels
+pub mod Pairs
+pub mod Ranges

@@ -1,0 +1,9 @@
+//! Tests of persistent maps, and of postings over them.
+#![tactic(auto)]
+
+#[cfg(test)]
+mod keys;
+#[cfg(test)]
+mod maps;
+#[cfg(test)]
+mod postings;
