@@ -1,0 +1,5 @@
+pub mod Entering
+pub mod Lookups
+pub mod Mapped
+pub mod Newest
+pub mod Places

@@ -1,0 +1,5 @@
+pub mod Held
+pub mod Histories
+pub mod Lookups
+pub mod Newest
+pub mod Places

@@ -1,0 +1,15 @@
+//! What a list of blocks stands for: its revisions, its tables and its indexes, as one version that is never changed. A
+//! version with one block more is a new one, which shares with the earlier one what they have in common.
+#![tactic(auto)]
+
+mod histories;
+mod kept;
+mod latest;
+mod recorded;
+mod shelf;
+mod tables;
+mod versions;
+
+pub use recorded::{Recorded, copy_content};
+pub use tables::{Indexed, Table, active_count, active_table, change_all, copy_tables};
+pub use versions::Versions;

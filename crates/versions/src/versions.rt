@@ -1,0 +1,181 @@
+//! A version of the state after a list of blocks.
+ghost use Rattle.std.specs.Prelude.{◌≡◌, map, option_map, slice_get, IfOk};
+ghost use Rattle.std.specs.Option.{option_copied};
+ghost use Rattle.ledger_model.specs.Follows.{has_index, latest_of};
+ghost use Rattle.ledger_model.specs.Run.{active_count};
+ghost use Rattle.ledger_model.specs.State.{active_table, after, draft_of, empty};
+ghost use Rattle.ledger_model.specs.Views.{latest};
+ghost use Rattle.versions.specs.Held.{drafts_lent, table_of};
+ghost use Rattle.versions.specs.Histories.{revisions_of};
+ghost use Rattle.versions.specs.Lookups.{documents_of, index_count, name_of};
+
+use crate::kept::Kept;
+use crate::recorded::{Recorded, ids_among};
+use crate::shelf::Shelf;
+use crate::tables::{
+    Indexed, Table, active_count, active_table, has_index, index_count, indexes_after, name_of,
+    tables_after,
+};
+use ion_values::{OutOfMemory, Text};
+use ledger_model::{Block, Revision};
+use lists::Sequence;
+use pql_model::DocIds;
+use ql_types::{DocId, TableId};
+use std::alloc::Global;
+use std::marker::Model;
+
+/// The state after a list of blocks, which contracts see as the state. It is never changed.
+#[derive(Drop)]
+pub struct Versions {
+    alloc: Global,
+    tables: Kept<Table>,
+    indexes: Kept<Indexed>,
+    shelf: Shelf,
+}
+
+impl Model for Versions {
+    ghost use Rattle.std.specs.Prelude.{map};
+    ghost use Rattle.ledger_model.specs.State.{State};
+    ghost use Rattle.versions.specs.Held.{indexed_of, recorded_of, state_code, table_of};
+
+    ghost Value = { State };
+
+    ghost coded = { state_code };
+
+    ghost view = { λ v. record {
+      revisions = map recorded_of v.shelf;
+      tables = map table_of v.tables;
+      indexes = map indexed_of v.indexes;
+    } };
+}
+
+impl Versions {
+    /// The state before the first block. It takes no memory.
+    pub fn empty(alloc: Global) -> Versions
+        ensures { result ≡ empty }
+    {
+        Versions {
+            alloc,
+            tables: Kept::new(),
+            indexes: Kept::new(),
+            shelf: Shelf::new(alloc),
+        }
+    }
+
+    /// The state after one block more, as a new version. The block's revisions are copied; all others are shared, but for
+    /// some hundred pointers a revision and, over many blocks, the square root of the number of documents. Tables and indexes are
+    /// copied where the block changes the schema.
+    pub fn after(&self, block: &Block) -> Result<Versions, OutOfMemory>
+        ensures { IfOk result (λ v. v ≡ after self.now block.now) }
+    {
+        let changes = block.info.schema.as_slice();
+        Ok(Versions {
+            alloc: self.alloc,
+            tables: tables_after(self.alloc, &self.tables, changes)?,
+            indexes: indexes_after(self.alloc, &self.indexes, changes)?,
+            shelf: self
+                .shelf
+                .with_all(block.info.tables.as_slice(), block.revisions.as_slice())?,
+        })
+    }
+
+    /// The same version once more. One more owner of it may be refused.
+    pub fn share(&self) -> Result<Versions, OutOfMemory>
+        ensures { IfOk result (λ v. v ≡ self.now) }
+    {
+        Ok(Versions {
+            alloc: self.alloc,
+            tables: self.tables.share()?,
+            indexes: self.indexes.share()?,
+            shelf: self.shelf.share()?,
+        })
+    }
+
+    /// All tables in the order in which they were made.
+    pub fn tables(&self) -> &[Table]
+        ensures { map table_of result.now ≡ self.now.tables }
+    {
+        self.tables.as_slice()
+    }
+
+    /// The active table of a name, or None where no active table has it.
+    pub fn table(&self, name: &Text) -> Option<TableId>
+        ensures { result ≡ active_table self.now.tables name.now }
+    {
+        active_table(self.tables(), name.as_str())
+    }
+
+    /// The name with which the table of this id was made, whether or not it is still active, or None where no table has the id.
+    pub fn name(&self, table: TableId) -> Option<&Text>
+        ensures { option_copied result ≡ name_of self.now.tables table }
+    {
+        name_of(self.tables(), table)
+    }
+
+    /// How many tables are active.
+    pub fn active(&self) -> u64
+        ensures { result ≡ active_count self.now.tables }
+    {
+        active_count(self.tables())
+    }
+
+    /// How many fields of the table have an index.
+    pub fn indexes(&self, table: TableId) -> u64
+        ensures { result ≡ index_count self.now.indexes table }
+    {
+        index_count(self.indexes.as_slice(), table)
+    }
+
+    /// Whether the field of the table has an index.
+    pub fn has_index(&self, table: TableId, field: &Text) -> bool
+        ensures { result ≡ has_index self.now.indexes table field.now }
+    {
+        has_index(self.indexes.as_slice(), table, field.as_str())
+    }
+
+    /// The latest revision of a document, also the one that deletes it, or None where no revision has the id.
+    pub fn latest(&self, id: DocId) -> Option<&Revision>
+        ensures { option_copied result ≡ option_map (λ r. r.revision) (latest_of self.now.revisions id.raw) }
+    {
+        match self.shelf.last_of(id) {
+            Some(recorded) => Some(&recorded.revision),
+            None => None,
+        }
+    }
+
+    /// The document's revision of this version, or None where there is none. A document's versions count its revisions from 0,
+    /// where blocks follow one another.
+    pub fn revision(&self, id: DocId, version: u64) -> Option<&Revision>
+        ensures { option_copied result ≡ option_map (λ r. r.revision) (slice_get (revisions_of self.now.revisions id.raw) version) }
+    {
+        match self.shelf.revision(id, version) {
+            Some(recorded) => Some(&recorded.revision),
+            None => None,
+        }
+    }
+
+    /// The document's table, or None where no revision has the id.
+    pub fn table_of(&self, id: DocId) -> Option<TableId>
+        ensures { result ≡ option_map (λ r. r.table) (latest_of self.now.revisions id.raw) }
+    {
+        match self.shelf.last_of(id) {
+            Some(recorded) => Some(recorded.table),
+            None => None,
+        }
+    }
+
+    /// The ids of the table's documents that aren't deleted, in order of first insertion.
+    pub fn documents(&self, table: TableId) -> Result<DocIds, OutOfMemory>
+        ensures { IfOk result (λ ids. ids ≡ documents_of self.now.revisions table) }
+    {
+        let newest = self.newest(self.alloc)?;
+        ids_among(self.alloc, newest.as_slice(), table)
+    }
+
+    /// The latest revision of each document, with its table, in order of first insertion. They are lent.
+    pub fn newest(&self, alloc: Global) -> Result<Sequence<&Recorded>, OutOfMemory>
+        ensures { IfOk result (λ all. drafts_lent all ≡ latest (map draft_of self.now.revisions)) }
+    {
+        self.shelf.newest(alloc)
+    }
+}
