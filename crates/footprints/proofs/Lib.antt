@@ -1,0 +1,3 @@
+mod Indexes
+pub mod Naming
+mod Resolving

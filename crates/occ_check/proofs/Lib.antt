@@ -1,0 +1,4 @@
+mod Ids
+mod Names
+pub mod Standing
+mod Versioned
