@@ -1,4 +1,3 @@
-mod Days
 mod Digits
 mod SerializeRows
 mod UtcDates

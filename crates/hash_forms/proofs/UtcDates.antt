@@ -5,10 +5,11 @@ use Rattle.std.proofs.lemmas.Bool.Decides.{nat_tests}
 use borrow.Author.Differences.{up, down, lt-true, lt-false}
 use Rattle.jiff_core.proofs.SignedLemmas.{signed_arith}
 use Rattle.ion_values.specs.declared.time.TimeParts.{TimeParts}
+use Rattle.ion_values.specs.Dates.{Date, day_number, day_after, day_before, IsDay}
 use Rattle.ion_values.specs.Time.{is_time, is_date, is_clock, is_offset, is_fraction, ends_at, is_in_years, utc_minutes}
-use Rattle.hash_forms.proofs.Days.{both_true, days_are_numbered}
-use Rattle.hash_forms.specs.Laws.{day_number, IsDay, UtcDatesTellInstants}
-use Rattle.hash_forms.specs.Timestamps.{Date, day_after, day_before, local_date, minutes_from_local_date}
+use Rattle.ion_values.proofs.Days.{both_true, days_are_numbered}
+use Rattle.hash_forms.specs.Laws.{UtcDatesTellInstants}
+use Rattle.hash_forms.specs.Timestamps.{local_date, minutes_from_local_date}
 
 lt_is : (a b : ℕ) → nat_lt a b ≡ true → a < b
 lt_is a b h = grind (arith, nat_tests)

@@ -1,10 +1,10 @@
 -- What holds of the digits of numbers, and of the dates in timestamps' bytes.
-use Rattle.std.specs.Prelude.{ℕ, ◌+◌, ◌-◌, ◌*◌, ◌<◌, ◌≤◌, ◌≡◌, ◌⊎◌, List, [], ◌∷◌, ℤ, pos, ◌+ℤ◌, ◌*ℤ◌, All, IsTrue, fold, ⊤}
-use Rattle.jiff_core.specs.Calendar.{days_from_civil}
+use Rattle.std.specs.Prelude.{ℕ, ◌+◌, ◌-◌, ◌*◌, ◌<◌, ◌≤◌, ◌≡◌, ◌⊎◌, List, [], ◌∷◌, ℤ, pos, ◌+ℤ◌, ◌*ℤ◌, All, fold, ⊤}
 use Rattle.ion_values.specs.declared.time.TimeParts.{TimeParts}
-use Rattle.ion_values.specs.Time.{IsTime, is_date, utc_minutes}
+use Rattle.ion_values.specs.Dates.{day_number}
+use Rattle.ion_values.specs.Time.{IsTime, utc_minutes}
 use Rattle.hash_forms.specs.Numbers.{digits_of}
-use Rattle.hash_forms.specs.Timestamps.{Date, day_after, day_before, utc_clock, utc_date}
+use Rattle.hash_forms.specs.Timestamps.{utc_clock, utc_date}
 
 -- ---- digits
 
@@ -31,19 +31,6 @@ DigitsTellNumbers =
     (base limit mark number : ℕ) → 1 < base → 0 < limit → limit ≤ base → TellNumber base limit mark number (digits_of base limit mark number)
 
 -- ---- dates
-
--- the number of a day, 0 being 1 January 1970
-abbrev pub day_number : Date → ℤ
-day_number d = days_from_civil (pos d.year) d.month d.day
-
--- the calendar has the day, in the years 0001 to 9999
-abbrev pub IsDay : Date → Type 0
-IsDay d = IsTrue (is_date d.year d.month d.day)
-
--- the day after a day has the next number, and the day before it the one before
-abbrev pub DaysAreNumbered : Type 0
-DaysAreNumbered =
-    (d : Date) → IsDay d → (day_number (day_after d) ≡ day_number d +ℤ pos 1) × (day_number (day_before d) +ℤ pos 1 ≡ day_number d)
 
 -- the date and the clock in UTC give the minutes of the instant, and the clock is less than a day
 abbrev pub UtcDatesTellInstants : Type 0

@@ -1,30 +1,12 @@
 -- A timestamp as the Ion Hash specification has it: the fields of the Ion 1.0 binary encoding ("6: Timestamp"), of
--- which all but the offset are in UTC. The calendar is that of ISO 8601, the Gregorian one.
-use Rattle.std.specs.Prelude.{ℕ, ◌+◌, ◌-◌, ◌*◌, ◌/◌, ◌%◌, ◌^◌, ◌==◌, nat_lt, true, false, List, [], ◌++◌, ℤ, pos, ◌+ℤ◌, ◌-ℤ◌, int_lt, unsigned_abs, Option, Some, None, if◌then◌else◌}
+-- which all but the offset are in UTC.
+use Rattle.std.specs.Prelude.{ℕ, ◌+◌, ◌-◌, ◌*◌, ◌/◌, ◌%◌, ◌^◌, ◌==◌, true, false, List, [], ◌++◌, ℤ, pos, ◌+ℤ◌, ◌-ℤ◌, int_lt, unsigned_abs, Option, Some, None, if◌then◌else◌}
 use Rattle.std.specs.Option.{unwrap_or}
-use Rattle.jiff_core.specs.Calendar.{days_in_month}
 use Rattle.ion_values.specs.declared.time.TimeParts.{TimeParts}
 use Rattle.ion_values.specs.declared.time.Precision.{Precision}
 use Rattle.ion_values.specs.declared.time.Precision.TheVariants.{Year, Month, Day, Minute, Second}
+use Rattle.ion_values.specs.Dates.{Date, day_after, day_before}
 use Rattle.hash_forms.specs.Numbers.{int_field, is_below_zero, var_int, var_uint}
-
-pub record Date : Type 0 where
-  pub year : ℕ
-  pub month : ℕ
-  pub day : ℕ
-
-abbrev pub day_after : Date → Date
-day_after d =
-    if nat_lt d.day (days_in_month (pos d.year) d.month) then record { year = d.year; month = d.month; day = d.day + 1 }
-    else (if nat_lt d.month 12 then record { year = d.year; month = d.month + 1; day = 1 }
-    else record { year = d.year + 1; month = 1; day = 1 })
-
-abbrev pub day_before : Date → Date
-day_before d =
-    if nat_lt 1 d.day then record { year = d.year; month = d.month; day = d.day - 1 }
-    else (if nat_lt 1 d.month
-    then record { year = d.year; month = d.month - 1; day = days_in_month (pos d.year) (d.month - 1) }
-    else record { year = d.year - 1; month = 12; day = 31 })
 
 -- the minutes from the beginning of the local date to the moment, as UTC counts them; the unknown offset is UTC
 abbrev pub minutes_from_local_date : TimeParts → ℤ

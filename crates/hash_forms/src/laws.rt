@@ -1,14 +1,9 @@
-ghost use Rattle.hash_forms.specs.Laws.{DaysAreNumbered, DigitsTellNumbers, UtcDatesTellInstants};
+ghost use Rattle.hash_forms.specs.Laws.{DigitsTellNumbers, UtcDatesTellInstants};
 
 /// The digits of a number in a base, with the mark taken off the first, stand for the number, in the
 /// shortest form whose first digit is below the limit.
 pub fn digits_tell_numbers()
     ensures { DigitsTellNumbers }
-{}
-
-/// The day after a day has the next number, and the day before it the one before.
-pub fn days_are_numbered()
-    ensures { DaysAreNumbered }
 {}
 
 /// The date and the clock in UTC that stand in the bytes of a timestamp are those of its instant.

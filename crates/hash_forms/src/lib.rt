@@ -4,4 +4,4 @@
 
 mod laws;
 
-pub use laws::{days_are_numbered, digits_tell_numbers, utc_dates_tell_instants};
+pub use laws::{digits_tell_numbers, utc_dates_tell_instants};

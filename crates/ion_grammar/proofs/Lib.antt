@@ -3,3 +3,4 @@ pub mod Lengths
 mod NumberRows
 mod ReadRows
 mod TextRows
+mod TextsUtf8

@@ -1,5 +1,6 @@
 pub mod Blanks
 pub mod Escapes
+pub mod Laws
 pub mod Lex
 pub mod Lobs
 pub mod Numbers

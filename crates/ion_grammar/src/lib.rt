@@ -2,7 +2,10 @@
 //! reader's contracts cite them.
 #![tactic(auto)]
 
+mod laws;
+
 use ion_values::{Bytes, Decimal, Fields, IonKind, IonTime, Kind, Names, Text, Values};
+pub use laws::texts_are_utf8;
 
 /// A token of Ion text.
 #[derive(Drop)]

@@ -1,5 +1,5 @@
 -- A day of the code as a date of the calendar.
-use Rattle.hash_forms.specs.Timestamps.{Date}
+use Rattle.ion_values.specs.Dates.{Date}
 use Rattle.ion_hash.specs.declared.timestamps.Day.{Day}
 
 abbrev pub date_of : Day → Date

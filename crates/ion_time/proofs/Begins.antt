@@ -6,7 +6,8 @@ use Rattle.jiff_core.proofs.CalendarLemmas.{days_from_civil-day_count, day_count
 use Rattle.jiff_core.proofs.SignedLemmas.{signed_arith}
 use Rattle.ion_values.proofs.Years.{first_day, day_after_last}
 use Rattle.ion_values.specs.Time.{is_date, is_clock, is_fraction, is_in_years, is_time, utc_minutes}
-use Rattle.ion_time.specs.Millis.{BeginsAt, time_of_day}
+use Rattle.ion_time.specs.DayTimes.{time_of_day}
+use Rattle.ion_time.specs.Millis.{BeginsAt}
 use Rattle.ion_time.proofs.Bounds.{both, le_yes, lt_yes}
 
 before_first_year : (y : ℤ) (m d : ℕ) → IsCivilDate y m d → y <ℤ pos 1 → neg_ℤ (pos 719_162) ≤ℤ days_from_civil y m d → ⊥

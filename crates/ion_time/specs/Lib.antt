@@ -1,2 +1,3 @@
+pub mod DayTimes
 pub mod Millis
 pub mod Laws

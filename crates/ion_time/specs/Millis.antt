@@ -1,5 +1,5 @@
 -- Milliseconds since 1970 in UTC, and the timestamps that begin at them (Ion 1.0, "Timestamps").
-use Rattle.std.specs.Prelude.{◌≡◌, ℕ, ◌*◌, ◌/◌, ◌%◌, ℤ, pos, ◌-ℤ◌, ◌*ℤ◌, int_lt, int_le, Bool, ◌&&◌, IsTrue, Some, if◌then◌else◌}
+use Rattle.std.specs.Prelude.{◌≡◌, ℕ, ℤ, pos, ◌-ℤ◌, ◌*ℤ◌, int_lt, int_le, Bool, ◌&&◌, IsTrue, Some, if◌then◌else◌}
 use Rattle.ion_values.specs.declared.time.TimeParts.{TimeParts}
 use Rattle.ion_values.specs.declared.time.Precision.TheVariants.{Second}
 use Rattle.ion_values.specs.Time.{IsTime, instant_of, start_of}
@@ -28,18 +28,3 @@ abbrev pub nearest : ℤ → ℤ
 nearest ms =
     if int_lt ms (first_milli 1) then first_milli 1
     else (if int_le (first_milli 10_000) ms then first_milli 10_000 -ℤ pos 1 else ms)
-
--- the timestamp on a date in UTC, so many milliseconds behind its beginning
-abbrev pub time_of_day : ℕ → ℕ → ℕ → ℕ → TimeParts
-time_of_day year month day millis = record {
-  precision = Second;
-  year = year;
-  month = month;
-  day = day;
-  hour = millis / 3_600_000;
-  minute = millis / 60_000 % 60;
-  second = millis / 1_000 % 60;
-  digits = 3;
-  nanos = millis % 1_000 * 1_000_000;
-  offset = Some (pos 0);
-}

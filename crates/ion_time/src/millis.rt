@@ -3,7 +3,8 @@ ghost use Rattle.std.specs.Prelude.{◌≡◌, ◌<◌, ◌↔◌, ◌≤ℤ◌,
 ghost use Rattle.std.specs.Int.{int_div_euclid, int_rem_euclid};
 ghost use Rattle.jiff_core.specs.Calendar.{days_from_civil};
 ghost use Rattle.ion_values.specs.Time.{IsTime};
-ghost use Rattle.ion_time.specs.Millis.{BeginsAt, IsWithinYears, is_within_years, nearest, time_of_day};
+ghost use Rattle.ion_time.specs.DayTimes.{time_of_day};
+ghost use Rattle.ion_time.specs.Millis.{BeginsAt, IsWithinYears, is_within_years, nearest};
 
 use ion_values::{IonTime, Precision, TimeParts};
 use jiff_core::civil::Date;

@@ -1,4 +1,5 @@
 pub mod Counts
+pub mod Days
 pub mod Induction
 pub mod Matching
 pub mod Relation

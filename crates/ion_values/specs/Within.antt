@@ -7,8 +7,9 @@ use Rattle.ion_values.specs.Decimal.{DecimalParts}
 use Rattle.ion_values.specs.Time.{is_time}
 use Rattle.ion_values.specs.declared.value.Value.{Value}
 use Rattle.ion_values.specs.declared.value.Field.{Field}
+use Rattle.ion_values.specs.declared.value.Body.{Body}
 use Rattle.ion_values.specs.declared.value.Body.TheOpen.{Body-F, Field-F, Value-F}
-use Rattle.ion_values.specs.declared.value.Body.TheFolds.{fold-Value, fold-Field}
+use Rattle.ion_values.specs.declared.value.Body.TheFolds.{fold-Value, fold-Field, fold-Body}
 
 -- from -2^127 to 2^127 - 1
 abbrev pub int_within : ℤ → Bool
@@ -63,3 +64,6 @@ within = fold-Value Bool Bool Bool body_step field_step value_step
 
 abbrev pub field_within : Field → Bool
 field_within = fold-Field Bool Bool Bool body_step field_step value_step
+
+abbrev pub body_within : Body → Bool
+body_within = fold-Body Bool Bool Bool body_step field_step value_step

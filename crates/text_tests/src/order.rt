@@ -12,6 +12,11 @@ const KINDS: &str = r#"
 (0 null.int) (1 true) (2 5) (2 5d0) (3 2000T) (4 a) (4 "a") (5 {{"a"}}) (6 {{YQ==}}) (0 []) (0 ()) (0 {})
 "#;
 
+// Values in the order of their keys: by kind, and numbers by coefficient and then by exponent.
+const KEPT: &str = r#"
+false true -3 5 50 7d-1 a "b" 1999T 2000T {{"a"}} {{"b"}} {{YQ==}}
+"#;
+
 const ORDER: &str = r#"
 (10d-1 = 100d-2)
 (1d0 = 10d-1)
@@ -106,31 +111,10 @@ const RESULTS: &str = "
 (170141183460469231731687303715884105727d0 * 2d0 = null)
 ";
 
-fn is_same_key(a: &Key, b: &Key) -> bool {
-    match (a, b) {
-        (Key::Bool(a), Key::Bool(b)) => a == b,
-        (
-            Key::Number {
-                coefficient: a,
-                exponent: b,
-            },
-            Key::Number {
-                coefficient: c,
-                exponent: d,
-            },
-        ) => a == c && b == d,
-        (Key::Text(a), Key::Text(b)) => a.as_str() == b.as_str(),
-        (Key::Moment(a), Key::Moment(b)) => a == b,
-        (Key::Clob(a), Key::Clob(b)) => a.as_slice() == b.as_slice(),
-        (Key::Blob(a), Key::Blob(b)) => a.as_slice() == b.as_slice(),
-        _ => false,
-    }
-}
-
 /// Whether two values have keys, and one key.
 fn have_one_key(alloc: Global, a: &Value, b: &Value) -> Option<bool> {
     match (key(alloc, a).ok()?, key(alloc, b).ok()?) {
-        (Some(a), Some(b)) => Some(is_same_key(&a, &b)),
+        (Some(a), Some(b)) => Some(a == b),
         _ => Some(false),
     }
 }
@@ -238,6 +222,27 @@ fn keys_of_numbers_end_in_no_zero(rt: HostRuntime) -> Result<(), Fail> {
         assert_eq!(rt; has_number_key(rt.alloc(), row), Some(true), "row {at}");
     }
     assert_eq!(rt; rows.len(), 8);
+    Ok(())
+}
+
+/// Whether the keys of two values are in the order of their places, and a key equals its copy.
+fn are_kept_so(alloc: Global, a: &Value, b: &Value, places: Ordering) -> Option<bool> {
+    let a = key(alloc, a).ok()??;
+    let b = key(alloc, b).ok()??;
+    let again = a.copy(alloc).ok()?;
+    Some(a.cmp(&b) == places && a == again)
+}
+
+#[test]
+fn keys_are_kept_in_one_order(rt: HostRuntime) -> Result<(), Fail> {
+    let values = read(rt.alloc(), KEPT).ok_or("no values")?;
+    for (at, a) in values.as_slice().iter().enumerate() {
+        for (place, b) in values.as_slice().iter().enumerate() {
+            let holds = are_kept_so(rt.alloc(), a, b, at.cmp(&place));
+            assert_eq!(rt; holds, Some(true), "values {at} and {place}");
+        }
+    }
+    assert_eq!(rt; values.len(), 13);
     Ok(())
 }
 

@@ -5,8 +5,7 @@ use Rattle.std.proofs.lemmas.Bool.Decides.{nat_tests}
 use Rattle.jiff_core.specs.Calendar.{days_from_civil, days_in_month}
 use Rattle.jiff_core.proofs.DateLemmas.{days_from_civil-day, days_from_civil-next_month, days_from_civil-next_year}
 use Rattle.jiff_core.proofs.SignedLemmas.{signed_arith}
-use Rattle.hash_forms.specs.Laws.{day_number, DaysAreNumbered}
-use Rattle.hash_forms.specs.Timestamps.{Date}
+use Rattle.ion_values.specs.Dates.{Date, day_number, DaysAreNumbered}
 use Rattle.ion_values.specs.Time.{is_date}
 
 pub both_true : (a b : Bool) → (a && b) ≡ true → (a ≡ true) × (b ≡ true)
