@@ -1,3 +1,4 @@
+pub mod Contexts
 pub mod Edits
 pub mod OneRoot
 pub mod Touched

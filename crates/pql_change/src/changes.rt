@@ -2,9 +2,11 @@
 ghost use Rattle.std.specs.Prelude.{◌≡◌, map, IfOk};
 ghost use Rattle.std.specs.Option.{option_map};
 ghost use Rattle.pql_model.specs.Changes as spec;
-ghost use Rattle.pql_model.specs.Meaning.{meaning, under};
+ghost use Rattle.pql_model.specs.Meaning.{meaning};
+ghost use Rattle.pql_change.specs.Contexts.{context_of};
 
 use crate::along::changed;
+use crate::context::Context;
 use crate::edits::Edit;
 use crate::selectors::selectors;
 use ion_values::{Value, copy};
@@ -15,94 +17,89 @@ use std::alloc::Global;
 
 /// The document after one path of a SET, which the value's expression and the path's indexes read
 /// from the row.
-pub fn set(
-    alloc: Global,
-    document: Value,
-    setting: &Setting,
-    scope: &Scope,
-    params: &[Value],
-) -> Result<Value, OutOfMemory>
+pub fn set(context: &Context<'_>, document: Value, setting: &Setting) -> Result<Value, OutOfMemory>
     ensures { IfOk result
-        (λ new. new ≡ spec.set_by (under scope.now params.now) setting.now.target setting.now.value document) }
+        (λ new. new ≡ spec.set_by (context_of context.now) setting.now.target setting.now.value document) }
 {
-    let Evaluated::Found(new) = eval(alloc, &setting.value, scope, params)? else {
+    let Evaluated::Found(new) = eval(context.alloc, &setting.value, context.scope, context.params)?
+    else {
         return Ok(document);
     };
-    let mut path = selectors(alloc, &setting.target, scope, params)?;
+    let mut path = selectors(context, &setting.target)?;
     match path.pop() {
-        Some(member) => changed(alloc, document, path.as_slice(), Edit::Set { member, new }),
+        Some(member) => changed(
+            context.alloc,
+            document,
+            path.as_slice(),
+            Edit::Set { member, new },
+        ),
         None => Ok(document),
     }
 }
 
-fn place(
-    alloc: Global,
-    at: &Option<Expr>,
-    scope: &Scope,
-    params: &[Value],
-) -> Result<Option<Evaluated>, OutOfMemory>
-    ensures { IfOk result (λ place. place ≡ option_map (λ e. meaning e (under scope.now params.now)) at.now) }
+fn place(context: &Context<'_>, at: &Option<Expr>) -> Result<Option<Evaluated>, OutOfMemory>
+    ensures { IfOk result (λ place. place ≡ option_map (λ e. meaning e (context_of context.now)) at.now) }
 {
     match at {
-        Some(e) => Ok(Some(eval(alloc, e, scope, params)?)),
+        Some(e) => Ok(Some(eval(context.alloc, e, context.scope, context.params)?)),
         None => Ok(None),
     }
 }
 
 /// The document after an INSERT.
 pub fn insert(
-    alloc: Global,
+    context: &Context<'_>,
     document: Value,
     target: &Path,
     value: &Expr,
     at: &Option<Expr>,
-    scope: &Scope,
-    params: &[Value],
 ) -> Result<Value, OutOfMemory>
     ensures { IfOk result
-        (λ new. new ≡ spec.insert_by (under scope.now params.now) target.now value.now at.now document) }
+        (λ new. new ≡ spec.insert_by (context_of context.now) target.now value.now at.now document) }
 {
-    let Evaluated::Found(new) = eval(alloc, value, scope, params)? else {
+    let Evaluated::Found(new) = eval(context.alloc, value, context.scope, context.params)? else {
         return Ok(document);
     };
-    let at = place(alloc, at, scope, params)?;
-    let path = selectors(alloc, target, scope, params)?;
+    let at = place(context, at)?;
+    let path = selectors(context, target)?;
     if path.is_empty() {
         return Ok(document);
     }
-    changed(alloc, document, path.as_slice(), Edit::Put { at, new })
+    changed(
+        context.alloc,
+        document,
+        path.as_slice(),
+        Edit::Put { at, new },
+    )
 }
 
 /// The document after a REMOVE.
-pub fn remove(
-    alloc: Global,
-    document: Value,
-    target: &Path,
-    scope: &Scope,
-    params: &[Value],
-) -> Result<Value, OutOfMemory>
-    ensures { IfOk result (λ new. new ≡ spec.remove_by (under scope.now params.now) target.now document) }
+pub fn remove(context: &Context<'_>, document: Value, target: &Path) -> Result<Value, OutOfMemory>
+    ensures { IfOk result (λ new. new ≡ spec.remove_by (context_of context.now) target.now document) }
 {
-    let mut path = selectors(alloc, target, scope, params)?;
+    let mut path = selectors(context, target)?;
     match path.pop() {
-        Some(member) => changed(alloc, document, path.as_slice(), Edit::Remove { member }),
+        Some(member) => changed(
+            context.alloc,
+            document,
+            path.as_slice(),
+            Edit::Remove { member },
+        ),
         None => Ok(document),
     }
 }
 
 fn set_all(
-    alloc: Global,
+    context: &Context<'_>,
     document: Value,
     settings: &[Setting],
-    scope: &Scope,
-    params: &[Value],
 ) -> Result<Value, OutOfMemory>
     ensures { IfOk result
-        (λ new. new ≡ spec.altered (map (spec.setting (under scope.now params.now)) settings.now) document) }
+        (λ new. new ≡ spec.altered (map (spec.setting (context_of context.now)) settings.now) document) }
 {
     let mut document = document;
     'settings: for setting in settings {
-        document = set(alloc, document, setting, scope, params)?;
+        document = set(context, document, setting)?;
     }
     Ok(document)
 }
@@ -120,11 +117,14 @@ pub fn apply(
     ensures { IfOk result (λ new. new ≡ spec.applied params.now scope.now change.now document.now) }
 {
     let document = copy(alloc, document)?;
+    let context = Context {
+        alloc,
+        scope,
+        params,
+    };
     match change {
-        Change::Set(settings) => set_all(alloc, document, settings.as_slice(), scope, params),
-        Change::Insert { target, value, at } => insert(
-            alloc, document, target, value, at, scope, params,
-        ),
-        Change::Remove { target } => remove(alloc, document, target, scope, params),
+        Change::Set(settings) => set_all(&context, document, settings.as_slice()),
+        Change::Insert { target, value, at } => insert(&context, document, target, value, at),
+        Change::Remove { target } => remove(&context, document, target),
     }
 }

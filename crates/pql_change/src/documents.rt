@@ -3,17 +3,16 @@ ghost use Rattle.std.specs.Prelude.{◌≡◌, slice_get, map, IfOk, OnOk};
 ghost use Rattle.std.specs.Option.{option_and_then, option_copied, unwrap_or};
 ghost use Rattle.pql_model.specs.Changes.{alterations, setting};
 ghost use Rattle.pql_model.specs.Effects as spec;
-ghost use Rattle.pql_model.specs.Meaning.{under};
+ghost use Rattle.pql_change.specs.Contexts.{context_of};
 ghost use Rattle.pql_change.specs.Touched.{alteration_of, document_of, rows_in, target_of};
 
 use crate::changes::{insert, remove, set};
+use crate::context::Context;
 use crate::vacant::vacant;
 use indexmap::IndexMap;
 use ion_values::{Value, copy};
 use lists::{OutOfMemory, Sequence};
-use pql_model::{
-    Bindings, Bound, Change, Expr, Path, Resolved, Row, Rows, Scope, Setting, resolve,
-};
+use pql_model::{Bindings, Bound, Change, Expr, Path, Row, Rows, Scope, Setting, root_at};
 use ql_types::DocId;
 use std::alloc::Global;
 
@@ -32,30 +31,11 @@ pub enum Alteration<'a> {
 /// Documents by their ids, in order of first touch.
 type Touched = IndexMap<u128, Value>;
 
-fn only_place(scope: &[Bound]) -> Option<usize>
-    ensures { result ≡ spec.only_place scope.now }
-{
-    match scope {
-        [_] => Some(0),
-        _ => None,
-    }
-}
-
-/// The place of the source at which the path begins.
-fn root_of(scope: &Scope, target: &Path) -> Option<usize>
-    ensures { result ≡ spec.root_of scope.now target.now }
-{
-    match resolve(target.first.as_str(), scope.as_slice()) {
-        Some(Resolved::Variable(place)) => Some(place),
-        Some(Resolved::Id(_)) => None,
-        None => only_place(scope.as_slice()),
-    }
-}
-
+/// The source at which the path begins.
 fn source_of<'a>(scope: &'a Scope, target: &Path) -> Option<&'a Bound>
     ensures { option_copied result ≡ option_and_then (slice_get scope.now) (spec.root_of scope.now target.now) }
 {
-    match root_of(scope, target) {
+    match root_at(target.first.as_str(), scope.as_slice()) {
         Some(place) => scope.get(place),
         None => None,
     }
@@ -72,20 +52,16 @@ fn target_of<'a>(alteration: Alteration<'a>) -> &'a Path
 }
 
 fn altered(
-    alloc: Global,
+    context: &Context<'_>,
     document: Value,
     alteration: Alteration<'_>,
-    scope: &Scope,
-    params: &[Value],
 ) -> Result<Value, OutOfMemory>
-    ensures { IfOk result (λ new. new ≡ (alteration_of (under scope.now params.now) alteration.entry).made document) }
+    ensures { IfOk result (λ new. new ≡ (alteration_of (context_of context.now) alteration.entry).made document) }
 {
     match alteration {
-        Alteration::Set(setting) => set(alloc, document, setting, scope, params),
-        Alteration::Insert { target, value, at } => insert(
-            alloc, document, target, value, at, scope, params,
-        ),
-        Alteration::Remove(target) => remove(alloc, document, target, scope, params),
+        Alteration::Set(setting) => set(context, document, setting),
+        Alteration::Insert { target, value, at } => insert(context, document, target, value, at),
+        Alteration::Remove(target) => remove(context, document, target),
     }
 }
 
@@ -101,90 +77,78 @@ fn as_it_stands(alloc: Global, changed: Option<Value>, in_row: &Value) -> Result
 
 /// Changes the document of that id, and moves it back to its place.
 fn touch(
-    alloc: Global,
+    context: &Context<'_>,
     touched: &mut Touched,
     id: DocId,
     in_row: &Value,
     alteration: Alteration<'_>,
-    scope: &Scope,
-    params: &[Value],
 ) -> Result<(), OutOfMemory>
     ensures { OnOk result
         (rows_in touched.new.entries
-        ≡ spec.touch (alteration_of (under scope.now params.now) alteration.entry).made
+        ≡ spec.touch (alteration_of (context_of context.now) alteration.entry).made
         (document_of id in_row.now) (rows_in touched.old.entries)) }
 {
-    let changed = touched.insert(id.raw, vacant(alloc))?;
-    let document = as_it_stands(alloc, changed, in_row)?;
-    let document = altered(alloc, document, alteration, scope, params)?;
+    let changed = touched.insert(id.raw, vacant(context.alloc))?;
+    let document = as_it_stands(context.alloc, changed, in_row)?;
+    let document = altered(context, document, alteration)?;
     touched.insert(id.raw, document)?;
     Ok(())
 }
 
 /// Changes the document that the row names by the path of the change.
 fn touch_named(
-    alloc: Global,
+    context: &Context<'_>,
     touched: &mut Touched,
     alteration: Alteration<'_>,
-    scope: &Scope,
-    params: &[Value],
 ) -> Result<(), OutOfMemory>
     ensures { OnOk result
         (rows_in touched.new.entries
-        ≡ spec.touched_by scope.now (rows_in touched.old.entries)
-        (alteration_of (under scope.now params.now) alteration.entry)) }
+        ≡ spec.touched_by context.now.scope.now (rows_in touched.old.entries)
+        (alteration_of (context_of context.now) alteration.entry)) }
 {
-    match source_of(scope, target_of(alteration)) {
+    match source_of(context.scope, target_of(alteration)) {
         None => Ok(()),
         Some(source) => match source.id {
             None => Ok(()),
-            Some(id) => touch(alloc, touched, id, &source.value, alteration, scope, params),
+            Some(id) => touch(context, touched, id, &source.value, alteration),
         },
     }
 }
 
 fn touch_by_settings(
-    alloc: Global,
+    context: &Context<'_>,
     touched: &mut Touched,
     settings: &[Setting],
-    scope: &Scope,
-    params: &[Value],
 ) -> Result<(), OutOfMemory>
     ensures { OnOk result
         (rows_in touched.new.entries
-        ≡ spec.touched_in scope.now (rows_in touched.old.entries)
-        (map (setting (under scope.now params.now)) settings.now)) }
+        ≡ spec.touched_in context.now.scope.now (rows_in touched.old.entries)
+        (map (setting (context_of context.now)) settings.now)) }
 {
     'settings: for setting in settings {
-        touch_named(alloc, touched, Alteration::Set(setting), scope, params)?;
+        touch_named(context, touched, Alteration::Set(setting))?;
     }
     Ok(())
 }
 
 /// The changes of one row, in order.
 fn touch_by_row(
-    alloc: Global,
+    context: &Context<'_>,
     touched: &mut Touched,
     change: &Change,
-    scope: &Scope,
-    params: &[Value],
 ) -> Result<(), OutOfMemory>
     ensures { OnOk result
         (rows_in touched.new.entries
-        ≡ spec.touched_in scope.now (rows_in touched.old.entries)
-        (alterations (under scope.now params.now) change.now)) }
+        ≡ spec.touched_in context.now.scope.now (rows_in touched.old.entries)
+        (alterations (context_of context.now) change.now)) }
 {
     match change {
-        Change::Set(settings) => {
-            touch_by_settings(alloc, touched, settings.as_slice(), scope, params)
-        }
+        Change::Set(settings) => touch_by_settings(context, touched, settings.as_slice()),
         Change::Insert { target, value, at } => {
             let insertion = Alteration::Insert { target, value, at };
-            touch_named(alloc, touched, insertion, scope, params)
+            touch_named(context, touched, insertion)
         }
-        Change::Remove { target } => {
-            touch_named(alloc, touched, Alteration::Remove(target), scope, params)
-        }
+        Change::Remove { target } => touch_named(context, touched, Alteration::Remove(target)),
     }
 }
 
@@ -214,7 +178,12 @@ pub fn changed_documents(
 {
     let mut touched = IndexMap::new(alloc);
     'rows: for scope in rows.as_slice() {
-        touch_by_row(alloc, &mut touched, change, scope, params)?;
+        let context = Context {
+            alloc,
+            scope,
+            params,
+        };
+        touch_by_row(&context, &mut touched, change)?;
     }
     into_rows(alloc, touched)
 }

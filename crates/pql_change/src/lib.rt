@@ -4,6 +4,7 @@
 mod along;
 mod changes;
 mod containers;
+mod context;
 mod deletes;
 mod documents;
 mod edits;

@@ -1,9 +1,10 @@
 //! The members that the path of a change asks for.
 ghost use Rattle.std.specs.Prelude.{◌≡◌, ◌++◌, map, IfOk};
 ghost use Rattle.pql_model.specs.Changes as spec;
-ghost use Rattle.pql_model.specs.Meaning.{under};
 ghost use Rattle.pql_model.specs.Names.{called_in_row, resolve};
+ghost use Rattle.pql_change.specs.Contexts.{context_of};
 
+use crate::context::Context;
 use ion_values::{Body, Value};
 use lists::{OutOfMemory, Sequence};
 use pql_expr::eval;
@@ -28,32 +29,28 @@ fn selector_by(index: Evaluated) -> Selector
     }
 }
 
-fn selector(
-    alloc: Global,
-    step: &PathStep,
-    scope: &Scope,
-    params: &[Value],
-) -> Result<Selector, OutOfMemory>
-    ensures { IfOk result (λ s. s ≡ spec.step_selector (under scope.now params.now) step.now) }
+fn selector(context: &Context<'_>, step: &PathStep) -> Result<Selector, OutOfMemory>
+    ensures { IfOk result (λ s. s ≡ spec.step_selector (context_of context.now) step.now) }
 {
     match step {
-        PathStep::Field(name) => Ok(Selector::Field(name.copy(alloc)?)),
-        PathStep::Index(index) => Ok(selector_by(eval(alloc, index, scope, params)?)),
+        PathStep::Field(name) => Ok(Selector::Field(name.copy(context.alloc)?)),
+        PathStep::Index(index) => {
+            let index = eval(context.alloc, index, context.scope, context.params)?;
+            Ok(selector_by(index))
+        }
     }
 }
 
 fn with_steps(
-    alloc: Global,
+    context: &Context<'_>,
     before: Selectors,
     steps: &[PathStep],
-    scope: &Scope,
-    params: &[Value],
 ) -> Result<Selectors, OutOfMemory>
-    ensures { IfOk result (λ all. all ≡ before ++ map (spec.step_selector (under scope.now params.now)) steps.now) }
+    ensures { IfOk result (λ all. all ≡ before ++ map (spec.step_selector (context_of context.now)) steps.now) }
 {
     let mut selectors = before;
     'steps: for step in steps {
-        selectors.push(selector(alloc, step, scope, params)?)?;
+        selectors.push(selector(context, step)?)?;
     }
     Ok(selectors)
 }
@@ -74,14 +71,9 @@ fn left_out(alloc: Global, target: &Path, scope: &Scope) -> Result<Selectors, Ou
 }
 
 /// What the path asks for, from the document on. Its indexes are read from the row.
-pub fn selectors(
-    alloc: Global,
-    target: &Path,
-    scope: &Scope,
-    params: &[Value],
-) -> Result<Selectors, OutOfMemory>
-    ensures { IfOk result (λ all. all ≡ spec.selectors (under scope.now params.now) target.now) }
+pub fn selectors(context: &Context<'_>, target: &Path) -> Result<Selectors, OutOfMemory>
+    ensures { IfOk result (λ all. all ≡ spec.selectors (context_of context.now) target.now) }
 {
-    let before = left_out(alloc, target, scope)?;
-    with_steps(alloc, before, target.steps.as_slice(), scope, params)
+    let before = left_out(context.alloc, target, context.scope)?;
+    with_steps(context, before, target.steps.as_slice())
 }

@@ -8,9 +8,9 @@ ghost use Rattle.pql_model.specs.Steps as spec;
 ghost use Rattle.pql_expr.specs.Contexts.{meant_at};
 
 use ion_values::{Body, Field, Value, copy};
-use lists::{OutOfMemory, Sequence, Text};
-use pql_model::{Bound, Evaluated, Resolved, resolve};
-use ql_types::{DocId, id_digits};
+use lists::{OutOfMemory, Sequence};
+use pql_model::{Bound, Evaluated, Resolved, id_text, resolve};
+use ql_types::DocId;
 use std::alloc::Global;
 
 fn first_field<'a>(name: &str, fields: &'a [Field]) -> Option<&'a Value>
@@ -83,24 +83,13 @@ pub fn at_index<'a>(index: &Evaluated, from: &'a Value) -> Option<&'a Value>
     }
 }
 
-fn id_text(alloc: Global, id: DocId) -> Result<Text, OutOfMemory>
-    ensures { IfOk result (λ text. text ≡ id_text id.raw) }
-{
-    let mut text = Text::new(alloc);
-    let digits = id_digits(id.raw);
-    'digits: for digit in &digits {
-        text.push(char::from(*digit))?;
-    }
-    Ok(text)
-}
-
 /// An id as a string.
 pub fn id_value(alloc: Global, id: DocId) -> Result<Value, OutOfMemory>
     ensures { IfOk result (λ v. v ≡ made (body.String (id_text id.raw))) }
 {
     Ok(Value {
         annotations: Sequence::new(alloc),
-        body: Body::String(id_text(alloc, id)?),
+        body: Body::String(id_text(alloc, id.raw)?),
     })
 }
 

@@ -10,8 +10,6 @@ use Rattle.ql_types.specs.declared.DocId.{DocId}
 use Rattle.ion_values.specs.declared.value.Body.TheVariants as body
 use Rattle.ion_values.specs.declared.value.Value.{Value}
 use Rattle.pql_model.specs.declared.expr.Path.{Path}
-use Rattle.pql_model.specs.declared.names.Resolved.{Resolved}
-use Rattle.pql_model.specs.declared.names.Resolved.TheVariants.{Variable, Id}
 use Rattle.pql_model.specs.declared.scope.Bound.{Bound}
 use Rattle.pql_model.specs.declared.statement.Change.{Change}
 use Rattle.pql_model.specs.declared.tables.Row.{Row}
@@ -19,23 +17,13 @@ use Rattle.pql_model.specs.Changes.{Alteration, alterations}
 use Rattle.pql_model.specs.From.{Combined}
 use Rattle.pql_model.specs.Made.{made}
 use Rattle.pql_model.specs.Meaning.{under}
-use Rattle.pql_model.specs.Names.{called_in_row, resolve}
+use Rattle.pql_model.specs.Names.{called_in_row, root_at}
 
 -- ---- which document a row names
 
--- with one source its variable may be left out
-abbrev pub only_place : Combined → Option ℕ
-only_place (b ∷ []) = Some 0
-only_place _ = None
-
-abbrev pub root_by : Combined → Option Resolved → Option ℕ
-root_by scope (Some (Variable place)) = Some place
-root_by scope (Some (Id place)) = None
-root_by scope None = only_place scope
-
 -- the source that a path of a change begins at, by its place
 abbrev pub root_of : Combined → Path → Option ℕ
-root_of scope p = root_by scope (resolve p.first (map called_in_row scope))
+root_of scope p = root_at p.first (map called_in_row scope)
 
 -- the document of a source in the row
 abbrev pub document_in : Bound → Option Row

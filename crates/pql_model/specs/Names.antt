@@ -41,3 +41,16 @@ resolve_from place name (c ∷ cs) = or_else (resolve_from (place + 1) name cs) 
 -- what a name means of the sources that are seen, each by its place, counted from 0
 abbrev pub resolve : List ℕ → List Called → Option Resolved
 resolve name seen = resolve_from 0 name seen
+
+-- ---- where the path of a change begins
+
+-- the source that is meant; where there is only one it may be left out, and the first name is then a field
+abbrev pub root_by : List Called → Option Resolved → Option ℕ
+root_by seen (Some (Variable place)) = Some place
+root_by seen (Some (Id place)) = None
+root_by (c ∷ []) None = Some 0
+root_by _ None = None
+
+-- the source at which a path begins whose first name this is, by its place among those that are seen
+abbrev pub root_at : List ℕ → List Called → Option ℕ
+root_at name seen = root_by seen (resolve name seen)

@@ -1,15 +1,12 @@
 -- What the name of a source says of its table and its view, and which rows a probe asks for (the views of Amazon QLDB's user view and
 -- committed view; probes are the ledger's own).
-use Rattle.std.specs.Prelude.{ℕ, ◌==◌, ◌&&◌, Bool, true, false, List, drop, length, codes, if◌then◌else◌}
+use Rattle.std.specs.Prelude.{ℕ, ◌==◌, Bool, true, false, List, drop, length, codes, if◌then◌else◌}
 use Rattle.std.specs.List.{filter}
-use Rattle.std.specs.Ordering.{int_eq}
-use Rattle.std.specs.Str.{bytes_eq}
 use Rattle.std.specs.declared.option.Option.{Option}
 use Rattle.std.specs.declared.option.Option.TheVariants.{None, Some}
 use Rattle.ion_values.specs.declared.value.Value.{Value}
 use Rattle.ion_values.specs.declared.value.Key.{Key}
-use Rattle.ion_values.specs.declared.value.Key.TheVariants as key
-use Rattle.ion_values.specs.Equivalent.{same_bool}
+pub use Rattle.ion_values.specs.Keys.{is_same_key}
 use Rattle.ion_grammar.specs.Blanks.{begins}
 use Rattle.ion_order.specs.Key.{key_of}
 use Rattle.pql_model.specs.declared.tables.Probe.{Probe}
@@ -37,15 +34,6 @@ abbrev pub view_named : List ℕ → View
 view_named name = if is_committed name then view.Committed else view.User
 
 -- ---- probes
-
-abbrev pub is_same_key : Key → Key → Bool
-is_same_key (key.Bool a) (key.Bool b) = same_bool a b
-is_same_key (key.Number c e) (key.Number d f) = int_eq c d && int_eq e f
-is_same_key (key.Text a) (key.Text b) = bytes_eq a b
-is_same_key (key.Moment a) (key.Moment b) = int_eq a b
-is_same_key (key.Clob a) (key.Clob b) = bytes_eq a b
-is_same_key (key.Blob a) (key.Blob b) = bytes_eq a b
-is_same_key _ _ = false
 
 abbrev pub has_key : Key → Option Key → Bool
 has_key k None = false

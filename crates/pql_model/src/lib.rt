@@ -4,6 +4,7 @@
 
 mod counts;
 mod expr;
+mod ids;
 mod laws;
 mod mark;
 mod names;
@@ -15,9 +16,10 @@ mod token;
 
 pub use counts::parameters;
 pub use expr::{Expr, Exprs, Member, Members, Operator, Path, PathStep, PathSteps};
+pub use ids::id_text;
 pub use laws::{answers_are_shallow, depth_is_bounded, parsed_is_shallow};
 pub use mark::{Mark, Marks, Place, Role};
-pub use names::{Resolved, last_name, resolve};
+pub use names::{Resolved, last_name, resolve, root_at};
 pub use scope::{Bindings, Bound, Evaluated, Scope};
 pub use selector::{Selector, Selectors};
 pub use statement::{

@@ -1,5 +1,5 @@
 //! What names of sources mean, and the last name of a path.
-ghost use Rattle.std.specs.Prelude.{◌≡◌, map};
+ghost use Rattle.std.specs.Prelude.{◌≡◌, map, None};
 ghost use Rattle.pql_model.specs.Grammar as spec;
 ghost use Rattle.pql_model.specs.Names as names;
 
@@ -53,6 +53,27 @@ pub fn resolve(name: &str, scope: &[Bound]) -> Option<Resolved>
         last = later(resolved_by(place, name, bound), last);
     }
     last
+}
+
+/// The place of the source at which a path begins whose first name this is: the source that the name
+/// means, or the only one, of which it is a field. The id of a document begins no path.
+pub fn root_at(name: &str, scope: &[Bound]) -> Option<usize>
+    ensures { result ≡ names.root_at name.now (map names.called_in_row scope.now) }
+{
+    match resolve(name, scope) {
+        Some(Resolved::Variable(place)) => Some(place),
+        Some(Resolved::Id(_)) => None,
+        None => only_place(scope),
+    }
+}
+
+fn only_place(scope: &[Bound]) -> Option<usize>
+    ensures { result ≡ names.root_by (map names.called_in_row scope.now) None }
+{
+    match scope {
+        [_] => Some(0),
+        _ => None,
+    }
 }
 
 /// The last name of a path behind its first name: that of its last step with a name, or the first one.

@@ -1,5 +1,5 @@
 use Rattle.std.proofs.Common.{◌≡◌, IfOk, subst}
-use Rattle.pql_model.specs.Meaning.{under}
+use Rattle.pql_change.specs.Contexts.{context_of}
 use Rattle.pql_change.proofs.Paths.{remove_along}
 use Rattle.pql_change.proofs.changes.remove.Goals as goal
 
@@ -8,7 +8,7 @@ returns-in-Some c =
     subst
     (λ x. IfOk c.changed.result (λ w. w ≡ x))
     (remove_along
-    (under c.args.scope.now c.args.params.now)
+    (context_of c.args.context.now)
     c.args.target.now
     c.args.document
     c.in_ok-path.path

@@ -1,5 +1,5 @@
 use Rattle.std.proofs.Common.{◌≡◌, ◌∙◌, IfOk, subst, sym}
-use Rattle.pql_model.specs.Meaning.{under}
+use Rattle.pql_change.specs.Contexts.{context_of}
 use Rattle.pql_change.proofs.Paths.{set_along}
 use Rattle.pql_change.proofs.changes.set.Goals as goal
 
@@ -8,7 +8,7 @@ returns-in-Some c =
     subst
     (λ x. IfOk c.changed.result (λ w. w ≡ x))
     (set_along
-    (under c.args.scope.now c.args.params.now)
+    (context_of c.args.context.now)
     c.args.setting.now.target
     c.args.document
     c.args.setting.now.value

@@ -1,4 +1,4 @@
-use Rattle.pql_model.specs.Meaning.{under}
+use Rattle.pql_change.specs.Contexts.{context_of}
 use Rattle.pql_change.specs.Touched.{alteration_of}
 use Rattle.pql_change.proofs.Touching.{touched_once}
 use Rattle.pql_change.proofs.documents.touch.Goals as goal
@@ -6,7 +6,7 @@ use Rattle.pql_change.proofs.documents.touch.Goals as goal
 pub returns : goal.returns
 returns c =
     touched_once
-    (alteration_of (under c.args.scope.now c.args.params.now) c.args.alteration).made
+    (alteration_of (context_of c.args.context.now) c.args.alteration).made
     c.args.id
     c.args.in_row.now
     c.vacant.result
