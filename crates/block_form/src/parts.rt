@@ -1,12 +1,12 @@
 //! The parts of which the values of blocks and revisions are made.
 ghost use Rattle.std.specs.Prelude.{◌≡◌, [], ◌∷◌, ◌++◌, IfOk, OnOk};
-ghost use Rattle.ql_types.specs.Ids.{id_text};
 ghost use Rattle.ledger_model.specs.Values.{plain, field};
 ghost use Rattle.ledger_model.specs.Journal.{number, string, id_value, moment, structure, list, hash_value, address_value};
 
 use ion_values::{Body, Field, Fields, IonTime, OutOfMemory, Text, Value, Values};
 use lists::Sequence;
-use ql_types::{BlockAddress, Hash32, id_digits};
+use pql_model::id_text;
+use ql_types::{BlockAddress, Hash32};
 use std::alloc::Global;
 
 /// A value without annotations.
@@ -31,18 +31,6 @@ pub fn string(alloc: Global, text: &Text) -> Result<Value, OutOfMemory>
     ensures { IfOk result (λ v. v ≡ string text.now) }
 {
     Ok(plain(alloc, Body::String(text.copy(alloc)?)))
-}
-
-/// The text of an id.
-fn id_text(alloc: Global, raw: u128) -> Result<Text, OutOfMemory>
-    ensures { IfOk result (λ text. text ≡ id_text raw) }
-{
-    let mut text = Text::new(alloc);
-    let digits = id_digits(raw);
-    'digits: for digit in &digits {
-        text.push(char::from(*digit))?;
-    }
-    Ok(text)
 }
 
 /// An id is a string of its text.

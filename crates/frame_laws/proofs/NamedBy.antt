@@ -8,19 +8,17 @@ use Rattle.ion_values.specs.declared.value.Value.{Value}
 use Rattle.ql_types.specs.declared.DocId.{DocId}
 use Rattle.pql_model.specs.declared.scope.Bound.{Bound}
 use Rattle.pql_model.specs.declared.expr.Path.{Path}
-use Rattle.pql_model.specs.declared.names.Resolved.{Resolved}
-use Rattle.pql_model.specs.declared.names.Resolved.TheVariants.{Variable, Id}
 use Rattle.pql_model.specs.declared.statement.Change.{Change}
 use Rattle.pql_model.specs.declared.statement.Change.TheVariants as change
 use Rattle.pql_model.specs.declared.statement.Setting.{Setting}
 use Rattle.pql_model.specs.declared.statement.Source.{Source}
 use Rattle.pql_model.specs.declared.tables.Row.{Row}
 use Rattle.pql_model.specs.Changes.{Alteration, alterations, setting}
-use Rattle.pql_model.specs.Effects.{changed_documents, deleted_documents, deleted_from, document_at, document_of, is_named, root_by, root_of, touch, touched_by, touched_from, touched_in, with_id}
+use Rattle.pql_model.specs.Effects.{changed_documents, deleted_documents, deleted_from, document_at, document_of, is_named, root_of, touch, touched_by, touched_from, touched_in, with_id}
 use Rattle.pql_model.specs.From.{Combined}
 use Rattle.pql_model.specs.Meaning.{Context, under}
-use Rattle.pql_model.specs.Names.{called, called_in_row, resolve}
-use Rattle.ledger_model.specs.Writing.{is_at, is_root, place_by, root_place, targets}
+use Rattle.pql_model.specs.Names.{called, called_in_row, root_at}
+use Rattle.ledger_model.specs.Writing.{is_at, is_root, root_place, targets}
 use Rattle.frame_laws.proofs.Naming.{OfDoc, OfPlaces, OfRows}
 use Rattle.frame_laws.proofs.Rows.{all_joined}
 
@@ -139,19 +137,6 @@ any_in : (test : Path → Bool) (ps : List Path) → AllByRecursion (λ p. test 
 any_in test [] = tt
 any_in test (p ∷ ps) = (λ h. or_left (test p) (list_any test ps) h, later_in test p ps ps (any_in test ps))
 
--- the same root, by the sources and by a row
-same_root : (c : Combined) (sources : List Source) (o : Option Resolved) → map called_in_row c ≡ map called sources
-    → root_by c o ≡ place_by sources o
-same_root c sources (Some (Variable place)) h = refl
-same_root c sources (Some (Id place)) h = refl
-same_root [] [] None h = refl
-same_root (b ∷ []) (s ∷ []) None h = refl
-same_root (b ∷ d ∷ c) (s ∷ t ∷ ss) None h = refl
-same_root [] (s ∷ ss) None h = cc
-same_root (b ∷ c) [] None h = cc
-same_root (b ∷ []) (s ∷ t ∷ ss) None h = cc
-same_root (b ∷ d ∷ c) (s ∷ []) None h = cc
-
 -- the source at its place is one that the change begins at
 abbrev IsRootOf : List Source → Change → Path → Type 0
 IsRootOf sources change target = (n : ℕ) → root_place sources target ≡ Some n → is_root sources change n ≡ true
@@ -193,8 +178,7 @@ module _ (P : ℕ → DocId → Type 0) (Q : DocId → Type 0) (sources : List S
   by_changes c [] same roots h = tt
   by_changes c (a ∷ more) same roots h =
       let root : root_of c a.target ≡ root_place sources a.target =
-      ap (λ called. root_by c (resolve a.target.first called)) same
-      ∙ same_root c sources (resolve a.target.first (map called sources)) same in (
+      ap (root_at a.target.first) same in (
         by_root c (root_of c a.target) (λ n e. roots.0 n (sym root ∙ e)) h,
         by_changes c more same roots.1 h,
       )

@@ -1,6 +1,5 @@
 pub mod SaidLemmas
 pub mod UnreadLemmas
-pub mod UserRows
 mod ScriptRows
 mod ReportRows
 mod JournalRows

@@ -31,7 +31,7 @@ use Rattle.ledger_model.specs.Values.{named_id}
 use Rattle.ledger_model.specs.State.{State, empty}
 use Rattle.ledger_model.specs.Statements.{if_wanted, is_built, served_of, with_parameters}
 use Rattle.ledger_model.specs.Unbuilt.{is_served}
-use Rattle.ledger_model.specs.Run.{Begun, created, documents_in, first_deep, has_room, inserted, new_table, no_table_more, nothing, run, selected, start, stored, unserved}
+use Rattle.ledger_model.specs.Run.{Begun, created, documents_in, first_deep, has_room, inserted, new_table, no_table_more, nothing, selected, start, stored}
 
 -- ---- texts
 
@@ -74,23 +74,19 @@ no_statement = refl
 
 -- ---- which statements are served
 
-committed : is_built (statement.Select select.Star (table_as (codes "_ql_committed_t") (codes "x"))) ≡ false
+committed : is_built (statement.Select select.Star (table_as (codes "_ql_committed_t") (codes "x"))) ≡ true
 committed = refl
 
 of_value : is_built (statement.Select (select.Value (expr.Parameter 0)) (table_as (codes "t") (codes "x"))) ≡ true
 of_value = refl
 
-drops : is_built (statement.Drop (codes "t")) ≡ false
-drops = refl
-
-dropped : is_served (asks (codes "DROP TABLE t") []) ≡ false
+dropped : is_served (asks (codes "DROP TABLE t") []) ≡ true
 unfolding parsed lex is_reserved layers expression free_path
 dropped = refl
 
--- and it means nothing so far
-no_meaning : (b : Begun) (s : State) → run b s (asks (codes "DROP TABLE t") [] ∷ []) ≡ unserved
+deletes_by : is_served (asks (codes "DELETE FROM t BY x") []) ≡ true
 unfolding parsed lex is_reserved layers expression free_path
-no_meaning b s = refl
+deletes_by = refl
 
 -- its transaction is told of the fault
 faulty : is_served (asks (codes "SELECT * FORM t") []) ≡ true

@@ -1,14 +1,11 @@
 -- The statement that a request asks for: its text by the grammar, with as many parameters as it has question marks (PartiQL); and
--- which statements are served so far: CREATE TABLE, INSERT INTO a table, and SELECT from user views and paths without BY.
-use Rattle.std.specs.Prelude.{ℕ, ◌==◌, ◌&&◌, ◌-◌, ◌^◌, min, not, Bool, true, false, List, length, codes, Option, Some, None, Result, Ok, Err, is_some, if◌then◌else◌}
-use Rattle.std.specs.List.{list_all}
+-- that every statement is served.
+use Rattle.std.specs.Prelude.{ℕ, ◌==◌, ◌-◌, ◌^◌, min, not, Bool, true, false, List, length, codes, Option, Some, None, Result, Ok, Err, if◌then◌else◌}
 use Rattle.ion_values.specs.declared.value.Value.{Value}
 use Rattle.ion_grammar.specs.Blanks.{begins}
-use Rattle.pql_model.specs.declared.statement.Source.{Source}
 use Rattle.pql_model.specs.declared.statement.SourceKind.{SourceKind}
 use Rattle.pql_model.specs.declared.statement.SourceKind.TheVariants as source
 use Rattle.pql_model.specs.declared.statement.Statement.{Statement}
-use Rattle.pql_model.specs.declared.statement.Statement.TheVariants as statement
 use Rattle.pql_model.specs.Parameters.{in_statement}
 use Rattle.pql_model.specs.Parse.{parsed}
 use Rattle.pql_model.specs.Productions.{Fault}
@@ -54,19 +51,9 @@ is_plain (source.Table name) = not (is_committed name)
 is_plain (source.History table _ _) = false
 is_plain (source.Path path) = true
 
--- and no BY
-abbrev pub is_served_source : Source → Bool
-is_served_source s = is_plain s.from && not (is_some s.id_name)
-
+-- every statement
 abbrev pub is_built : Statement → Bool
-is_built (statement.Create table) = true
-is_built (statement.Insert table value) = true
-is_built (statement.Select select from) = list_all is_served_source from.sources
-is_built (statement.Update from change) = false
-is_built (statement.From from change) = false
-is_built (statement.Delete from) = false
-is_built (statement.Index table field) = false
-is_built (statement.Drop table) = false
+is_built s = true
 
 abbrev pub if_built : Statement → Option (Result Statement Refusal)
 if_built s = if is_built s then Some (Ok s) else None

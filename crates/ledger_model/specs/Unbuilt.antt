@@ -1,6 +1,5 @@
 -- How an input is judged: which is too long, no Ion text or no script, a script that is served, or one that isn't served so
--- far. A script isn't served where a statement of it is whole, with as many parameters as it wants, and is none of those that are
--- served, or where it sends a digest.
+-- far. Every statement is served, and a script isn't where it sends a digest.
 use Rattle.std.specs.Prelude.{ℕ, ◌&&◌, Bool, true, nat_le, is_none, List, length, Result, Ok, Err, if◌then◌else◌}
 use Rattle.std.specs.List.{list_all}
 use Rattle.ion_values.specs.declared.fault.IonFault.{IonFault}

@@ -6,7 +6,6 @@ use Rattle.ion_values.specs.declared.value.Value.{Value}
 use Rattle.ql_types.specs.declared.DocId.{DocId}
 use Rattle.pql_model.specs.declared.expr.Path.{Path}
 use Rattle.pql_model.specs.declared.names.Resolved.{Resolved}
-use Rattle.pql_model.specs.declared.names.Resolved.TheVariants.{Variable, Id}
 use Rattle.pql_model.specs.declared.statement.Change.{Change}
 use Rattle.pql_model.specs.declared.statement.Change.TheVariants as change
 use Rattle.pql_model.specs.declared.statement.FromClause.{FromClause}
@@ -17,7 +16,7 @@ use Rattle.pql_model.specs.declared.statement.SourceKind.TheVariants as source
 use Rattle.pql_model.specs.declared.tables.Row.{Row}
 use Rattle.pql_model.specs.Effects.{changed_documents, deleted_documents}
 use Rattle.pql_model.specs.From.{Combined, rows_of}
-use Rattle.pql_model.specs.Names.{called, resolve}
+use Rattle.pql_model.specs.Names.{called, resolve, root_by}
 use Rattle.ledger_model.specs.declared.block.Content.{Content}
 use Rattle.ledger_model.specs.declared.block.Content.TheVariants.{Deleted, Kept}
 use Rattle.ledger_model.specs.declared.block.Draft.{Draft}
@@ -32,12 +31,9 @@ use Rattle.ledger_model.specs.Selecting.{first_absent, views_of}
 
 -- ---- which tables are written
 
--- the source at which the path of a change begins, by its place; with one source the root may be left out
+-- the source at which the path of a change begins, by its place
 abbrev pub place_by : List Source → Option Resolved → Option ℕ
-place_by sources (Some (Variable place)) = Some place
-place_by sources (Some (Id place)) = None
-place_by (s ∷ []) None = Some 0
-place_by _ None = None
+place_by sources meant = root_by (map called sources) meant
 
 abbrev pub root_place : List Source → Path → Option ℕ
 root_place sources p = place_by sources (resolve p.first (map called sources))

@@ -2,7 +2,6 @@
 ghost use Rattle.std.specs.Prelude.{◌≡◌, fold, IfOk};
 ghost use Rattle.hash_forms.specs.PairHash.{dot32};
 ghost use Rattle.hash_forms.specs.Serialize.{hash_of};
-ghost use Rattle.ql_types.specs.Ids.{id_text};
 ghost use Rattle.ledger_model.specs.Journal.{string};
 ghost use Rattle.ledger_model.specs.CommitDigest.{first_digest, with_statement};
 
@@ -10,7 +9,8 @@ use ion_hash::hash;
 use ion_values::{Body, OutOfMemory, Text, Value};
 use lists::Sequence;
 use pair_hash::dot_full;
-use ql_types::{Hash32, TxId, id_digits};
+use pql_model::id_text;
+use ql_types::{Hash32, TxId};
 use std::alloc::Global;
 
 /// The digest of a transaction that has no statements yet: the hash of its id, a string (Amazon QLDB API
@@ -57,16 +57,4 @@ fn text_hash(alloc: Global, text: Text) -> Result<Hash32, OutOfMemory>
         body: Body::String(text),
     };
     hash(alloc, &value)
-}
-
-/// The text of an id.
-fn id_text(alloc: Global, raw: u128) -> Result<Text, OutOfMemory>
-    ensures { IfOk result (λ text. text ≡ id_text raw) }
-{
-    let mut text = Text::new(alloc);
-    let digits = id_digits(raw);
-    'digits: for digit in &digits {
-        text.push(char::from(*digit))?;
-    }
-    Ok(text)
 }
