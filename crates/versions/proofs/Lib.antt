@@ -1,3 +1,4 @@
+pub mod LastOnes
 pub mod Entering
 pub mod Lookups
 pub mod Mapped

@@ -39,7 +39,7 @@ document_nowhere (d ∷ ds) id e = none-step (id_of d == id) (place_in (ids_of d
 
 -- ---- it is the last of all revisions with its id
 
-other-id : (a b id : ℕ) → (a == b) ≡ false → a ≡ id → (b == id) ≡ false
+pub other-id : (a b id : ℕ) → (a == b) ≡ false → a ≡ id → (b == id) ≡ false
 other-id a b id apart here = elim (eqb_tells b id) [
   | inl t ↦ let same : (a == b) ≡ true = eq-eqb a b (here ∙ sym t.1) in let bad : ⊥ = cc in absurd bad
   | inr f ↦ f.0
@@ -57,7 +57,7 @@ put-step false d r ds id same ih = elim (eqb_tells (id_of d) id) [
   | inr f ↦ rw f.0 ih
 ]
 
-put-document : (ds : List Recorded) (r : Recorded) (id : ℕ) → document_in (put ds r) id ≡ (if id_of r == id then Some r else document_in ds id)
+pub put-document : (ds : List Recorded) (r : Recorded) (id : ℕ) → document_in (put ds r) id ≡ (if id_of r == id then Some r else document_in ds id)
 put-document [] r id = refl
 put-document (d ∷ ds) r id = put-step (id_of d == id_of r) d r ds id refl (put-document ds r id)
 

@@ -26,7 +26,11 @@ abbrev pub items_in : {T : Type 0} → Option (List T) → List T
 items_in None = []
 items_in (Some items) = items
 
--- the revisions that are lent, without what their blocks gave them
+-- the revisions that are lent
+abbrev pub recorded_lent : List (Bor Recorded) → List state.Recorded
+recorded_lent lent = map (λ r. recorded_of r.now) lent
+
+-- the same, without what their blocks gave them
 abbrev pub drafts_lent : List (Bor Recorded) → List Draft
 drafts_lent lent = map (λ r. state.draft_of (recorded_of r.now)) lent
 

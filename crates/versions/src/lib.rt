@@ -11,5 +11,8 @@ mod tables;
 mod versions;
 
 pub use recorded::{Recorded, copy_content};
-pub use tables::{Indexed, Table, active_count, active_table, change_all, copy_tables};
+pub use tables::{
+    Indexed, Table, active_count, active_table, change_all, copy_indexes, copy_tables, has_index,
+    index_all, index_count, is_active,
+};
 pub use versions::Versions;

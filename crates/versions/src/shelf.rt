@@ -1,11 +1,12 @@
 //! All revisions, with the latest one and the history of each document beside them.
-ghost use Rattle.std.specs.Prelude.{◌≡◌, [], ◌∷◌, ◌++◌, map, option_map, slice_get, IfOk};
+ghost use Rattle.std.specs.Prelude.{◌≡◌, [], ◌∷◌, ◌++◌, length, map, slice_get, Some, option_map, IfOk};
 ghost use Rattle.std.specs.Arc.{arc_value};
 ghost use Rattle.std.specs.Option.{option_copied};
 ghost use Rattle.ledger_model.specs.Follows.{latest_of};
 ghost use Rattle.ledger_model.specs.State.{draft_of, recorded_in};
 ghost use Rattle.ledger_model.specs.Views.{latest};
-ghost use Rattle.versions.specs.Held.{drafts_lent, recorded_of};
+ghost use Rattle.versions.specs.Held.{drafts_lent, recorded_lent, recorded_of};
+ghost use Rattle.versions.specs.Lookups.{last_of_each};
 ghost use Rattle.versions.specs.Histories.{revisions_of};
 ghost use Rattle.versions.specs.Newest.{newest};
 
@@ -107,12 +108,27 @@ impl Shelf {
     }
 
     /// The latest revision of each document, in order of first insertion, lent.
-    #[tactic(auto, using(crate::proofs::Newest::lent_newest))]
+    #[tactic(auto, using(crate::proofs::Newest::lent_newest, crate::proofs::LastOnes::lent_last))]
     pub(crate) fn newest(&self, alloc: Global) -> Result<Sequence<&Recorded>, OutOfMemory>
-        ensures { IfOk result (λ all. drafts_lent all ≡ latest (map draft_of (map recorded_of self.now))) }
+        ensures drafts { IfOk result (λ all. drafts_lent all ≡ latest (map draft_of (map recorded_of self.now))) }
+        ensures last { IfOk result (λ all. map (λ r. Some r) (recorded_lent all) ≡ last_of_each (map recorded_of self.now)) }
     {
         let all = self.latest.all(alloc)?;
         Ok(all)
+    }
+
+    /// How many revisions there are.
+    pub(crate) fn count(&self) -> u64
+        ensures { result ≡ length self.now }
+    {
+        self.revisions.len()
+    }
+
+    /// The revision at a place in block order, or None past the last one.
+    pub(crate) fn at(&self, place: u64) -> Option<&Recorded>
+        ensures { option_copied result ≡ slice_get self.now place }
+    {
+        self.revisions.get(place)
     }
 
     /// The last revision of a document, or None where there is none.

@@ -2,11 +2,12 @@
 ghost use Rattle.std.specs.Prelude.{◌≡◌, ◌==◌, ◌&&◌, map, IfOk, OnOk};
 ghost use Rattle.std.specs.Option.{option_copied};
 ghost use Rattle.std.specs.Str.{bytes_eq};
-ghost use Rattle.ledger_model.specs.Follows.{has_index};
+ghost use Rattle.ledger_model.specs.Follows.{has_index, is_active};
 ghost use Rattle.ledger_model.specs.Run.{active_count};
+ghost use Rattle.ledger_model.specs.SchemaChanges.{index_count};
 ghost use Rattle.ledger_model.specs.State.{active_table, all_changed, all_indexed, changed, dropped, indexed};
 ghost use Rattle.versions.specs.Held.{indexed_of, table_of};
-ghost use Rattle.versions.specs.Lookups.{index_count, name_of};
+ghost use Rattle.versions.specs.Lookups.{name_of};
 
 use crate::kept::Kept;
 use ion_values::{OutOfMemory, Text};
@@ -38,6 +39,18 @@ fn is_active_as(table: &Table, name: &str) -> bool
     ensures { result ≡ (table.now.active && bytes_eq table.now.name name.now) }
 {
     table.active && table.name.as_str() == name
+}
+
+/// Whether one of the tables is active and has this id.
+pub fn is_active(tables: &[Table], id: TableId) -> bool
+    ensures { result ≡ is_active (map table_of tables.now) id }
+{
+    'tables: for table in tables {
+        if table.active && table.id.raw == id.raw {
+            return true;
+        }
+    }
+    false
 }
 
 /// How many of the tables are active.
@@ -157,7 +170,7 @@ pub struct Indexed {
 }
 
 /// How many fields of the table have an index.
-pub(crate) fn index_count(indexes: &[Indexed], table: TableId) -> u64
+pub fn index_count(indexes: &[Indexed], table: TableId) -> u64
     ensures { result ≡ index_count (map indexed_of indexes.now) table }
 {
     let mut count: u64 = 0;
@@ -170,7 +183,7 @@ pub(crate) fn index_count(indexes: &[Indexed], table: TableId) -> u64
 }
 
 /// Whether the field of the table has an index.
-pub(crate) fn has_index(indexes: &[Indexed], table: TableId, field: &str) -> bool
+pub fn has_index(indexes: &[Indexed], table: TableId, field: &str) -> bool
     ensures { result ≡ has_index (map indexed_of indexes.now) table field.now }
 {
     'indexes: for index in indexes {
@@ -204,7 +217,7 @@ pub(crate) fn indexes_after(
 }
 
 /// Fields that equal the given ones, in order.
-fn copy_indexes(alloc: Global, indexes: &[Indexed]) -> Result<Vec<Indexed>, OutOfMemory>
+pub fn copy_indexes(alloc: Global, indexes: &[Indexed]) -> Result<Vec<Indexed>, OutOfMemory>
     ensures { IfOk result (λ new. new.items ≡ indexes.now) }
 {
     let mut new = Vec::new(alloc);
@@ -218,7 +231,7 @@ fn copy_indexes(alloc: Global, indexes: &[Indexed]) -> Result<Vec<Indexed>, OutO
 }
 
 /// Puts the fields at the end on which the changes make an index.
-fn index_all(
+pub fn index_all(
     alloc: Global,
     indexes: &mut Vec<Indexed>,
     changes: &[Schema],

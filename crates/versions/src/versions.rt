@@ -1,13 +1,14 @@
 //! A version of the state after a list of blocks.
-ghost use Rattle.std.specs.Prelude.{◌≡◌, map, option_map, slice_get, IfOk};
+ghost use Rattle.std.specs.Prelude.{◌≡◌, length, map, slice_get, Some, option_map, IfOk};
 ghost use Rattle.std.specs.Option.{option_copied};
 ghost use Rattle.ledger_model.specs.Follows.{has_index, latest_of};
 ghost use Rattle.ledger_model.specs.Run.{active_count};
+ghost use Rattle.ledger_model.specs.SchemaChanges.{index_count};
 ghost use Rattle.ledger_model.specs.State.{active_table, after, draft_of, empty};
 ghost use Rattle.ledger_model.specs.Views.{latest};
-ghost use Rattle.versions.specs.Held.{drafts_lent, table_of};
+ghost use Rattle.versions.specs.Held.{drafts_lent, indexed_of, recorded_lent, recorded_of, table_of};
+ghost use Rattle.versions.specs.Lookups.{documents_of, last_of_each, name_of};
 ghost use Rattle.versions.specs.Histories.{revisions_of};
-ghost use Rattle.versions.specs.Lookups.{documents_of, index_count, name_of};
 
 use crate::kept::Kept;
 use crate::recorded::{Recorded, ids_among};
@@ -119,6 +120,13 @@ impl Versions {
         active_count(self.tables())
     }
 
+    /// All fields with an index, in the order in which these were made.
+    pub fn all_indexes(&self) -> &[Indexed]
+        ensures { map indexed_of result.now ≡ self.now.indexes }
+    {
+        self.indexes.as_slice()
+    }
+
     /// How many fields of the table have an index.
     pub fn indexes(&self, table: TableId) -> u64
         ensures { result ≡ index_count self.now.indexes table }
@@ -131,6 +139,13 @@ impl Versions {
         ensures { result ≡ has_index self.now.indexes table field.now }
     {
         has_index(self.indexes.as_slice(), table, field.as_str())
+    }
+
+    /// The latest revision of a document with its table, also the one that deletes it, or None where no revision has the id.
+    pub fn recorded(&self, id: DocId) -> Option<&Recorded>
+        ensures { option_map recorded_of (option_copied result) ≡ latest_of self.now.revisions id.raw }
+    {
+        self.shelf.last_of(id)
     }
 
     /// The latest revision of a document, also the one that deletes it, or None where no revision has the id.
@@ -174,8 +189,25 @@ impl Versions {
 
     /// The latest revision of each document, with its table, in order of first insertion. They are lent.
     pub fn newest(&self, alloc: Global) -> Result<Sequence<&Recorded>, OutOfMemory>
-        ensures { IfOk result (λ all. drafts_lent all ≡ latest (map draft_of self.now.revisions)) }
+        ensures drafts { IfOk result (λ all. drafts_lent all ≡ latest (map draft_of self.now.revisions)) }
+        ensures last { IfOk result (λ all. map (λ r. Some r) (recorded_lent all) ≡ last_of_each self.now.revisions) }
     {
-        self.shelf.newest(alloc)
+        let all = self.shelf.newest(alloc)?;
+        Ok(all)
+    }
+
+    /// How many revisions there are, of all documents.
+    pub fn revision_count(&self) -> u64
+        ensures { result ≡ length self.now.revisions }
+    {
+        self.shelf.count()
+    }
+
+    /// The revision at a place in block order, counted from 0, with its document's table, or None past the last one.
+    #[tactic(auto, using(crate::proofs::LastOnes::kept_at))]
+    pub fn recorded_at(&self, place: u64) -> Option<&Recorded>
+        ensures { option_map recorded_of (option_copied result) ≡ slice_get self.now.revisions place }
+    {
+        self.shelf.at(place)
     }
 }

@@ -1,6 +1,6 @@
 use Rattle.std.proofs.Common.{◌≡◌, ◌+◌, ◌≤◌, map, drop}
+use Rattle.ledger_model.specs.SchemaChanges.{index_count}
 use Rattle.versions.specs.Held.{indexed_of}
-use Rattle.versions.specs.Lookups.{index_count}
 use Rattle.versions.proofs.tables.index_count.Given as goal
 
 -- those in front and those of the rest are all
