@@ -1,0 +1,12 @@
+pub mod Effects
+pub mod InRange
+pub mod Inserted
+pub mod Running
+pub mod Overlaid
+pub mod Selects
+pub mod ServedAs
+pub mod Resolving
+pub mod Schemas
+pub mod Touched
+pub mod Walking
+pub mod Written

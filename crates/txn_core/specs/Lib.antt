@@ -1,0 +1,11 @@
+pub mod Effects
+pub mod Inserts
+pub mod Opened
+pub mod Runs
+pub mod Seen
+pub mod Selects
+pub mod Statements
+pub mod Stops
+pub mod Transactions
+pub mod TableViews
+pub mod Writes

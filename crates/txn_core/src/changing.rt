@@ -1,0 +1,92 @@
+//! UPDATE, and FROM with a change.
+ghost use Rattle.std.specs.Prelude.{◌++◌, map};
+ghost use Rattle.ledger_model.specs.Run.{tables_now};
+ghost use Rattle.ledger_model.specs.State.{draft_of};
+ghost use Rattle.ledger_model.specs.Views.{latest};
+ghost use Rattle.ledger_model.specs.Writing.{changed, stored_changes};
+ghost use Rattle.txn_core.specs.Stops.{Comes, Does};
+ghost use Rattle.txn_core.specs.Writes.{Changes, Stands, rows_seen};
+
+use crate::effect::Effect;
+use crate::limits::not_kept;
+use crate::roots::{first_own, written_by};
+use crate::sources::first_absent;
+use crate::stopped::Stopped;
+use crate::table_views::TableViews;
+use crate::touching::Touching;
+use crate::transaction::Txn;
+use ion_values::Value;
+use ledger_model::{Content, Row};
+use pql_change::changed_documents;
+use pql_from::bindings;
+use pql_model::{Bindings, Change, FromClause, Rows};
+use std::alloc::Global;
+
+impl Txn {
+    /// What changes the documents that the rows of the sources name. It stops with `ReservedName` of the first table in the text that
+    /// it writes and that is the ledger's own, with `NoSuchTable` of the first one that isn't active, and where what a document
+    /// becomes isn't stored.
+    pub(crate) fn change(
+        &self,
+        alloc: Global,
+        from: &FromClause,
+        change: &Change,
+        params: &[Value],
+    ) -> Result<Effect, Stopped>
+        ensures { Does result (changed self.now.base self.now.done params.now from.now change.now) }
+    {
+        let sources = from.sources.as_slice();
+        let written = written_by(alloc, sources, change)?;
+        if let Some(cause) = first_own(alloc, sources, &written)? {
+            return Err(Stopped::Refused(cause));
+        }
+        let rows = self.rows_now(alloc, from, params)?;
+        let documents = changed_documents(alloc, change, &rows, params)?;
+        self.keep_all(alloc, documents)
+    }
+
+    /// The rows of the sources. It stops with `NoSuchTable` of the first table in the text that isn't active.
+    pub(crate) fn rows_now(
+        &self,
+        alloc: Global,
+        from: &FromClause,
+        params: &[Value],
+    ) -> Result<Bindings, Stopped>
+        ensures { Comes result (rows_seen (tables_now self.now.base self.now.done) self.now.base (latest (map draft_of self.now.base.revisions ++ self.now.done.log)) params.now from.now) }
+    {
+        let tables = self.tables_now(alloc)?;
+        if let Some(cause) = first_absent(alloc, tables.as_slice(), from.sources.as_slice())? {
+            return Err(Stopped::Refused(cause));
+        }
+        let views = TableViews::new(alloc, tables, &self.base, self.done.log.as_slice())?;
+        let rows = bindings(alloc, from, &views, params)?;
+        Ok(rows)
+    }
+
+    /// What gives each document its content, one after another. It stops at the first one whose content isn't stored.
+    fn keep_all(&self, alloc: Global, documents: Rows) -> Result<Effect, Stopped>
+        ensures { Does result (stored_changes self.now.base self.now.done documents) }
+    {
+        let mut touching = self.touching(alloc)?;
+        'documents: for document in documents.into_vec() {
+            match self.keep(alloc, &mut touching, document) {
+                Ok(()) => {}
+                Err(stopped) => return Err(stopped),
+            }
+        }
+        Ok(touching.effect)
+    }
+
+    /// Gives the document its content, behind those that were touched before.
+    fn keep(&self, alloc: Global, touching: &mut Touching, document: Row) -> Result<(), Stopped>
+        requires { Stands self.now touching.old }
+        ensures { Changes self.now document touching.old result touching.new }
+    {
+        let has_room = touching.has_room_for(document.id);
+        if let Some(cause) = not_kept(alloc, has_room, &document.value)? {
+            return Err(Stopped::Refused(cause));
+        }
+        self.touch(alloc, touching, document.id, Content::Kept(document.value))?;
+        Ok(())
+    }
+}

@@ -1,0 +1,63 @@
+//! DELETE.
+ghost use Rattle.ledger_model.specs.Writing.{deleted, stored_deletes};
+ghost use Rattle.txn_core.specs.Stops.{Does};
+ghost use Rattle.txn_core.specs.Writes.{Deletes, Stands};
+
+use crate::effect::Effect;
+use crate::roots::{Written, first_own};
+use crate::stopped::Stopped;
+use crate::touching::Touching;
+use crate::transaction::Txn;
+use ion_values::Value;
+use ledger_model::{Content, Refusal};
+use pql_change::deleted_documents;
+use pql_model::{DocIds, FromClause};
+use ql_types::DocId;
+use std::alloc::Global;
+
+impl Txn {
+    /// What deletes the documents that the rows of the source name. It stops with `ReservedName` where the table's name is the ledger's
+    /// own, with `NoSuchTable` where no active table has it, and where there is no room for one document more.
+    pub(crate) fn delete(
+        &self,
+        alloc: Global,
+        from: &FromClause,
+        params: &[Value],
+    ) -> Result<Effect, Stopped>
+        ensures { Does result (deleted self.now.base self.now.done params.now from.now) }
+    {
+        let sources = from.sources.as_slice();
+        if let Some(cause) = first_own(alloc, sources, &Written::All)? {
+            return Err(Stopped::Refused(cause));
+        }
+        let rows = self.rows_now(alloc, from, params)?;
+        let documents = deleted_documents(alloc, &rows)?;
+        self.end_all(alloc, documents)
+    }
+
+    /// What deletes each document, one after another. It stops at the first one for which there is no room.
+    fn end_all(&self, alloc: Global, documents: DocIds) -> Result<Effect, Stopped>
+        ensures { Does result (stored_deletes self.now.base self.now.done documents) }
+    {
+        let mut touching = self.touching(alloc)?;
+        'documents: for id in documents.into_vec() {
+            match self.end(alloc, &mut touching, id) {
+                Ok(()) => {}
+                Err(stopped) => return Err(stopped),
+            }
+        }
+        Ok(touching.effect)
+    }
+
+    /// Deletes the document, behind those that were touched before.
+    fn end(&self, alloc: Global, touching: &mut Touching, id: DocId) -> Result<(), Stopped>
+        requires { Stands self.now touching.old }
+        ensures { Deletes self.now id touching.old result touching.new }
+    {
+        if !touching.has_room_for(id) {
+            return Err(Stopped::Refused(Refusal::TooManyRevisions { count: 41 }));
+        }
+        self.touch(alloc, touching, id, Content::Deleted)?;
+        Ok(())
+    }
+}

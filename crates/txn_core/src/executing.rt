@@ -1,0 +1,113 @@
+//! One statement of a transaction, from its text on.
+ghost use Rattle.std.specs.Prelude.{◌≡◌};
+ghost use Rattle.txn_core.specs.Effects.{asked_effect, done_as};
+ghost use Rattle.txn_core.specs.Opened.{Executed, Performed, Told, asked};
+ghost use Rattle.txn_core.specs.Stops.{DoesServed};
+
+use crate::effect::Effect;
+use crate::limits::first_deep;
+use crate::statements::{Served, read_statement, served_of};
+use crate::stopped::Stopped;
+use crate::transaction::Txn;
+use ion_values::{Value, Values, copy_values};
+use ledger_model::{Answer, Refusal};
+use pql_model::Statement;
+use std::alloc::Global;
+
+impl Txn {
+    /// Does one statement on the transaction's version and what its statements have done so far. After a refusal the transaction is
+    /// ended; after `Ended`, which comes to every statement from then on, and after `OutOfMemory` it is as before.
+    #[tactic(auto, using(crate::proofs::Effects::executed_ended, crate::proofs::Effects::executed_done, crate::proofs::Effects::executed_refused, crate::proofs::Effects::executed_wanting))]
+    pub fn execute(
+        &mut self,
+        alloc: Global,
+        text: &str,
+        params: &[Value],
+    ) -> Result<Answer, Refusal>
+        ensures { Executed self.old (asked text.now params.now) result self.new }
+    {
+        if self.ended {
+            return Err(Refusal::Ended);
+        }
+        match self.answered(alloc, text, params) {
+            Ok(rows) => Ok(Answer { rows }),
+            Err(Stopped::Refused(cause)) => {
+                self.ended = true;
+                Err(cause)
+            }
+            Err(Stopped::OutOfMemory) => Err(Refusal::OutOfMemory),
+        }
+    }
+
+    /// Does one statement and answers its rows. Where it isn't done, the transaction is as before.
+    #[tactic(auto, using(crate::proofs::Effects::added_told, crate::proofs::Effects::stops))]
+    fn answered(&mut self, alloc: Global, text: &str, params: &[Value]) -> Result<Values, Stopped>
+        ensures { Told self.old (asked text.now params.now) result self.new }
+    {
+        let effect = match self.effect(alloc, text, params) {
+            Ok(effect) => effect,
+            Err(stopped) => return Err(stopped),
+        };
+        let rows = copy_values(alloc, effect.rows.as_slice())?;
+        self.add(alloc, text, params, effect)?;
+        Ok(rows)
+    }
+
+    /// Does one statement; its answer stays with the transaction. Where it isn't done, the transaction is as before.
+    #[tactic(auto, using(crate::proofs::Effects::added_steps, crate::proofs::Effects::stops))]
+    pub(crate) fn perform(
+        &mut self,
+        alloc: Global,
+        text: &str,
+        params: &[Value],
+    ) -> Result<(), Stopped>
+        ensures { Performed self.old (asked text.now params.now) result self.new }
+    {
+        let effect = match self.effect(alloc, text, params) {
+            Ok(effect) => effect,
+            Err(stopped) => return Err(stopped),
+        };
+        self.add(alloc, text, params, effect)?;
+        Ok(())
+    }
+
+    /// What the statement of this text does with these parameters.
+    fn effect(&self, alloc: Global, text: &str, params: &[Value]) -> Result<Effect, Stopped>
+        ensures { DoesServed result (asked_effect self.now (asked text.now params.now)) }
+    {
+        let statement = read_statement(alloc, text)?;
+        let effect = self.effect_of(alloc, &statement, params);
+        drop(statement);
+        effect
+    }
+
+    /// What the statement does with these parameters.
+    fn effect_of(
+        &self,
+        alloc: Global,
+        statement: &Statement,
+        params: &[Value],
+    ) -> Result<Effect, Stopped>
+        ensures { DoesServed result (done_as self.now params.now statement.now) }
+    {
+        let served = match served_of(statement, params) {
+            Some(Ok(served)) => served,
+            Some(Err(cause)) => return Err(Stopped::Refused(cause)),
+            // No script with such a statement is run.
+            None => return Err(Stopped::OutOfMemory),
+        };
+        if let Some(depth) = first_deep(params) {
+            return Err(Stopped::Refused(Refusal::TooDeep { depth }));
+        }
+        match served {
+            Served::CreateTable { name } => self.create(alloc, name),
+            Served::InsertInto { table, value } => self.insert(alloc, table, value, params),
+            Served::Select { select, from } => self.select(alloc, select, from, params),
+            Served::Update { from, change } => self.change(alloc, from, change, params),
+            Served::From { from, change } => self.change(alloc, from, change, params),
+            Served::Delete { from } => self.delete(alloc, from, params),
+            Served::CreateIndex { table, field } => self.create_index(alloc, table, field),
+            Served::DropTable { name } => self.drop_table(alloc, name),
+        }
+    }
+}

@@ -1,0 +1,32 @@
+//! One transaction: its statements, each as it is done on a version of the state and on what those before it changed.
+#![tactic(auto)]
+
+mod answers;
+mod changing;
+mod creating;
+mod deleting;
+mod dropping;
+mod effect;
+mod executing;
+mod indexing;
+mod inserting;
+mod limits;
+mod progress;
+mod ranges;
+mod roots;
+mod runs;
+mod schema_changes;
+mod selecting;
+mod sources;
+mod statements;
+mod stopped;
+mod table_views;
+mod touching;
+mod transaction;
+mod values;
+mod views;
+
+pub use runs::{Ran, run_statements};
+pub use statements::is_served;
+pub use table_views::TableViews;
+pub use transaction::{Finished, Txn, start_txn};

@@ -1,0 +1,58 @@
+//! SELECT.
+ghost use Rattle.std.specs.Prelude.{◌++◌, map};
+ghost use Rattle.ledger_model.specs.State.{draft_of};
+ghost use Rattle.ledger_model.specs.Run.{selected, tables_now};
+ghost use Rattle.ledger_model.specs.Views.{latest};
+ghost use Rattle.txn_core.specs.Selects.{answer_in};
+ghost use Rattle.txn_core.specs.Stops.{Comes, Does};
+
+use crate::effect::Effect;
+use crate::sources::first_absent;
+use crate::stopped::Stopped;
+use crate::table_views::TableViews;
+use crate::transaction::Txn;
+use ion_values::{Value, Values};
+use ledger_model::Answer;
+use pql_from::bindings;
+use pql_model::{FromClause, Select};
+use pql_select::answer;
+use std::alloc::Global;
+
+impl Txn {
+    /// What selects from the sources. It stops with `NoSuchTable` of the first table in the text that isn't active.
+    pub(crate) fn select(
+        &self,
+        alloc: Global,
+        select: &Select,
+        from: &FromClause,
+        params: &[Value],
+    ) -> Result<Effect, Stopped>
+        ensures { Does result (selected self.now.base self.now.done params.now select.now from.now) }
+    {
+        let rows = self.rows_selected(alloc, select, from, params)?;
+        let mut effect = Effect::new(alloc);
+        effect.rows = rows;
+        Ok(effect)
+    }
+
+    /// What the SELECT answers of the rows of its sources, with `NoSuchTable` as `select`.
+    fn rows_selected(
+        &self,
+        alloc: Global,
+        select: &Select,
+        from: &FromClause,
+        params: &[Value],
+    ) -> Result<Values, Stopped>
+        ensures { Comes result (answer_in (tables_now self.now.base self.now.done) self.now.base
+            (latest (map draft_of self.now.base.revisions ++ self.now.done.log)) params.now select.now from.now) }
+    {
+        let tables = self.tables_now(alloc)?;
+        if let Some(cause) = first_absent(alloc, tables.as_slice(), from.sources.as_slice())? {
+            return Err(Stopped::Refused(cause));
+        }
+        let views = TableViews::new(alloc, tables, &self.base, self.done.log.as_slice())?;
+        let rows = bindings(alloc, from, &views, params)?;
+        let Answer { rows } = answer(alloc, select, &rows, params)?;
+        Ok(rows)
+    }
+}
