@@ -24,9 +24,9 @@ use Rattle.made_blocks.proofs.Journals.{passes_all}
 use Rattle.ledger_claims.proofs.NextUndamaged.{next_is_undamaged}
 use Rattle.ledger_claims.proofs.Standings.{Attempted-IsStanding}
 use Rattle.ledger_core.specs.Tails.{MayHoldPart, joined}
-use Rattle.ledger_core.specs.declared.transaction.Transaction.{Transaction}
-use Rattle.ledger_core.specs.Transactions.{begun_of, progress_of}
-use Rattle.ledger_core.specs.Attempting.{Commits, CommitLeaves, HasRoom, drawn, next_block}
+use Rattle.txn_core.specs.Opened.{Opened}
+use Rattle.ledger_core.specs.Attempting.{Commits, CommitLeaves, HasRoom, next_block}
+use Rattle.ledger_core.specs.Beginning.{drawn}
 
 -- ---- at most 2^32 - 1 blocks
 
@@ -134,7 +134,7 @@ pub can_make : (s : Standing) (time : TimeParts) (p : Placed) → s.mask < 2 ^ 1
 can_make s time p mask timed placed = record { mask_fits = mask; timed = timed; placed = placed }
 
 -- how the statements ended, with what they read
-read_in : (p : Progress) (r : Ran) → ran p ≡ unread_ran r → (q : Progress) × (r ≡ ran q) × (p ≡ unread q)
+pub read_in : (p : Progress) (r : Ran) → ran p ≡ unread_ran r → (q : Progress) × (r ≡ ran q) × (p ≡ unread q)
 read_in p (ran q) e = let same : p ≡ unread q = cc in (q, refl, same)
 read_in p (refused statement cause) e = let bad : ⊥ = cc in absurd bad
 read_in p unserved e = let bad : ⊥ = cc in absurd bad
@@ -144,52 +144,52 @@ refused_in statement cause (ran q) e = let bad : ⊥ = cc in absurd bad
 refused_in statement cause (refused other why) e = sym e
 refused_in statement cause unserved e = let bad : ⊥ = cc in absurd bad
 
-within_read : (p q : Progress) → p ≡ unread q → IsWithinAll p → IsWithinAll q
+pub within_read : (p q : Progress) → unread p ≡ unread q → IsWithinAll p → IsWithinAll q
 within_read p q e h =
-    let r : IsWithinAll (unread q) = subst IsWithinAll e h in
+    let r : IsWithinAll (unread q) = subst IsWithinAll e (record { said = h.said; schema = h.schema; log = h.log }) in
     record { said = r.said; schema = r.schema; log = r.log }
 
-module _ (s : Standing) (time : TimeParts) (p : Placed) (t : Transaction) (tx : TxId) (is : IsStanding s) (can : CanMake s.mask time p.place) (n : IsNext s tx)
-    (ranges : IsWithinAll (progress_of t)) (runs : ran (progress_of t) ≡ unread_ran (ran_next s p)) (begun : begun_of t ≡ next s) (commits : p.job.abort ≡ false) where
-  whole : (q : Progress) × (ran_next s p ≡ ran q) × (progress_of t ≡ unread q)
-  whole = read_in (progress_of t) (ran_next s p) runs
+module _ (s : Standing) (time : TimeParts) (p : Placed) (t : Opened) (tx : TxId) (is : IsStanding s) (can : CanMake s.mask time p.place) (n : IsNext s tx)
+    (ranges : IsWithinAll t.done) (runs : ran (unread t.done) ≡ unread_ran (ran_next s p)) (begun : t.begun ≡ next s) (placed : t.place ≡ p.place) (commits : p.job.abort ≡ false) where
+  whole : (q : Progress) × (ran_next s p ≡ ran q) × (unread t.done ≡ unread q)
+  whole = read_in (unread t.done) (ran_next s p) runs
 
   read : Progress
   read = whole.0
 
   read_ranges : IsWithinAll read
   unfolding read
-  read_ranges = within_read (progress_of t) whole.0 whole.2 ranges
+  read_ranges = within_read t.done whole.0 whole.2 ranges
 
   read_runs : ran_next s p ≡ ran read
   unfolding read
   read_runs = whole.1
 
-  block_is : next_block t s.blocks p.place time ≡ block_of (next s) s.blocks p.place time read
+  block_is : next_block t s.blocks time ≡ block_of (next s) s.blocks p.place time read
   unfolding read
   block_is =
-      ap (λ (b : Begun). block_of b s.blocks p.place time (progress_of t)) begun
+      ap (λ (b : Begun). block_of b s.blocks t.place time t.done) begun ∙ ap (λ (x : Place). block_of (next s) s.blocks x time t.done) placed
       ∙ ap (λ (q : Progress). block_of (next s) s.blocks p.place time q) whole.2
 
-  pub done_stands : HasRoom s → IsStanding (joined (drawn s) (next_block t s.blocks p.place time))
+  pub done_stands : HasRoom s → IsStanding (joined (drawn s) (next_block t s.blocks time))
   done_stands room =
-      next_stands s time p read is can n.counted read_ranges read_runs commits (next_block t s.blocks p.place time) block_is tx n room
+      next_stands s time p read is can n.counted read_ranges read_runs commits (next_block t s.blocks time) block_is tx n room
 
-  pub done_attempted : (o : Outcome) (now : Standing) → Commits tx (drawn s) (next_block t s.blocks p.place time) o now → Attempted s time p o now
+  pub done_attempted : (o : Outcome) (now : Standing) → Commits tx (drawn s) (next_block t s.blocks time) o now → Attempted s time p o now
   done_attempted o now c =
-      commit_is s time p read is can n.counted read_ranges read_runs commits (next_block t s.blocks p.place time) block_is tx o now n c
+      commit_is s time p read is can n.counted read_ranges read_runs commits (next_block t s.blocks time) block_is tx o now n c
 
-  pub done_leaves : (o : Outcome) (now : Standing) (held held_after : Option (List ℕ)) → Commits tx (drawn s) (next_block t s.blocks p.place time) o now
-      → CommitLeaves s.blocks (next_block t s.blocks p.place time) o held held_after → LeavesStore s time p o now held held_after
+  pub done_leaves : (o : Outcome) (now : Standing) (held held_after : Option (List ℕ)) → Commits tx (drawn s) (next_block t s.blocks time) o now
+      → CommitLeaves s.blocks (next_block t s.blocks time) o held held_after → LeavesStore s time p o now held held_after
   done_leaves o now held held_after c l =
-      commit_leaves s time p read is can n.counted read_ranges read_runs commits (next_block t s.blocks p.place time) block_is tx o now held held_after c l
+      commit_leaves s time p read is can n.counted read_ranges read_runs commits (next_block t s.blocks time) block_is tx o now held held_after c l
 
 -- ---- a transaction that isn't committed
 
-pub aborted : (s now : Standing) (time : TimeParts) (p : Placed) (t : Transaction) (tx : TxId) (since : ℕ) → IsNext s tx → now ≡ drawn s
-    → since ≡ length s.blocks → p.job.abort ≡ true → ran (progress_of t) ≡ unread_ran (ran_next s p) → Attempted s time p (Aborted tx since) now
+pub aborted : (s now : Standing) (time : TimeParts) (p : Placed) (t : Opened) (tx : TxId) (since : ℕ) → IsNext s tx → now ≡ drawn s
+    → since ≡ length s.blocks → p.job.abort ≡ true → ran (unread t.done) ≡ unread_ran (ran_next s p) → Attempted s time p (Aborted tx since) now
 aborted s now time p t tx since n e place aborts runs =
-    let whole = read_in (progress_of t) (ran_next s p) runs in
+    let whole = read_in (unread t.done) (ran_next s p) runs in
     (n, draws s now e, place, aborts, (whole.0, whole.1))
 
 pub refused_at : (s now : Standing) (time : TimeParts) (p : Placed) (tx : TxId) (since statement : ℕ) (cause : Refusal) → IsNext s tx

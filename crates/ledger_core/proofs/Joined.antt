@@ -5,9 +5,7 @@ use Rattle.ledger_model.specs.declared.block.Block.{Block}
 use Rattle.ledger_model.specs.Journal.{line, journal_bytes}
 use Rattle.ledger_model.specs.State.{State, state, after}
 use Rattle.ledger_claims.specs.Attempts.{IsStanding}
-use Rattle.ledger_core.specs.declared.catalog.Catalog.{Catalog}
-use Rattle.ledger_core.specs.Catalogs.{Lists}
-use Rattle.ledger_core.specs.Tails.{IsTail, IsListed, HoldsMarked, HoldsPart, MayHoldPart, cleared}
+use Rattle.ledger_core.specs.Tails.{IsTail, HoldsMarked, HoldsPart, MayHoldPart, cleared}
 use Rattle.ledger_core.proofs.Kept.{holds-behind, unmarked, part-marked, part-holds}
 use Rattle.ledger_core.proofs.Standings.{journal-more, state-more}
 
@@ -20,24 +18,24 @@ holds-faulted journal line marked now_marked size before now long held part (inl
 holds-faulted journal line marked now_marked size before now long held part (inr m) =
     subst (λ (b : Bool). HoldsMarked journal b now) (sym m) (part-marked journal line marked size before now long held part)
 
-pub faulted : (mask last : ℕ) (blocks now_blocks : List Block) (marked now_marked : Bool) (size now_size : ℕ) (before now : Option (List ℕ)) (line : List ℕ) (catalog : Option Catalog)
-    → IsTail before (record { mask = mask; last = last; blocks = blocks }) marked size × IsListed blocks catalog
+pub faulted : (mask last : ℕ) (blocks now_blocks : List Block) (marked now_marked : Bool) (size now_size : ℕ) (before now : Option (List ℕ)) (line : List ℕ) (version : State)
+    → IsTail before (record { mask = mask; last = last; blocks = blocks }) marked size × (version ≡ state blocks)
     → now_blocks ≡ blocks → now_size ≡ size → (now ≡ before) ⊎ HoldsPart marked size line before now → ((now ≡ before) × (now_marked ≡ marked)) ⊎ (now_marked ≡ true)
-    → IsTail now (record { mask = mask; last = last; blocks = now_blocks }) now_marked now_size × IsListed now_blocks catalog
-faulted mask last blocks now_blocks marked now_marked size now_size before now line catalog (tail, listed) same_blocks same_size part how = (
+    → IsTail now (record { mask = mask; last = last; blocks = now_blocks }) now_marked now_size × (version ≡ state now_blocks)
+faulted mask last blocks now_blocks marked now_marked size now_size before now line version (tail, listed) same_blocks same_size part how = (
   record {
     stands = subst (λ (bs : List Block). IsStanding (record { mask = mask; last = last; blocks = bs })) (sym same_blocks) tail.stands;
     long = same_size ∙ tail.long ∙ ap (λ bs. length (journal_bytes bs)) (sym same_blocks);
     holds = subst (λ (bs : List Block). HoldsMarked (journal_bytes bs) now_marked now) (sym same_blocks)
         (holds-faulted (journal_bytes blocks) line marked now_marked size before now tail.long tail.holds part how);
   },
-  subst (λ (bs : List Block). IsListed bs catalog) (sym same_blocks) listed,
+  listed ∙ ap state (sym same_blocks),
 )
 
-pub may-hold : (mask last : ℕ) (blocks : List Block) (b : Block) (marked : Bool) (size : ℕ) (before now : Option (List ℕ)) (text : List ℕ) (catalog : Option Catalog)
-    → IsTail before (record { mask = mask; last = last; blocks = blocks }) marked size × IsListed blocks catalog
+pub may-hold : (mask last : ℕ) (blocks : List Block) (b : Block) (marked : Bool) (size : ℕ) (before now : Option (List ℕ)) (text : List ℕ) (version : State)
+    → IsTail before (record { mask = mask; last = last; blocks = blocks }) marked size × (version ≡ state blocks)
     → text ≡ line b → (now ≡ before) ⊎ HoldsPart marked size text before now → MayHoldPart blocks b before now
-may-hold mask last blocks b marked size before now text catalog (tail, listed) is part =
+may-hold mask last blocks b marked size before now text version (tail, listed) is part =
     subst (λ (t : List ℕ). (now ≡ before) ⊎ ((kept : ℕ) × IfSome now (λ bytes. bytes ≡ journal_bytes blocks ++ take kept t))) is
     (part-holds (journal_bytes blocks) text marked size before now tail.long tail.holds part)
 
@@ -47,33 +45,28 @@ on-err (Err e) p = p
 
 -- ---- after an append
 
-pub holds-more : (mask last : ℕ) (blocks now_blocks : List Block) (b : Block) (marked : Bool) (size : ℕ) (before now : Option (List ℕ)) (text : List ℕ) (catalog : Option Catalog)
-    → IsTail before (record { mask = mask; last = last; blocks = blocks }) marked size × IsListed blocks catalog
+pub holds-more : (mask last : ℕ) (blocks now_blocks : List Block) (b : Block) (marked : Bool) (size : ℕ) (before now : Option (List ℕ)) (text : List ℕ) (version : State)
+    → IsTail before (record { mask = mask; last = last; blocks = blocks }) marked size × (version ≡ state blocks)
     → text ≡ line b → now_blocks ≡ blocks ++ b ∷ [] → now ≡ option_map (λ held. cleared marked size held ++ text) before
     → IfSome now (λ bytes. bytes ≡ journal_bytes now_blocks)
-holds-more mask last blocks now_blocks b marked size before now text catalog (tail, listed) is more e =
+holds-more mask last blocks now_blocks b marked size before now text version (tail, listed) is more e =
     let journal : journal_bytes blocks ++ text ≡ journal_bytes now_blocks =
     ap (λ t. journal_bytes blocks ++ t) is ∙ sym (journal-more blocks b) ∙ ap journal_bytes (sym more) in
     subst (λ (j : List ℕ). IfSome now (λ bytes. bytes ≡ j)) journal
     (holds-behind (journal_bytes blocks) text marked size before now tail.long tail.holds e)
 
-listed-more : (blocks : List Block) (b : Block) (catalog now_catalog : Option Catalog) → IsListed blocks catalog
-    → ((s : State) → IfSome catalog (λ listed. Lists s listed) → IfSome now_catalog (λ listed. Lists (after s b) listed)) → IsListed (blocks ++ b ∷ []) now_catalog
-listed-more blocks b catalog now_catalog listed admits =
-    subst (λ (s : State). IfSome now_catalog (λ c. Lists s c)) (sym (state-more blocks b)) (admits (state blocks) listed)
-
-pub appended : (mask last : ℕ) (blocks now_blocks : List Block) (b : Block) (marked now_marked : Bool) (size now_size : ℕ) (before now : Option (List ℕ)) (text : List ℕ) (catalog now_catalog : Option Catalog)
+pub appended : (mask last : ℕ) (blocks now_blocks : List Block) (b : Block) (marked now_marked : Bool) (size now_size : ℕ) (before now : Option (List ℕ)) (text : List ℕ) (version now_version : State)
     → IsStanding (record { mask = mask; last = last; blocks = blocks ++ b ∷ [] })
-    → IsTail before (record { mask = mask; last = last; blocks = blocks }) marked size × IsListed blocks catalog
+    → IsTail before (record { mask = mask; last = last; blocks = blocks }) marked size × (version ≡ state blocks)
     → text ≡ line b → now_blocks ≡ blocks ++ b ∷ [] → now_size ≡ size + length text → now ≡ option_map (λ held. cleared marked size held ++ text) before
-    → ((s : State) → IfSome catalog (λ listed. Lists s listed) → IfSome now_catalog (λ listed. Lists (after s b) listed))
-    → IsTail now (record { mask = mask; last = last; blocks = now_blocks }) now_marked now_size × IsListed now_blocks now_catalog
-appended mask last blocks now_blocks b marked now_marked size now_size before now text catalog now_catalog stands (tail, listed) is more grown e admits = (
+    → now_version ≡ after version b
+    → IsTail now (record { mask = mask; last = last; blocks = now_blocks }) now_marked now_size × (now_version ≡ state now_blocks)
+appended mask last blocks now_blocks b marked now_marked size now_size before now text version now_version stands (tail, listed) is more grown e joins = (
   record {
     stands = subst (λ (bs : List Block). IsStanding (record { mask = mask; last = last; blocks = bs })) (sym more) stands;
     long = grown ∙ ap (λ n. n + length text) tail.long ∙ sym (length-append (journal_bytes blocks) text)
         ∙ ap length (ap (λ t. journal_bytes blocks ++ t) is ∙ sym (journal-more blocks b) ∙ ap journal_bytes (sym more));
-    holds = unmarked (journal_bytes now_blocks) now_marked now (holds-more mask last blocks now_blocks b marked size before now text catalog (tail, listed) is more e);
+    holds = unmarked (journal_bytes now_blocks) now_marked now (holds-more mask last blocks now_blocks b marked size before now text version (tail, listed) is more e);
   },
-  subst (λ (bs : List Block). IsListed bs now_catalog) (sym more) (listed-more blocks b catalog now_catalog listed admits),
+  joins ∙ ap (λ (s : State). after s b) listed ∙ sym (state-more blocks b) ∙ ap state (sym more),
 )

@@ -1,6 +1,6 @@
 -- What an undamaged journal's blocks tell of its transactions and its state.
-use Rattle.std.proofs.Common.{◌≡◌, ◌∙◌, ℕ, suc, ◌+◌, ◌-◌, ◌^◌, ◌<◌, ◌≤◌, max, Bool, true, false, not, List, [], ◌∷◌, ◌++◌, length, take, drop, get_or, append-nil, length-append, length-drop, refl, sym, ap, subst, arith, Some, None, if◌then◌else◌}
-use Rattle.std.proofs.Math.Seq.{take-suc}
+use Rattle.std.proofs.Common.{◌≡◌, ◌∙◌, ℕ, ◌+◌, ◌-◌, ◌^◌, ◌<◌, ◌≤◌, max, Bool, true, false, not, List, [], ◌∷◌, ◌++◌, length, take, drop, get_or, append-nil, length-append, length-drop, refl, sym, ap, subst, arith, Some, None, if◌then◌else◌}
+use Rattle.std.proofs.lemmas.List.{take_more}
 use Rattle.std.proofs.lemmas.Bool.{and_parts, ltb-true}
 use Rattle.std.proofs.lemmas.List.Concat.{flat_map-append}
 use Rattle.ql_types.specs.Ids.{transaction_in}
@@ -13,8 +13,6 @@ use Rattle.ledger_model.specs.Follows.{follows}
 use Rattle.ledger_model.specs.Recovered.{IsJournal}
 use Rattle.ledger_claims.specs.Attempts.{IsStanding}
 use Rattle.ledger_claims.specs.Fits.{greatest, mask_of}
-use Rattle.ledger_core.specs.declared.catalog.Catalog.{Catalog}
-use Rattle.ledger_core.specs.Catalogs.{Lists}
 
 -- ---- numbers
 
@@ -92,8 +90,8 @@ state-more blocks b = state_from-more _ blocks b
 pub journal-more : (blocks : List Block) (b : Block) → journal_bytes (blocks ++ b ∷ []) ≡ journal_bytes blocks ++ line b
 journal-more blocks b = flat_map-append line blocks (b ∷ []) ∙ ap (λ z. journal_bytes blocks ++ z) (append-nil (line b))
 
-pub listed-next : (blocks : List Block) (i j : ℕ) (b : Block) (catalog : Catalog) → j ≡ suc i → i < length blocks → b ≡ get_or blocks i b
-    → Lists (after (state (take i blocks)) b) catalog → Lists (state (take j blocks)) catalog
-listed-next blocks i j b catalog next within is listed =
-    let more : take j blocks ≡ take i blocks ++ b ∷ [] = ap (λ n. take n blocks) next ∙ take-suc blocks i b within ∙ ap (λ x. take i blocks ++ x ∷ []) (sym is) in
-    subst (λ (s : State). Lists s catalog) (sym (ap state more ∙ state-more (take i blocks) b)) listed
+pub version-next : (blocks : List Block) (i : ℕ) (b : Block) (version now : State) → i < length blocks → b ≡ get_or blocks i b
+    → version ≡ state (take i blocks) → now ≡ after version b → now ≡ state (take (i + 1) blocks)
+version-next blocks i b version now within is so_far joins =
+    let more : take (i + 1) blocks ≡ take i blocks ++ b ∷ [] = take_more blocks i b within ∙ ap (λ (x : Block). take i blocks ++ x ∷ []) (sym is) in
+    joins ∙ ap (λ (s : State). after s b) so_far ∙ sym (ap state more ∙ state-more (take i blocks) b)

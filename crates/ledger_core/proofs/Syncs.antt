@@ -1,5 +1,5 @@
 -- What the calls of a store do to the bytes that it tells, and when all of them are synced.
-use Rattle.std.proofs.Common.{◌≡◌, ◌∙◌, ℕ, ◌⊎◌, inl, inr, List, ◌++◌, length, take, append-nil, refl, sym, ap, subst, Option, Some, None, Result, Ok, Err}
+use Rattle.std.proofs.Common.{◌≡◌, ◌∙◌, ℕ, inl, inr, List, ◌++◌, length, take, append-nil, refl, sym, ap, subst, Option, Some, None, Result, Ok, Err}
 use Rattle.std.proofs.Math.Seq.{take-length}
 use Rattle.std.specs.Prelude.{option_map, IfSome}
 use Rattle.outside.specs.Store.{Content, AppendLeaves, CutLeaves, SyncLeaves, appended, cut_to, lowered, synced_whole}

@@ -1,31 +1,25 @@
--- How one transaction is committed: the number that is drawn for it, the block that it becomes, and what the commit does.
-use Rattle.std.specs.Prelude.{◌≡◌, ℕ, ◌+◌, ◌-◌, ◌^◌, ◌<◌, List, [], ◌∷◌, ◌++◌, length, Option}
+-- How one transaction is committed: the block that it becomes, and what the commit does.
+use Rattle.std.specs.Prelude.{◌≡◌, ℕ, ◌-◌, ◌^◌, ◌<◌, List, [], ◌∷◌, ◌++◌, length, Option}
 use Rattle.ion_values.specs.declared.time.TimeParts.{TimeParts}
-use Rattle.ql_types.specs.declared.Place.{Place}
 use Rattle.ql_types.specs.declared.TxId.{TxId}
 use Rattle.ledger_model.specs.declared.block.Block.{Block}
 use Rattle.ledger_model.specs.declared.outcome.Outcome.{Outcome}
 use Rattle.ledger_model.specs.declared.outcome.Outcome.TheVariants.{Committed, StoreFault, JournalFull, OutOfMemory}
-use Rattle.ledger_model.specs.Run.{Begun}
 use Rattle.ledger_model.specs.Making.{block_of}
 use Rattle.ledger_claims.specs.Attempts.{Standing}
 use Rattle.ledger_claims.specs.Stores.{Holding, IsSynced}
 use Rattle.outside.specs.Told.{StoreTold, held}
-use Rattle.ledger_core.specs.declared.transaction.Transaction.{Transaction}
+use Rattle.txn_core.specs.Opened.{Opened}
+use Rattle.ledger_core.specs.declared.appending.Receipt.{Receipt}
 use Rattle.ledger_core.specs.Tails.{MayHoldPart, joined}
-use Rattle.ledger_core.specs.Transactions.{begun_of, progress_of}
-
--- one number more was drawn
-abbrev pub drawn : Standing → Standing
-drawn s = record s { last = s.last + 1 }
-
--- the transaction of the last number
-abbrev pub begun_last : Standing → Begun
-begun_last s = record { mask = s.mask; number = s.last }
 
 -- the block that a transaction becomes behind these blocks
-abbrev pub next_block : Transaction → List Block → Place → TimeParts → Block
-next_block t before place time = block_of (begun_of t) before place time (progress_of t)
+abbrev pub next_block : Opened → List Block → TimeParts → Block
+next_block t before time = block_of t.begun before t.place time t.done
+
+-- what a commit tells of its block
+abbrev pub receipt_of : Block → Receipt
+receipt_of b = record { block = b.header.address.sequence; hash = b.hash; time = b.header.time }
 
 -- there is a place for one block more
 abbrev pub HasRoom : Standing → Type 0

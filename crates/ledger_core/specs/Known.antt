@@ -5,16 +5,15 @@ use Rattle.ledger_model.specs.State.{state}
 use Rattle.ledger_claims.specs.Attempts.{Standing, IsStanding}
 use Rattle.ledger_claims.specs.Fits.{greatest, mask_of}
 use Rattle.ledger_core.specs.declared.reload.Loaded.{Loaded}
-use Rattle.ledger_core.specs.Catalogs.{Lists}
 
 abbrev pub standing_of : Loaded → Standing
 standing_of l = record { mask = l.mask.bits; last = l.last; blocks = l.blocks.list }
 
 -- the mask is that of the blocks or the given one, the last number the greatest of the blocks, the size that of their lines,
--- and the catalog lists their state
+-- and the version is their state
 pub record IsKnown (given : ℕ) (l : Loaded) : Type 0 where
   pub stands : IsStanding (standing_of l)
   pub mask : l.mask.bits ≡ mask_of given l.blocks.list
   pub last : l.last ≡ greatest l.mask.bits l.blocks.list
   pub size : l.size ≡ length (journal_bytes l.blocks.list)
-  pub listed : Lists (state l.blocks.list) l.catalog
+  pub version : l.version ≡ state l.blocks.list

@@ -1,14 +1,7 @@
 pub mod Attempting
-pub mod Catalogs
+pub mod Beginning
+pub mod Committing
 pub mod Faults
-pub mod Inserts
 pub mod Known
 pub mod Loads
-pub mod Places
-pub mod Ranges
-pub mod Selects
-pub mod Statements
-pub mod Stops
 pub mod Tails
-pub mod Transactions
-pub mod UserViews

@@ -5,10 +5,7 @@ use Rattle.std.specs.Coded.{Coded, code_by, coded×, coded_ℕ, coded_bool, code
 use Rattle.ledger_model.specs.declared.block.Block.{Block}
 use Rattle.ledger_model.specs.contracts.block.Block as block
 use Rattle.ledger_model.specs.Journal.{line, journal_bytes}
-use Rattle.ledger_model.specs.State.{state}
 use Rattle.ledger_claims.specs.Attempts.{Standing, IsStanding, HoldsBehind}
-use Rattle.ledger_core.specs.declared.catalog.Catalog.{Catalog}
-use Rattle.ledger_core.specs.Catalogs.{Lists}
 
 -- the store and the clock, what the ledger stands for between two transactions, and whether the store is to be cut to the
 -- lines of the blocks before it takes another one
@@ -41,10 +38,6 @@ pub record IsTail (held : Option (List ℕ)) (standing : Standing) (marked : Boo
   pub stands : IsStanding standing
   pub long : size ≡ length (journal_bytes standing.blocks)
   pub holds : HoldsMarked (journal_bytes standing.blocks) marked held
-
--- a catalog that is there lists the state of the blocks
-abbrev pub IsListed : List Block → Option Catalog → Type 0
-IsListed blocks catalog = IfSome catalog (λ listed. Lists (state blocks) listed)
 
 -- the bytes without what is marked to be cut
 abbrev pub cleared : Bool → ℕ → List ℕ → List ℕ

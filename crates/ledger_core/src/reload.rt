@@ -9,15 +9,15 @@ ghost use Rattle.ledger_claims.specs.Fits.{greatest, mask_of};
 ghost use Rattle.ledger_core.specs.Loads.{IsRead, IsLoaded, IsCause, cause_told};
 ghost use Rattle.ledger_core.specs.Known.{IsKnown, standing_of};
 
-use crate::catalog::Catalog;
 use crate::keeping::Keeper;
-use crate::tail::{Tail, list_blocks};
+use crate::tail::{Tail, version_of};
 use journal_text::{JournalFault, read_journal};
 use ledger_model::{Block, Blocks, Damage};
 use outside::{JournalStore, OutFault};
 use ql_types::{IdMask, id_parts};
 use std::alloc::Global;
 use thiserror::Error;
+use versions::Versions;
 
 /// Why no journal was loaded.
 #[derive(Clone, Copy, Debug, PartialEq, Eq, Error)]
@@ -60,7 +60,7 @@ struct Loaded {
     mask: IdMask,
     last: u64,
     blocks: Blocks,
-    catalog: Catalog,
+    version: Versions,
     size: u64,
     marked: bool,
 }
@@ -109,7 +109,7 @@ fn tail_of<S: JournalStore, C>(store: S, clock: C, loaded: Loaded) -> Tail<S, C>
         mask,
         last,
         blocks,
-        catalog,
+        version,
         size,
         marked,
     } = loaded;
@@ -123,7 +123,7 @@ fn tail_of<S: JournalStore, C>(store: S, clock: C, loaded: Loaded) -> Tail<S, C>
         mask,
         last,
         blocks,
-        catalog: Some(catalog),
+        version,
     }
 }
 
@@ -186,12 +186,12 @@ fn loaded_of(alloc: Global, bytes: &[u8], given: IdMask) -> Result<Loaded, Journ
     let (blocks, size) = read_journal(alloc, bytes)?;
     let mask = mask_of(blocks.as_slice(), given);
     let last = greatest_number(mask, blocks.as_slice());
-    let catalog = list_blocks(alloc, blocks.as_slice())?;
+    let version = version_of(alloc, blocks.as_slice())?;
     Ok(Loaded {
         mask,
         last,
         blocks,
-        catalog,
+        version,
         size,
         marked: size < bytes.len() as u64,
     })

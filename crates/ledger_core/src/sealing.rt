@@ -2,108 +2,62 @@
 ghost use Rattle.std.specs.Prelude.{◌≡◌, int_le, map, IfOk, if◌then◌else◌};
 ghost use Rattle.ion_values.specs.Time.{instant_of};
 ghost use Rattle.ledger_model.specs.Legal.{last_hash};
-ghost use Rattle.ledger_model.specs.Making.{block_of, revision_of, time_behind};
-ghost use Rattle.ledger_model.specs.Run.{is_left, left_of};
-ghost use Rattle.ledger_model.specs.Views.{latest};
+ghost use Rattle.ledger_model.specs.Making.{revision_of, time_behind};
+ghost use Rattle.ledger_core.specs.Attempting.{next_block};
 
-use crate::documents::Documents;
-use crate::transaction::Transaction;
-use crate::views::{copy_content, copy_draft};
 use block_form::{revision_hash, seal, strand_hash};
 use ion_values::{IonTime, OutOfMemory};
-use ledger_model::{
-    Block, Content, Draft, Drafts, Header, Info, Metadata, Revision, Revisions, TableIds, Told,
-};
+use ledger_model::{Block, Draft, Header, Info, Metadata, Revision, Revisions, TableIds, Told};
 use lists::Sequence;
-use ql_types::{BlockAddress, Hash32, IdMask, Place, StrandId, TxId, id_raw};
+use ql_types::{BlockAddress, Hash32, IdMask, StrandId, TxId, id_raw};
 use std::alloc::Global;
+use txn_core::{Finished, Txn};
+use versions::copy_content;
 
-impl Transaction {
-    ghost use Rattle.ledger_core.specs.Transactions.{progress_of, begun_of};
-
-    /// The transaction as the next block behind these: at this place of the script, made at this time, or at that of the
-    /// last block where it is later.
-    pub(crate) fn into_block(
-        self,
-        alloc: Global,
-        place: Place,
-        time: IonTime,
-        before: &[Block],
-    ) -> Result<Block, OutOfMemory>
-        ensures { IfOk result (λ block. block ≡ block_of (begun_of self) before.now place time (progress_of self)) }
-    {
-        let Transaction {
-            mask,
-            number,
-            said,
-            schema,
-            log,
-            ..
-        } = self;
-        let drafts = left_of(alloc, log.as_slice())?;
-        // So many revisions find no memory.
-        let Ok(count) = u32::try_from(drafts.len()) else {
-            return Err(OutOfMemory);
-        };
-        let strand = StrandId { raw: mask.bits };
-        let header = Header {
-            address: BlockAddress {
-                strand,
-                sequence: before.len() as u64,
-            },
-            tx: TxId {
-                raw: id_raw(mask, number, 0),
-            },
-            time: time_behind(before, time),
-            revisions: count,
-        };
-        let tables = tables_of(alloc, drafts.as_slice())?;
-        let revisions = revisions_of(alloc, &header, drafts.as_slice())?;
-        let previous = last_hash(alloc, mask, before)?;
-        let info = Info {
-            place,
-            said: Told::Said(said),
-            schema,
-            tables,
-        };
-        let block = seal(alloc, previous, header, info, revisions)?;
-        Ok(block)
-    }
-}
-
-/// The revisions that are left of those that pend, each with its document's last content, in order of first touch.
-fn left_of(alloc: Global, log: &[Draft]) -> Result<Drafts, OutOfMemory>
-    ensures { IfOk result (λ left. left ≡ left_of log.now) }
+/// The transaction as the next block behind these: made at this time, or at that of the last block where it is later.
+pub(crate) fn into_block(
+    alloc: Global,
+    txn: Txn,
+    time: IonTime,
+    before: &[Block],
+) -> Result<Block, OutOfMemory>
+    ensures { IfOk result (λ block. block ≡ next_block txn before.now time) }
 {
-    let documents = latest(alloc, log)?;
-    let mut left = Sequence::new(alloc);
-    'drafts: for draft in documents.into_vec() {
-        if is_left(&draft) {
-            left.push(draft)?;
-        }
-    }
-    Ok(left)
-}
-
-/// Whether the revision is left: it isn't that of a new document that was deleted again.
-fn is_left(draft: &Draft) -> bool
-    ensures { result ≡ is_left draft.now }
-{
-    match draft.content {
-        Content::Deleted => draft.version != 0,
-        Content::Kept(_) | Content::Redacted(_) => true,
-    }
-}
-
-/// The documents in order of first insertion, each with its latest revision.
-fn latest(alloc: Global, log: &[Draft]) -> Result<Drafts, OutOfMemory>
-    ensures { IfOk result (λ documents. documents ≡ latest log.now) }
-{
-    let mut documents = Documents::new(alloc);
-    'drafts: for draft in log {
-        documents.put(copy_draft(alloc, draft)?)?;
-    }
-    Ok(documents.into_drafts())
+    let Finished {
+        mask,
+        number,
+        place,
+        said,
+        schema,
+        drafts,
+    } = txn.finish(alloc)?;
+    // So many revisions find no memory.
+    let Ok(count) = u32::try_from(drafts.len()) else {
+        return Err(OutOfMemory);
+    };
+    let strand = StrandId { raw: mask.bits };
+    let header = Header {
+        address: BlockAddress {
+            strand,
+            sequence: before.len() as u64,
+        },
+        tx: TxId {
+            raw: id_raw(mask, number, 0),
+        },
+        time: time_behind(before, time),
+        revisions: count,
+    };
+    let tables = tables_of(alloc, drafts.as_slice())?;
+    let revisions = revisions_of(alloc, &header, drafts.as_slice())?;
+    let previous = last_hash(alloc, mask, before)?;
+    let info = Info {
+        place,
+        said: Told::Said(said),
+        schema,
+        tables,
+    };
+    let block = seal(alloc, previous, header, info, revisions)?;
+    Ok(block)
 }
 
 /// This time, or that of the last block where it isn't before this one.

@@ -1,14 +1,12 @@
 //! The tail of a journal over its store.
-ghost use Rattle.std.specs.Prelude.{◌≡◌, IfOk, OnErr, OnOk, IfErr, IfSome, ◌≤◌, ◌⊎◌, true, false};
-ghost use Rattle.ledger_model.specs.State.{State, state, after};
+ghost use Rattle.std.specs.Prelude.{◌≡◌, IfOk, OnErr, OnOk, IfErr, ◌<◌, ◌^◌, ◌≤◌, ◌⊎◌, true, false};
+ghost use Rattle.ledger_model.specs.State.{state};
 ghost use Rattle.ledger_claims.specs.Attempts.{IsStanding};
 ghost use Rattle.ledger_claims.specs.Stores.{Holding, IsSynced};
 ghost use Rattle.outside.specs.Told.{held};
-ghost use Rattle.ledger_core.specs.Catalogs.{Lists};
 ghost use Rattle.ledger_core.specs.Faults.{IsSettleFault};
-ghost use Rattle.ledger_core.specs.Tails.{IsListed, MayHoldPart, joined};
+ghost use Rattle.ledger_core.specs.Tails.{MayHoldPart, joined};
 
-use crate::catalog::Catalog;
 use crate::keeping::{Keeper, SettleFault};
 use ion_values::OutOfMemory;
 use journal_text::line;
@@ -17,6 +15,7 @@ use outside::JournalStore;
 use ql_types::IdMask;
 use std::alloc::Global;
 use std::marker::Model;
+use versions::Versions;
 
 /// The blocks of a journal and the store that keeps them, with the clock that tells when a block was made. Behind the
 /// lines of the blocks the store holds nothing, or a rest that is marked to be cut.
@@ -28,13 +27,15 @@ pub struct Tail<S: JournalStore, C> {
     /// The last number of a transaction that was drawn or found.
     pub(crate) last: u64,
     pub(crate) blocks: Blocks,
-    /// What the blocks list. It is made again where there was no memory to take in the last block.
-    pub(crate) catalog: Option<Catalog>,
+    /// What the blocks stand for.
+    pub(crate) version: Versions,
 }
 
 impl<S: JournalStore, C> Model for Tail<S, C> {
+    ghost use Rattle.std.specs.Prelude.{◌≡◌};
     ghost use Rattle.outside.specs.Told.{held};
-    ghost use Rattle.ledger_core.specs.Tails.{TailHeld, tail_code, IsTail, IsListed};
+    ghost use Rattle.ledger_model.specs.State.{state};
+    ghost use Rattle.ledger_core.specs.Tails.{TailHeld, tail_code, IsTail};
 
     ghost Value = { TailHeld S C };
 
@@ -47,7 +48,7 @@ impl<S: JournalStore, C> Model for Tail<S, C> {
       marked = t.keeper.marked;
     } };
 
-    ghost invariant = { λ t. IsTail (held (S.told t.keeper.store)) (record { mask = t.mask.bits; last = t.last; blocks = t.blocks.list }) t.keeper.marked t.keeper.size × IsListed t.blocks.list t.catalog };
+    ghost invariant = { λ t. IsTail (held (S.told t.keeper.store)) (record { mask = t.mask.bits; last = t.last; blocks = t.blocks.list }) t.keeper.marked t.keeper.size × (t.version ≡ state t.blocks.list) };
 }
 
 impl<S: JournalStore, C> Tail<S, C> {
@@ -57,6 +58,15 @@ impl<S: JournalStore, C> Tail<S, C> {
         ensures standing { IsStanding self.now.standing }
     {
         &self.blocks
+    }
+
+    /// What the tail keeps true. It does nothing.
+    pub(crate) fn is_tail(&self)
+        ensures stands { IsStanding self.now.standing }
+        ensures mask { self.now.standing.mask < 2 ^ 128 }
+        ensures clean { (self.now.marked ≡ true) ⊎ Holding self.now.standing.blocks (held (S.told self.now.store)) }
+    {
+        let _mask = self.mask.bits;
     }
 
     /// Puts a block behind the others, in the store first. After a fault the blocks are as before.
@@ -75,31 +85,21 @@ impl<S: JournalStore, C> Tail<S, C> {
         ensures fine { OnOk result ((S.told self.new.store).faults ≡ (S.told self.old.store).faults) }
         ensures fault { IfErr result (λ fault. IsSettleFault fault (S.told self.old.store) (S.told self.new.store)) }
     {
-        let text = line(alloc, &block)?;
+        let version = self.version.after(&block)?;
         self.blocks.make_room()?;
+        let text = line(alloc, &block)?;
         self.keeper.keep_line(text.as_str().as_bytes())?;
-        self.catalog = with_block(alloc, self.catalog.take(), &block);
+        self.version = version;
         self.blocks.push(block).unwrap();
         Ok(())
     }
 
-    /// The catalog of the blocks, to be read and put back. It is made of the blocks where there is none.
-    pub(crate) fn take_catalog(&mut self, alloc: Global) -> Result<Catalog, OutOfMemory>
-        ensures listed { IfOk result (λ catalog. Lists (state self.old.standing.blocks) catalog) }
-        ensures same { self.new ≡ self.old }
+    /// The version of the blocks, for a transaction to run on.
+    pub(crate) fn share_version(&self) -> Result<Versions, OutOfMemory>
+        ensures { IfOk result (λ version. version ≡ state self.now.standing.blocks) }
     {
-        match self.catalog.take() {
-            Some(catalog) => Ok(catalog),
-            None => list_blocks(alloc, self.blocks.as_slice()),
-        }
-    }
-
-    /// Puts the catalog of the blocks back.
-    pub(crate) fn put_catalog(&mut self, catalog: Catalog)
-        requires { Lists (state self.old.standing.blocks) catalog }
-        ensures same { self.new ≡ self.old }
-    {
-        self.catalog = Some(catalog);
+        let version = self.version.share()?;
+        Ok(version)
     }
 
     /// The blocks, the store and the clock. It takes no memory.
@@ -114,7 +114,7 @@ impl<S: JournalStore, C> Tail<S, C> {
             blocks,
             mask: _,
             last: _,
-            catalog: _,
+            version: _,
         } = self;
         let Keeper {
             store,
@@ -125,22 +125,14 @@ impl<S: JournalStore, C> Tail<S, C> {
     }
 }
 
-/// The catalog with a block more. Where there is no memory to take it in, there is no catalog.
-fn with_block(alloc: Global, catalog: Option<Catalog>, block: &Block) -> Option<Catalog>
-    ensures { (s : State) → IfSome catalog (λ listed. Lists s listed) → IfSome result (λ listed. Lists (after s block.now) listed) }
+/// The version of these blocks.
+pub(crate) fn version_of(alloc: Global, blocks: &[Block]) -> Result<Versions, OutOfMemory>
+    ensures { IfOk result (λ version. version ≡ state blocks.now) }
 {
-    let mut catalog = catalog?;
-    catalog.admit(alloc, block).ok()?;
-    Some(catalog)
-}
-
-/// The catalog of these blocks.
-pub(crate) fn list_blocks(alloc: Global, blocks: &[Block]) -> Result<Catalog, OutOfMemory>
-    ensures { IfOk result (λ listed. Lists (state blocks.now) listed) }
-{
-    let mut catalog = Catalog::new(alloc);
+    let mut version = Versions::empty(alloc);
     'admitted: for block in blocks {
-        catalog.admit(alloc, block)?;
+        let next = version.after(block)?;
+        version = next;
     }
-    Ok(catalog)
+    Ok(version)
 }

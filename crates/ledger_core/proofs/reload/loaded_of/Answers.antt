@@ -2,7 +2,6 @@ use Rattle.std.proofs.Common.{◌≡◌, ◌∙◌, ◌^◌, ◌<◌, List, ap, 
 use Rattle.ledger_model.specs.declared.block.Block.{Block}
 use Rattle.ledger_model.specs.State.{state}
 use Rattle.ledger_claims.specs.Fits.{greatest, mask_of}
-use Rattle.ledger_core.specs.Catalogs.{Lists}
 use Rattle.ledger_core.proofs.Standings.{known, lines-end}
 use Rattle.ledger_core.proofs.reload.loaded_of.Goals as goal
 
@@ -17,5 +16,5 @@ returns-clause-facts c =
       mask = of_blocks;
       last = k.1;
       size = lines-end _ _ _ c.in_ok-blocks.ensures.journal c.in_ok-blocks.ensures.within;
-      listed = subst (λ (bs : List Block). Lists (state bs) c.in_ok-catalog.catalog) c.as_slice-3.ensures c.in_ok-catalog.ensures;
+      version = c.in_ok-version.ensures ∙ ap state c.as_slice-3.ensures;
     }

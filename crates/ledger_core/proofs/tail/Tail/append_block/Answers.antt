@@ -25,8 +25,8 @@ invariant_of-self-2 g c =
     let is : c.as_bytes.result.now ≡ line c.args.block = search rules in
     let more = IfOk-at_ok _ c.unwrap.ensures c.push.ensures.pushed ∙ ap (λ bs. bs ++ c.args.block ∷ []) c.make_room.ensures.list in
     let stands = subst (λ (t : TailHeld _ _). IsStanding (joined t.standing c.args.block)) (sym c.self.view_is) c.requires in
-    appended _ _ _ _ c.args.block _ _ _ _ _ _ c.as_bytes.result.now c.self.inside.catalog _ stands c.self.invariant is more
-    c.in_ok-keep_line.ensures.size c.in_ok-keep_line.ensures.bytes (search rules)
+    appended _ _ _ _ c.args.block _ _ _ _ _ _ c.as_bytes.result.now _ _ stands c.self.invariant is more
+    c.in_ok-keep_line.ensures.size c.in_ok-keep_line.ensures.bytes c.in_ok-version.ensures
 
 pub returns-clause-holds : goal.returns-clause-holds
 returns-clause-holds g c =

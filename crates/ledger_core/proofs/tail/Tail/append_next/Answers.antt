@@ -1,16 +1,15 @@
 use Rattle.std.proofs.Common.{◌≡◌, ◌∙◌, List, ap, subst}
-use Rattle.std.specs.Prelude.{OnErr}
 use Rattle.ledger_model.specs.declared.block.Block.{Block}
 use Rattle.outside.specs.Told.{held}
 use Rattle.ledger_core.specs.Tails.{MayHoldPart}
 use Rattle.ledger_core.specs.Attempting.{next_block}
+use Rattle.ledger_core.proofs.Joined.{on-err}
 use Rattle.ledger_core.proofs.tail.Tail.append_next.Goals as goal
 
-pub returns-clause-part : goal.returns-clause-part
-returns-clause-part g c =
+pub returns-in_err-append_block-clause-part : goal.returns-in_err-append_block-clause-part
+returns-in_err-append_block-clause-part g c =
     let before = held (g.S.JournalStore.told c.args.self.now.store) in
     let after = held (g.S.JournalStore.told c.append_block.new.self.store) in
-    let is : c.in_ok-block.block ≡ next_block c.args.transaction c.args.self.now.standing.blocks c.args.place c.args.time =
-    c.in_ok-block.ensures ∙ ap (λ (bs : List Block). next_block c.args.transaction bs c.args.place c.args.time) (c.as_slice.ensures ∙ c.blocks-2.ensures.blocks) in
-    subst (λ (b : Block). OnErr c.append_block.result (MayHoldPart c.args.self.now.standing.blocks b before after)) is
-    c.append_block.ensures.part
+    let is : c.in_ok-block.block ≡ next_block c.args.txn c.args.self.now.standing.blocks c.args.time =
+    c.in_ok-block.ensures ∙ ap (λ (bs : List Block). next_block c.args.txn bs c.args.time) (c.as_slice.ensures ∙ c.blocks-2.ensures.blocks) in
+    on-err _ (subst (λ (b : Block). MayHoldPart c.args.self.now.standing.blocks b before after) is c.in_err-append_block.ensures.part)

@@ -1,0 +1,13 @@
+//! Tests of the tail of a journal over stores in memory.
+#![tactic(auto)]
+
+#[cfg(test)]
+mod attempts;
+#[cfg(test)]
+mod commits;
+#[cfg(test)]
+mod loads;
+#[cfg(test)]
+mod settles;
+#[cfg(test)]
+mod stores;

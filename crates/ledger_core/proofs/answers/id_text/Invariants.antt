@@ -1,5 +1,0 @@
-use Rattle.std.proofs.Common.{◌≡◌, take}
-use Rattle.ledger_core.proofs.answers.id_text.Given as goal
-
-abbrev pub invariant-digits : goal.invariant-digits
-invariant-digits l = l.text ≡ take l.digit-index l.digit-items

@@ -1,8 +1,0 @@
-use Rattle.std.proofs.Common.{◌≡◌, drop}
-use Rattle.std.specs.List.{list_all}
-use Rattle.made_blocks.specs.Makes.{draft_within}
-use Rattle.ledger_core.proofs.ranges.drafts_are_within.Given as goal
-
--- those in front are within
-abbrev pub invariant-drafts : goal.invariant-drafts
-invariant-drafts l = list_all draft_within (drop l.draft-index l.drafts) ≡ list_all draft_within l.drafts

@@ -1,8 +1,0 @@
-use Rattle.std.proofs.Common.{◌≡◌, map, drop}
-use Rattle.ledger_model.specs.State.{all_changed}
-use Rattle.ledger_core.specs.Catalogs.{table_of}
-use Rattle.ledger_core.proofs.tables.change_all.Given as goal
-
--- what is left changes what stands so far into what all changes give
-abbrev pub invariant-loop-change : goal.invariant-loop-change
-invariant-loop-change l = all_changed (map table_of l.tables.items) (drop l.change-index l.changes) ≡ all_changed (map table_of l.initial.tables.items) l.changes

@@ -1,0 +1,80 @@
+//! Putting a transaction's block behind the others.
+ghost use Rattle.std.specs.Prelude.{◌≡◌, ◌≤◌, ◌⊎◌, true, IfOk, OnOk, OnErr, IfErr, IsTrue};
+ghost use Rattle.ion_values.specs.Time.{is_time};
+ghost use Rattle.ledger_model.specs.Whole.{place_fits};
+ghost use Rattle.ledger_claims.specs.Attempts.{IsStanding};
+ghost use Rattle.ledger_claims.specs.Stores.{Holding, IsSynced};
+ghost use Rattle.outside.specs.Told.{held};
+ghost use Rattle.ledger_core.specs.Faults.{IsSettleFault};
+ghost use Rattle.ledger_core.specs.Tails.{MayHoldPart, joined};
+ghost use Rattle.ledger_core.specs.Attempting.{next_block, receipt_of};
+
+use crate::keeping::SettleFault;
+use crate::sealing::into_block;
+use crate::tail::Tail;
+use ion_values::IonTime;
+use ledger_model::Block;
+use outside::JournalStore;
+use ql_types::{Hash32, Place};
+use std::alloc::Global;
+use txn_core::Txn;
+
+/// The most blocks that a journal has.
+pub(crate) const MOST_BLOCKS: u64 = (1 << 32) - 1;
+
+/// What a commit tells of its block: its number, its hash and its time.
+#[derive(Clone, Copy, Debug, PartialEq, Eq)]
+pub struct Receipt {
+    pub block: u64,
+    pub hash: Hash32,
+    pub time: IonTime,
+}
+
+impl<S: JournalStore, C> Tail<S, C> {
+    /// Puts the transaction's block behind the others, in the store first, and tells of it. After a fault the blocks are as before.
+    pub(crate) fn append_next(
+        &mut self,
+        alloc: Global,
+        txn: Txn,
+        time: IonTime,
+    ) -> Result<Receipt, SettleFault>
+        requires { IsStanding (joined self.old.standing (next_block txn self.old.standing.blocks time)) }
+        ensures standing { OnOk result (self.new.standing ≡ joined self.old.standing (next_block txn self.old.standing.blocks time)) }
+        ensures receipt { IfOk result (λ receipt. receipt ≡ receipt_of (next_block txn self.old.standing.blocks time)) }
+        ensures same { OnErr result (self.new.standing ≡ self.old.standing) }
+        ensures clock { self.new.clock ≡ self.old.clock }
+        ensures holds { OnOk result (Holding self.new.standing.blocks (held (S.told self.new.store))) }
+        ensures synced { OnOk result (IsSynced (S.told self.new.store)) }
+        ensures part { OnErr result (MayHoldPart self.old.standing.blocks
+            (next_block txn self.old.standing.blocks time) (held (S.told self.old.store))
+            (held (S.told self.new.store))) }
+        ensures marked { OnErr result ((self.new ≡ self.old) ⊎ (self.new.marked ≡ true)) }
+        ensures later { (S.told self.old.store).faults ≤ (S.told self.new.store).faults }
+        ensures fine { OnOk result ((S.told self.new.store).faults ≡ (S.told self.old.store).faults) }
+        ensures fault { IfErr result (λ fault. IsSettleFault fault (S.told self.old.store) (S.told self.new.store)) }
+    {
+        let block = into_block(alloc, txn, time, self.blocks().as_slice())?;
+        let receipt = receipt_of(&block);
+        self.append_block(alloc, block)?;
+        Ok(receipt)
+    }
+}
+
+fn receipt_of(block: &Block) -> Receipt
+    ensures { result ≡ receipt_of block.now }
+{
+    Receipt {
+        block: block.header.address.sequence,
+        hash: block.hash,
+        time: block.header.time,
+    }
+}
+
+/// That a place and a time are within their ranges, as the values of their types are. It does nothing.
+#[tactic(auto, using(crate::proofs::Attempts::place_within))]
+pub(crate) fn are_within(place: Place, time: IonTime)
+    ensures placed { IsTrue (place_fits place) }
+    ensures timed { IsTrue (is_time time) }
+{
+    let _ = (place.session, place.transaction, time.parts());
+}
