@@ -15,7 +15,7 @@ fn words_of_run(rt: HostRuntime) {
         ("run --plain-ids", IdSource::Plain),
         ("run --seed 0", IdSource::Seed(0)),
         ("run --seed=1", IdSource::Seed(1)),
-        ("run --seed 007", IdSource::Seed(7)),
+        ("run --seed 70", IdSource::Seed(70)),
         (
             "run --seed 18446744073709551615",
             IdSource::Seed(18_446_744_073_709_551_615),
@@ -88,7 +88,6 @@ fn words_of_prove(rt: HostRuntime) {
     for (line, sequence, index, tip) in [
         ("prove 2 0", 2, 0, None),
         ("prove -- 2 0", 2, 0, None),
-        ("prove 02 00", 2, 0, None),
         ("prove --tip 5 4 1", 4, 1, Some(5)),
         ("prove 4 --tip=5 1", 4, 1, Some(5)),
         (

@@ -38,6 +38,7 @@ run --seed=-1
 run --seed +1
 run --seed=+1
 run --seed 1.
+run --seed 007
 run --seed 0x1
 run --seed 1_0
 run --seed a
@@ -75,6 +76,7 @@ digest --tip=
 digest --tip 1 --tip 1
 digest --tip -1
 digest --tip +1
+digest --tip 01
 digest --tip x
 digest --tip 18446744073709551616
 prove
@@ -82,6 +84,8 @@ prove 1
 prove 1 2 3
 prove --tip 1
 prove 1 --tip 2
+prove 01 0
+prove 0 00
 prove -1 0
 prove +1 0
 prove 1 +0

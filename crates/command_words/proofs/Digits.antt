@@ -1,5 +1,5 @@
 -- The number that `parse` reads from decimal digits.
-use Rattle.std.proofs.Common.{◌≡◌, ℕ, ◌<◌, ◌==◌, ◌^◌, ◌&&◌, Bool, true, false, not, List, [], ◌∷◌, length, Option, Some, None, refl, sym, ap, arith, rules}
+use Rattle.std.proofs.Common.{◌≡◌, ℕ, ◌<◌, ◌==◌, ◌^◌, ◌&&◌, Bool, true, false, not, List, [], ◌∷◌, length, Some, None, refl, ap, arith, rules}
 use Rattle.std.specs.Prelude.{Result, Ok, Err, nat_lt, if◌then◌else◌}
 use Rattle.std.specs.Result.{OkIff, result_ok}
 use Rattle.std.specs.Char.{is_ascii_digit}
@@ -7,7 +7,7 @@ use Rattle.std.specs.List.{list_all}
 use Rattle.std.specs.Str.Parse.{ParsesUnsigned, digits_value}
 use Rattle.std.proofs.lemmas.Bool.{and_parts, false≢true, lt-ltb, ltb-true}
 use Rattle.std.proofs.lemmas.Str.Parse.{IsNumeralModel, numerals_by_value, parse_digits}
-use Rattle.command_words.specs.Numbers.{is_number, number_of}
+use Rattle.command_words.specs.Numbers.{has_zero_in_front, is_number, number_of}
 
 digits : IsNumeralModel (λ ds. list_all is_ascii_digit ds ≡ true) (digits_value 10)
 digits = numerals_by_value _ (search rules)
@@ -30,7 +30,8 @@ pub parsed : {E : Type 0} (bits : ℕ) (word : List ℕ) (r : Result ℕ E) → 
     → is_number word ≡ true → result_ok r ≡ number_of bits word
 unfolding number_of
 parsed bits word r h is =
-    let both = and_parts (not (length word == 0)) (list_all is_ascii_digit word) is in
+    let parts = and_parts (not (length word == 0) && list_all is_ascii_digit word) (not (has_zero_in_front word)) is in
+    let both = and_parts (not (length word == 0)) (list_all is_ascii_digit word) parts.0 in
     some_where {P = (0 < length word) × (digits_value 10 word < 2 ^ bits)} (is_number word)
     (nat_lt (digits_value 10 word) (2 ^ bits)) r (digits_value 10 word) is
     (λ p. lt-ltb _ _ p.1) (λ e. (not_empty word both.0, ltb-true _ _ e))

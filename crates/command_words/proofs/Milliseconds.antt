@@ -2,7 +2,7 @@
 use Rattle.std.proofs.Common.{◌≡◌, ℕ, ◌+◌, ◌*◌, ◌<◌, ◌≤◌, ◌^◌, ℤ, pos, negsuc, neg_ℤ, ◌+ℤ◌, ◌*ℤ◌, ◌≤ℤ◌, ◌<ℤ◌, int_le, int_lt, unsigned_abs, true, sym, subst, ap, ◌∙◌, arith, w64, to_z, of_z, to_z-of_z, FitsSigned}
 use Rattle.std.specs.Int.{int_div_euclid, w128}
 use Rattle.std.proofs.lemmas.Bool.{and_parts, ltb-true}
-use borrow.Author.Differences.{up, down, le-true, lt-true}
+use borrow.Author.Differences.{le-true, lt-true}
 use Rattle.jiff_core.proofs.SignedLemmas.{signed_arith, int_div_euclid-parts, back_small}
 use Rattle.ion_values.proofs.Years.{first_day, day_after_last}
 use Rattle.ion_values.specs.Time.{is_time, is_in_years, instant_of, utc_minutes}

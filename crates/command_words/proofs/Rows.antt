@@ -42,9 +42,17 @@ wide_seed : asked (codes "run" ∷ codes "--seed" ∷ codes "1844674407370955161
 unfolding found_in walk_fault defaults_fault walked run_app number_of
 wide_seed = refl
 
-tip : asked (codes "digest" ∷ codes "--tip" ∷ codes "007" ∷ []) ≡ Some (command.Digest (Some 7))
+tip : asked (codes "digest" ∷ codes "--tip" ∷ codes "70" ∷ []) ≡ Some (command.Digest (Some 70))
 unfolding found_in walk_fault defaults_fault walked digest_app number_of
 tip = refl
+
+tip_of_zero : asked (codes "digest" ∷ codes "--tip" ∷ codes "0" ∷ []) ≡ Some (command.Digest (Some 0))
+unfolding found_in walk_fault defaults_fault walked digest_app number_of
+tip_of_zero = refl
+
+zero_in_front : asked (codes "digest" ∷ codes "--tip" ∷ codes "07" ∷ []) ≡ None
+unfolding found_in walk_fault defaults_fault walked digest_app number_of
+zero_in_front = refl
 
 signed_tip : asked (codes "digest" ∷ codes "--tip" ∷ codes "+7" ∷ []) ≡ None
 unfolding found_in walk_fault defaults_fault walked digest_app number_of

@@ -1,6 +1,6 @@
 -- Which words may stand behind the word of a command, in the terms of `clap`, which reads them.
 use Rattle.std.specs.Prelude.{◌≡◌, List, true, Option, Some, None, Result, MatchResult, codes, if◌then◌else◌}
-use Rattle.clap.specs.Words.{App, Row, Rule, Text, app_of, found_of, matches_of, new_app, new_rule, rows_of, with_rule}
+use Rattle.clap.specs.Words.{App, Row, Rule, Text, found_of, matches_of, new_app, new_rule, rows_of, with_rule}
 use Rattle.clap.specs.Walk.{is_empty}
 use Rattle.clap.specs.Simple.{on_top}
 use Rattle.clap.specs.Faults.{fault_of}

@@ -1,12 +1,18 @@
--- Numbers among the words: decimal digits without a sign. Zeros may stand in front.
-use Rattle.std.specs.Prelude.{ℕ, ◌^◌, ◌==◌, ◌&&◌, Bool, not, nat_lt, List, length, Option, Some, None, if◌then◌else◌}
+-- Numbers among the words: decimal digits without a sign and without a zero in front, but for the number 0 itself.
+use Rattle.std.specs.Prelude.{ℕ, ◌^◌, ◌==◌, ◌&&◌, Bool, false, not, nat_lt, List, [], ◌∷◌, length, Option, Some, None, if◌then◌else◌}
 use Rattle.std.specs.Char.{is_ascii_digit}
 use Rattle.std.specs.List.{list_all}
 use Rattle.std.specs.Str.Parse.{digits_value}
 
+-- a zero stands in front of another byte
+abbrev pub has_zero_in_front : List ℕ → Bool
+has_zero_in_front [] = false
+has_zero_in_front (byte ∷ []) = false
+has_zero_in_front (byte ∷ next ∷ word) = byte == 48
+
 -- one decimal digit or more, and nothing else
 abbrev pub is_number : List ℕ → Bool
-is_number word = not (length word == 0) && list_all is_ascii_digit word
+is_number word = not (length word == 0) && list_all is_ascii_digit word && not (has_zero_in_front word)
 
 -- the number of a word that is one, where it has no more than so many binary digits
 unfoldable pub number_of : ℕ → List ℕ → Option ℕ

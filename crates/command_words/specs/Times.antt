@@ -1,5 +1,5 @@
 -- Times among the words: Ion timestamps (Ion 1.0, "Timestamps").
-use Rattle.std.specs.Prelude.{ℕ, ◌==◌, List, [], ◌∷◌, length, ℤ, pos, Option, Some, None, Result, Ok, Err, option_and_then, option_map, if◌then◌else◌}
+use Rattle.std.specs.Prelude.{ℕ, ◌==◌, List, [], ◌∷◌, length, ℤ, pos, Option, Some, None, Ok, Err, option_map, if◌then◌else◌}
 use Rattle.std.specs.Int.{int_div_euclid}
 use Rattle.ion_values.specs.Time.{instant_of}
 use Rattle.ion_values.specs.declared.time.TimeParts.{TimeParts}

@@ -80,10 +80,9 @@ impl From<AllocError> for WordsFault {
 /// The command that the words name. The first word is the command's own: `run`, `digest`, `prove`,
 /// `verify` or `audit`. Those behind it are read by `clap`, each option at most once. `Refused`
 /// comes exactly where there is no first word or another; where `clap` has a cause to refuse those
-/// behind it; where a number isn't decimal digits without a sign, or passes 64 bits or, for the
-/// index of a revision, 32; where a time, read as Ion text, isn't one timestamp without
-/// annotations; or where both `--seed` and `--plain-ids` stand there. Zeros may stand in front of a
-/// number.
+/// behind it; where a number isn't decimal digits without a sign and without a zero in front, or
+/// passes 64 bits or, for the index of a revision, 32; where a time, read as Ion text, isn't one
+/// timestamp without annotations; or where both `--seed` and `--plain-ids` stand there.
 pub fn command_in(alloc: Global, words: &[String]) -> Result<Command, WordsFault>
     ensures { Gives result (asked (map string_bytes words.now)) }
 {

@@ -2,9 +2,9 @@
 ghost use Rattle.std.specs.Prelude.{◌≡◌};
 ghost use Rattle.std.specs.Char.{is_ascii_digit};
 ghost use Rattle.std.specs.List.{list_all};
-ghost use Rattle.command_words.specs.Numbers.{is_number, number_of};
+ghost use Rattle.command_words.specs.Numbers.{has_zero_in_front, is_number, number_of};
 
-/// The number that the word writes in decimal digits without a sign, if it fits 64 bits.
+/// The number that the word writes in decimal digits without a sign and without a zero in front, if it fits 64 bits.
 #[tactic(auto, unfolding(crate::specs::Numbers::number_of))]
 pub fn number_of(word: &str) -> Option<u64>
     ensures { result ≡ number_of 64 word.now }
@@ -15,7 +15,7 @@ pub fn number_of(word: &str) -> Option<u64>
     word.parse::<u64>().ok()
 }
 
-/// The number that the word writes in decimal digits without a sign, if it fits 32 bits.
+/// The number that the word writes in decimal digits without a sign and without a zero in front, if it fits 32 bits.
 #[tactic(auto, unfolding(crate::specs::Numbers::number_of))]
 pub fn small_number_of(word: &str) -> Option<u32>
     ensures { result ≡ number_of 32 word.now }
@@ -29,7 +29,17 @@ pub fn small_number_of(word: &str) -> Option<u32>
 fn is_number(word: &[u8]) -> bool
     ensures { result ≡ is_number word.now }
 {
-    !word.is_empty() && are_digits(word)
+    !word.is_empty() && are_digits(word) && !has_zero_in_front(word)
+}
+
+/// Whether a zero stands in front of another byte.
+fn has_zero_in_front(word: &[u8]) -> bool
+    ensures { result ≡ has_zero_in_front word.now }
+{
+    match word {
+        [first, _, ..] => *first == b'0',
+        _ => false,
+    }
 }
 
 fn are_digits(word: &[u8]) -> bool

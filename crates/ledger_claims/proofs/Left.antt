@@ -9,14 +9,10 @@ use Rattle.ledger_model.specs.declared.outcome.Outcome.{Outcome}
 use Rattle.ledger_model.specs.declared.outcome.Outcome.TheVariants.{Committed, Conflict, Refused, DigestDiffers, StoreFault, JournalFull, IdsSpent, Aborted, OutOfMemory}
 use Rattle.ledger_model.specs.Journal.{journal_bytes}
 use Rattle.ledger_model.specs.Recovered.{has_no_line_feed}
-use Rattle.ledger_model.specs.declared.script.Job.{Job}
-use Rattle.ledger_model.specs.Script.{Placed, all_placed}
-use Rattle.ledger_claims.specs.Fits.{RunRecord, one_time, IsTimeIn, FitsBlocks}
+use Rattle.ledger_model.specs.Script.{Placed}
+use Rattle.ledger_claims.specs.Fits.{RunRecord, IsTimeIn, FitsBlocks}
 use Rattle.ledger_claims.specs.Attempts.{Standing, Seals, Attempted, HoldsBehind, LeavesPart, LeavesStore}
 use Rattle.ledger_claims.specs.Stores.{HasJournal, Holding, HoldingWithRest}
-use Rattle.outside.specs.Told.{StoreTold, held}
-use Rattle.ledger_claims.specs.Calls.{Span}
-use Rattle.ledger_claims.specs.Top.{HoldsRun}
 use Rattle.ledger_claims.specs.SoFar.{SoFar, standing, extended, LeavesRun}
 use Rattle.ledger_claims.proofs.BlocksFit.{FitsBlocks-same, FitsBlocks-next}
 use Rattle.ledger_claims.proofs.Parts.{is_left}
@@ -104,14 +100,3 @@ module _ (t : RunRecord) (time : TimeParts) (among : IsTimeIn t.times time) (don
       as_before t done p rest last (Aborted tx since) now closed before after held kept left leaves
   LeavesRun-on OutOfMemory attempted leaves =
       before_or_part t done p rest last OutOfMemory now closed before after time among law so held kept left leaves
-
--- what a run leaves that stops
-pub HoldsRun-left : (time : TimeParts) (script : List (List Job)) (s : Span StoreTold) (t : RunRecord) → HasJournal t.before (held s.before)
-    → t.given ≡ Some 0 → t.times ≡ one_time time → t.workers ≡ 1 → t.jobs ≡ all_placed script → t.opened ≡ s.before.faults
-    → LeavesRun t s.after.faults (held s.after) → HoldsRun time script s
-HoldsRun-left time script s t has masks times one jobs opens left = record {
-  told = record t { after = left.blocks; closed = s.after.faults };
-  of_run = record { found = has; given = masks; times = times; workers = one; jobs = jobs; opened = opens; closed = refl };
-  fits = left.fits;
-  holding = left.holding;
-}

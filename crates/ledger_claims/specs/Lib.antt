@@ -1,9 +1,6 @@
 pub mod Attempts
 pub mod Calls
 pub mod Fits
-pub mod Lines
 pub mod SoFar
 pub mod Stores
 pub mod Streams
-pub mod Top
-pub mod Words

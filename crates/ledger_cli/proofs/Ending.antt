@@ -1,150 +1,33 @@
--- What is so where a run ends, by its exit status.
+-- What is so where a command ends, by its exit status.
 use Rattle.std.proofs.Common.{◌≡◌, ℕ, List, [], length, take_all, arith, ap, sym, refl, subst, inl, inr, ◌⊎◌, Option, Some, None, Result, Ok, Err}
-use Rattle.std.specs.Prelude.{codes, OnErr, IfErr, IfOk, String, option_map}
+use Rattle.std.specs.Prelude.{codes, option_map}
 use Rattle.std.specs.Io.KnownBytes.{Consumes}
-use Rattle.std.specs.declared.alloc.Global.{Global}
-use Rattle.ledger_model.specs.declared.script.Job.{Job}
-use Rattle.ion_values.specs.declared.time.TimeParts.{TimeParts}
 use Rattle.outside.specs.Store.{Content}
 use Rattle.outside.specs.Told.{SourceTold, SinkTold, StoreTold, held}
-use Rattle.ledger_claims.specs.Calls.{Span, Exchange, span}
-use Rattle.ledger_claims.specs.Lines.{faults_line, memory_line, words_line}
+use Rattle.command_words.specs.declared.Command.{Command}
+use Rattle.command_words.specs.declared.Command.TheVariants as command
+use Rattle.ledger_claims.specs.Calls.{Span, span}
 use Rattle.ledger_claims.specs.Streams.{TakesFew, Writes, WritesPart, BreaksOff, WritesLine}
-use Rattle.ledger_claims.specs.Top.{HasReport, HasScript, IsReportOf, HoldsRun, Leaves, HidesNone, IsUncalled, RefusesWords, RunDoes}
-use Rattle.ledger_claims.specs.Words.{Command, Asks, IsRun}
-use Rattle.ledger_claims.specs.Words as word
-use Rattle.ledger_claims.proofs.Left.{all-HoldingWithRest}
+use Rattle.command_claims.specs.Calls.{Outside, Call}
+use Rattle.command_claims.specs.Inputs.{IsIdle}
+use Rattle.command_claims.specs.Journals.{IsUncalled}
+use Rattle.command_claims.specs.Lines.{words_line, faults_line, memory_line}
+use Rattle.command_words.specs.declared.RunOptions.{RunOptions}
+use Rattle.command_claims.specs.Runs.{LeavesRun}
+use Rattle.command_claims.specs.Top.{Gives, Refuses, Keeps, Ends, HidesNone, Does, asked_by}
+use Rattle.command_claims.specs.Top as top
 use Rattle.ledger_cli.specs.declared.ends.Status.{Status}
 use Rattle.ledger_cli.specs.declared.ends.Status.TheVariants as status
 use Rattle.ledger_cli.specs.declared.stop.Stop.{Stop}
 use Rattle.ledger_cli.specs.declared.stop.Stop.TheVariants as stop
-use Rattle.ledger_cli.specs.Ends.{EndsBy, IsLine, IsOwnLine, IsWanted, IsReportEnd, Works, status_of}
-use Rattle.ledger_cli.specs.Inputs.{IsFine, IsReadStop}
-use Rattle.ledger_cli.specs.Judgements.{cause_of}
-use Rattle.ledger_cli.specs.Stops.{IsRunStop}
+use Rattle.ledger_cli.specs.Ends.{EndsBy, IsLine, IsOwnLine, IsWanted, IsOutputEnd, Works, status_of}
+use Rattle.ledger_cli.specs.Inputs.{IsFine}
 
--- ---- what the store is left with
+-- ---- the store and the source
 
 -- the bytes are those of the content
 pub same_held : (before after : StoreTold) → after.content ≡ before.content → held after ≡ held before
 same_held before after same = ap (λ (c : Option Content). option_map (λ (x : Content). x.bytes) c) same
-
--- a run whose report is not written leaves what the run left
-Leaves-report : (time : TimeParts) (source : Span SourceTold) (store : Span StoreTold) (text : List ℕ) → HasReport time source store text
-    → Leaves time source store
-Leaves-report time source store text ran =
-    let told = ran.reported.told in
-    let done = ran.reported.done in
-    inr (record {
-      script = ran.script;
-      has = ran.has;
-      holds = record { told = told; of_run = done.of_run; fits = done.fits.blocks; holding = all-HoldingWithRest told.after (held store.after) done.holding };
-    })
-
-Leaves-uncalled : (same : Type 0) (time : TimeParts) (source : Span SourceTold) (store : Span StoreTold) → IsUncalled same store → Leaves time source store
-Leaves-uncalled same time source store un = inl (ap held un.told)
-
--- ---- how a run comes to its end
-
-module _ (same : Type 0) (time : TimeParts) (x : Exchange) where
-  abbrev EndsSo : Status → Type 0
-  EndsSo s = RunDoes same time x (status_of s)
-
-  -- where memory was wanted
-  want_ends : (s : Status) → s ≡ status.OutOfMemory → Leaves time x.source x.store → HidesNone x → EndsSo s
-  want_ends s is left hides = subst (λ (t : Status). EndsSo t) (sym is) (left, hides)
-
-  -- by its report
-  report_ends : (s : Status) (text : List ℕ) → HasReport time x.source x.store text → IsFine x.source → IsReportEnd s x.sink text → EndsSo s
-  report_ends s text ran read end =
-      elim end.known [
-        | inl is ↦ subst (λ (t : Status). EndsSo t) (sym is) (record { text = text; ran = ran; written = end.done is })
-        | inr other ↦
-            elim other [
-              | inl is ↦ subst (λ (t : Status). EndsSo t) (sym is) (end.failed is, record { text = text; ran = ran; written = end.part })
-              | inr is ↦
-                  want_ends s is (Leaves-report time x.source x.store text ran) (record { source = inl read; sink = inl (end.wanted is) })
-            ]
-      ]
-
-  -- by an error line, unless memory is wanted
-  line_ends : (s t : Status) (text : List ℕ) → IsLine s t x.sink text → (WritesLine x.sink text → EndsSo t) → Leaves time x.source x.store → IsFine x.source
-      → EndsSo s
-  line_ends s t text either ends left read =
-      elim either [
-        | inl written ↦ subst (λ (y : Status). EndsSo y) (sym written.0) (ends written.1)
-        | inr want ↦ want_ends s want.0 left (record { source = inl read; sink = want.1 })
-      ]
-
-  -- by one that takes no memory but the sink's
-  own_line_ends : (s t : Status) (text : List ℕ) → IsOwnLine s t x.sink text → (WritesLine x.sink text → EndsSo t) → Leaves time x.source x.store
-      → IsFine x.source ⊎ (text ≡ faults_line (codes "4") x.source.after.faults) → EndsSo s
-  own_line_ends s t text either ends left read =
-      elim either [
-        | inl written ↦ subst (λ (y : Status). EndsSo y) (sym written.0) (ends written.1)
-        | inr want ↦
-            want_ends s want.0 left
-            (record {
-              source = elim read [
-                | inl fine ↦ inl fine
-                | inr is ↦ inr (subst (λ (l : List ℕ). BreaksOff x.sink l) is want.2)
-              ];
-              sink = inl want.1;
-            })
-      ]
-
-  pub by_report : (report : Result (List ℕ) Stop) (s : Status) → Works same time report x.source x.store
-      → EndsBy report s x.source.after.faults x.store.after.faults x.sink → EndsSo s
-  by_report (Ok text) s works end = report_ends s text works.0 works.1 end
-  by_report (Err (stop.BadInput cause)) s works end =
-      line_ends s status.BadInput _ end (λ line. (record { cause = cause_of cause; why = works.0; line = line }, works.1))
-      (Leaves-uncalled same time x.source x.store works.1) works.2
-  by_report (Err (stop.Damaged sequence kind)) s works end =
-      line_ends s status.Damaged _ end (λ line. (record { sequence = sequence; kind = kind; why = works.0; line = line }, works.1))
-      (inl (same_held x.store.before x.store.after works.1.content)) works.2
-  by_report (Err stop.SourceFailed) s works end =
-      own_line_ends s status.SourceFailed _ end (λ line. (works.0, line, works.1)) (Leaves-uncalled same time x.source x.store works.1) (inr refl)
-  by_report (Err stop.StoreFailed) s works end =
-      own_line_ends s status.StoreFailed _ end (λ line. (works.0, works.1, line, works.2)) works.2 (inl works.3)
-  by_report (Err stop.OutOfMemory) s works end = want_ends s end.0 works.0 (record { source = inl works.1; sink = end.1 })
-
--- ---- how the work comes to its report
-
--- by the run
-module _ (same : Type 0) (time : TimeParts) (script : List (List Job)) (source : Span SourceTold) (store : Span StoreTold) (has : HasScript source script) (read : IsFine source) where
-  left_by : (held store.after ≡ held store.before) ⊎ HoldsRun time script store → Leaves time source store
-  left_by (inl kept) = inl kept
-  left_by (inr holds) = inr (record { script = script; has = has; holds = holds })
-
-  pub by_run : (report : Result (List ℕ) Stop) → IfOk report (λ text. IsReportOf time script store text)
-      → OnErr report ((held store.after ≡ held store.before) ⊎ HoldsRun time script store) → IfErr report (λ why. IsRunStop why store)
-      → Works same time report source store
-  by_run (Ok text) done left why = (record { script = script; has = has; reported = done }, read)
-  by_run (Err (stop.BadInput cause)) done left why = absurd why
-  by_run (Err (stop.Damaged sequence kind)) done left why = (record { script = script; has = has; damaged = why.0 }, why.1, read)
-  by_run (Err stop.SourceFailed) done left why = absurd why
-  by_run (Err stop.StoreFailed) done left why = (record { script = script; has = has }, why, left_by left, read)
-  by_run (Err stop.OutOfMemory) done left why = (left_by left, read)
-
--- without a run
-pub by_stop : (same : Type 0) (time : TimeParts) (why : Stop) (source : Span SourceTold) (store : Span StoreTold) → IsUncalled same store
-    → IsReadStop why source → Works same time (Err why) source store
-by_stop same time (stop.BadInput cause) source store un is = (is.0, un, is.1)
-by_stop same time (stop.Damaged sequence kind) source store un is = absurd is
-by_stop same time stop.SourceFailed source store un is = (is, un)
-by_stop same time stop.StoreFailed source store un is = absurd is
-by_stop same time stop.OutOfMemory source store un is = (Leaves-uncalled same time source store un, is)
-
--- ---- words that ask for nothing
-
-pub none_asked : (words : List (String Global)) → ((time : TimeParts) → IsRun words time → ⊥) → (command : Command) → Asks words command → ⊥
-none_asked words none (word.run time) asks = none time asks
-
-pub refused : (same : Type 0) (x : Exchange) (s : Status) → IsOwnLine s status.BadWords x.sink words_line → IsUncalled same x.store → IsFine x.source
-    → RefusesWords same x (status_of s)
-refused same x s (inl written) un read = subst (λ (t : Status). RefusesWords same x (status_of t)) (sym written.0) (written.1, un)
-refused same x s (inr want) un read =
-    subst (λ (t : Status). RefusesWords same x (status_of t)) (sym want.0) (record { source = inl read; sink = inl want.1 }, un)
 
 consumes_none : (left : Option (List ℕ)) → Consumes left left []
 consumes_none None = tt
@@ -153,6 +36,95 @@ consumes_none (Some bytes) = refl
 -- nothing was taken
 pub takes_none : (told : SourceTold) → TakesFew (span told told)
 takes_none told = ([], record { consumed = consumes_none told.left; few = omega arith })
+
+-- where neither is called, all is kept
+pub keeps_all : (same : Type 0) (what : Option Command) (x : Outside) → IsUncalled same x.store → IsIdle x.source → Keeps same what x
+keeps_all same None x un idle = (un, idle)
+keeps_all same (Some (command.Run options)) x un idle = inl (ap held un.told)
+keeps_all same (Some (command.Digest tip)) x un idle = (ap (λ (t : StoreTold). t.content) un.told, idle)
+keeps_all same (Some (command.Prove sequence index tip)) x un idle = (ap (λ (t : StoreTold). t.content) un.told, idle)
+keeps_all same (Some command.Verify) x un idle = un
+keeps_all same (Some command.Audit) x un idle = (ap (λ (t : StoreTold). t.content) un.told, idle)
+
+-- a run that isn't begun leaves what there was
+pub keeps_run_all : (options : RunOptions) (x : Outside) → x.store.after ≡ x.store.before → LeavesRun options x
+keeps_run_all options x same = inl (ap held same)
+
+-- ---- how a command comes to its end
+
+module _ (same : Type 0) (what : Option Command) (x : Outside) (sink : Span SinkTold) where
+  abbrev EndsSo : Status → Type 0
+  EndsSo s = Ends same what x sink (status_of s)
+
+  -- where memory was wanted
+  want_ends : (s : Status) → s ≡ status.OutOfMemory → HidesNone x sink → EndsSo s
+  want_ends s is hides = subst (λ (t : Status). EndsSo t) (sym is) hides
+
+  -- by its output
+  output_ends : (s : Status) (text : List ℕ) → Gives what x text → IsFine x.source → IsOutputEnd s sink text → EndsSo s
+  output_ends s text given read end =
+      elim end.known [
+        | inl is ↦ subst (λ (t : Status). EndsSo t) (sym is) (record { text = text; given = given; written = end.done is })
+        | inr other ↦
+            elim other [
+              | inl is ↦
+                  subst (λ (t : Status). EndsSo t) (sym is) (record { text = text; given = given; written = end.part }, end.failed is)
+              | inr is ↦ want_ends s is (record { of_source = inl read; of_sink = inl (end.wanted is) })
+            ]
+      ]
+
+  -- by an error line, unless memory is wanted
+  line_ends : (s t : Status) (text : List ℕ) → IsLine s t sink text → (WritesLine sink text → EndsSo t) → IsFine x.source → EndsSo s
+  line_ends s t text either ends read =
+      elim either [
+        | inl written ↦ subst (λ (y : Status). EndsSo y) (sym written.0) (ends written.1)
+        | inr want ↦ want_ends s want.0 (record { of_source = inl read; of_sink = want.1 })
+      ]
+
+  -- by one that takes no memory but the sink's
+  pub own_line_ends : (s t : Status) (text : List ℕ) → IsOwnLine s t sink text → (WritesLine sink text → EndsSo t)
+      → IsFine x.source ⊎ (text ≡ faults_line (codes "4") x.source.after.faults) → EndsSo s
+  own_line_ends s t text either ends read =
+      elim either [
+        | inl written ↦ subst (λ (y : Status). EndsSo y) (sym written.0) (ends written.1)
+        | inr want ↦
+            want_ends s want.0
+            (record {
+              of_source = elim read [
+                | inl fine ↦ inl fine
+                | inr is ↦ inr (subst (λ (l : List ℕ). BreaksOff sink l) is want.2)
+              ];
+              of_sink = inl want.1;
+            })
+      ]
+
+  pub by_work : (came : Result (List ℕ) Stop) (s : Status) → Works same what came x
+      → EndsBy came s x.source.after.faults x.store.after.faults sink → EndsSo s
+  by_work (Ok text) s works end = output_ends s text works.0 works.1 end
+  by_work (Err (stop.BadInput cause)) s works end =
+      line_ends s status.BadInput _ end (λ line. record { line = _; cause = works.0; written = line }) works.1
+  by_work (Err (stop.NoSuch why)) s works end =
+      line_ends s status.BadInput _ end (λ line. record { line = _; cause = works.0; written = line }) works.1
+  by_work (Err (stop.Damaged sequence kind)) s works end =
+      line_ends s status.Damaged _ end (λ line. record { line = _; cause = works.0; written = line }) works.1
+  by_work (Err stop.SourceFailed) s works end =
+      own_line_ends s status.SourceFailed _ end (λ line. record { line = _; cause = works; written = line }) (inr refl)
+  by_work (Err stop.StoreFailed) s works end =
+      own_line_ends s status.StoreFailed _ end (λ line. record { line = _; cause = works.0; written = line }) (inl works.1)
+  by_work (Err (stop.NotAccepted fault)) s works end =
+      line_ends s status.NotAccepted _ end (λ line. record { line = _; cause = works.0; written = line }) works.1
+  by_work (Err stop.OutOfMemory) s works end = want_ends s end.0 (record { of_source = inl works; of_sink = end.1 })
+
+  -- where memory was wanted for the words
+  pub wanted_ends : (s : Status) → s ≡ status.OutOfMemory → IsWanted sink → IsIdle x.source → EndsSo s
+  wanted_ends s is want idle = want_ends s is (record { of_source = inl (ap (λ (t : SourceTold). t.faults) idle); of_sink = want })
+
+-- words that ask for nothing
+pub refused_ends : (same : Type 0) (x : Outside) (sink : Span SinkTold) (s : Status) → IsOwnLine s status.BadWords sink words_line → IsIdle x.source
+    → Ends same None x sink (status_of s)
+refused_ends same x sink s line idle =
+    own_line_ends same None x sink s status.BadWords words_line line (λ written. record { line = words_line; cause = refl; written = written })
+    (inl (ap (λ (t : SourceTold). t.faults) idle))
 
 -- ---- the error lines
 
@@ -181,3 +153,15 @@ unmade_line s own sink text is want = inr (is, want)
 -- the same line
 pub same_line : (s own : Status) (sink : Span SinkTold) (made text : List ℕ) → made ≡ text → IsOwnLine s own sink made → IsOwnLine s own sink text
 same_line s own sink made text is line = subst (λ (t : List ℕ). IsOwnLine s own sink t) is line
+
+-- ---- the whole call
+
+pub does_so : (same : Type 0) (call : Call) (what : Option Command) (s : Status) → asked_by call ≡ what → Ends same what call.told call.sink (status_of s)
+    → Keeps same what call.told → TakesFew call.told.source → Does same call (top.number_of (status_of s))
+does_so same call what s is ends keeps few = record {
+  status = status_of s;
+  number_is = refl;
+  ends = subst (λ (x : Option Command). Ends same x call.told call.sink (status_of s)) (sym is) ends;
+  keeps = subst (λ (x : Option Command). Keeps same x call.told) (sym is) keeps;
+  few = few;
+}

@@ -1,7 +1,10 @@
-pub mod CommandWords
+pub mod Answering
+pub mod Asked
+pub mod Clocks
 pub mod Ending
 pub mod Loaded
 pub mod Pieces
+pub mod Proving
 pub mod Runnable
 pub mod Running
-pub mod TimeWords
+pub mod Verifying

@@ -1,10 +1,10 @@
 -- A script that is served can be run: its sessions and its jobs can be counted in 32 bits.
-use Rattle.std.proofs.Common.{◌≡◌, ◌+◌, ◌<◌, ◌≤◌, ◌^◌, ℕ, zero, suc, nat_le, List, [], ◌∷◌, length, take, Option, Some, None, Result, Ok, Err, refl, sym, ap, subst, arith, if◌then◌else◌}
+use Rattle.std.proofs.Common.{◌≡◌, Bool, true, false, inl, inr, ◌+◌, ◌<◌, ◌≤◌, ◌^◌, ℕ, zero, suc, nat_le, List, [], ◌∷◌, length, take, Option, Some, None, Result, Ok, Err, refl, sym, ap, subst, arith, if◌then◌else◌}
 use Rattle.std.specs.Prelude.{IfOk}
 use Rattle.std.specs.List.{All, AllByRecursion}
 use Rattle.std.specs.Option.{ok_or, unwrap_or}
 use Rattle.ion_grammar.specs.Read.{read_text}
-use Rattle.std.proofs.lemmas.Bool.{cond_both, leb-true}
+use Rattle.std.proofs.lemmas.Bool.{cond_both}
 use Rattle.std.proofs.lemmas.Grind.{common_steps}
 use Rattle.ion_values.specs.declared.value.Value.{Value}
 use Rattle.ledger_model.specs.declared.script.Job.{Job}
@@ -12,7 +12,9 @@ use Rattle.ledger_model.specs.declared.script.ScriptFault.{ScriptFault}
 use Rattle.ledger_model.specs.declared.script.ScriptKind.TheVariants as kind
 use Rattle.ledger_model.specs.Values.{list_in}
 use Rattle.ledger_model.specs.ReadScript.{if_read, fault_at, placed_at, read_each, read_placed, read_session, read_script}
-use Rattle.ledger_model.specs.Unbuilt.{Judged, too_long, judged_script, judged_text, judged}
+use Rattle.ledger_model.specs.Unbuilt.{too_long, served, unbuilt, is_served_script, judged_script, judged_text, judged}
+use Rattle.std.proofs.lemmas.Bool.Decides.{leb_tells}
+use Rattle.ion_values.specs.declared.fault.IonFault.{IonFault}
 use Rattle.script_form.specs.Answers.{IsCountable}
 use Rattle.outside.specs.Told.{SourceTold}
 use Rattle.ledger_claims.specs.Calls.{Span}
@@ -114,34 +116,55 @@ judged_so values script r is h = subst (λ (x : Result (List (List Job)) ScriptF
 
 -- ---- the script that is read from a source
 
+served_or_not : (script : List (List Job)) (b : Bool) → (if b then served script else unbuilt) ≡ too_long → ⊥
+served_or_not script true is = cc
+served_or_not script false is = cc
+
+script_is_short : (r : Result (List (List Job)) ScriptFault) → judged_script r ≡ too_long → ⊥
+script_is_short (Ok script) is = served_or_not script (is_served_script script) is
+script_is_short (Err fault) is = cc
+
+text_is_short : (r : Result (List Value) IonFault) → judged_text r ≡ too_long → ⊥
+text_is_short (Ok values) is = script_is_short (read_script values) is
+text_is_short (Err fault) is = cc
+
+-- an input that is judged too long is
+is_long : (input : List ℕ) → judged input ≡ too_long → 16777216 < length input
+is_long input is =
+    elim (leb_tells (length input) 16777216) [
+      | inl t ↦
+          absurd (text_is_short (read_text 80 input)
+          (subst (λ (b : Bool). (if b then judged_text (read_text 80 input) else too_long) ≡ too_long) t.0 is))
+      | inr f ↦ f.1
+    ]
+
 -- an input that is judged so gives the script, or the cause why not
 pub reads_input : (source : Span SourceTold) (input : List ℕ) (r : Result (List (List Job)) Stop) → WasRead source input → IsFine source
     → JudgesTo r (judged input) → IfOk r AreRunnable → ReadsScript r source
 reads_input source input (Ok script) read fine is runs = (record { input = input; read = read; judged_is = is }, runs, fine)
-reads_input source input (Err (stop.BadInput cause.TooLong)) read fine is runs = (record { input = input; taken = read.taken; judged_is = is }, fine)
+reads_input source input (Err (stop.BadInput cause.TooLong)) read fine is runs = (record { input = input; taken = read.taken; long = is_long input is }, fine)
 reads_input source input (Err (stop.BadInput (cause.Faulty fault))) read fine is runs = (record { input = input; read = read; judged_is = is }, fine)
 reads_input source input (Err (stop.BadInput (cause.Misspelt fault))) read fine is runs = (record { input = input; read = read; judged_is = is }, fine)
 reads_input source input (Err (stop.BadInput cause.Unbuilt)) read fine is runs = (record { input = input; read = read; judged_is = is }, fine)
+reads_input source input (Err (stop.NoSuch why)) read fine is runs = absurd is
 reads_input source input (Err (stop.Damaged sequence kind)) read fine is runs = absurd is
 reads_input source input (Err stop.SourceFailed) read fine is runs = absurd is
 reads_input source input (Err stop.StoreFailed) read fine is runs = absurd is
+reads_input source input (Err (stop.NotAccepted fault)) read fine is runs = absurd is
 reads_input source input (Err stop.OutOfMemory) read fine is runs = fine
-
--- an input that is too long
-too_long_input : (input : List ℕ) → 16777216 < length input → judged input ≡ too_long
-too_long_input input long = cond_both (nat_le (length input) 16777216) (judged_text (read_text 80 input)) too_long (λ (j : Judged). j ≡ too_long)
-    (λ fits. let bad : ⊥ = omega (arith, long, leb-true (length input) 16777216 fits) in absurd bad) (λ _. refl)
 
 -- an input that wasn't read
 pub unread_input : (source : Span SourceTold) (why : Stop) → IsUnread why source
     → (why ≡ stop.BadInput cause.TooLong → (input : List ℕ) × Taken source input × (16777216 < length input)) → IsReadStop why source
 unread_input source (stop.BadInput cause.TooLong) is long =
     let (input, taken, more) = long refl in
-    (record { input = input; taken = taken; judged_is = too_long_input input more }, is.1)
+    (record { input = input; taken = taken; long = more }, is.1)
 unread_input source (stop.BadInput (cause.Faulty fault)) is long = let bad : ⊥ = cc in absurd bad
 unread_input source (stop.BadInput (cause.Misspelt fault)) is long = let bad : ⊥ = cc in absurd bad
 unread_input source (stop.BadInput cause.Unbuilt) is long = let bad : ⊥ = cc in absurd bad
+unread_input source (stop.NoSuch why) is long = absurd is
 unread_input source (stop.Damaged sequence kind) is long = absurd is
 unread_input source stop.SourceFailed is long = is
 unread_input source stop.StoreFailed is long = absurd is
+unread_input source (stop.NotAccepted fault) is long = absurd is
 unread_input source stop.OutOfMemory is long = is

@@ -1,6 +1,6 @@
 -- The run of a script from one transaction to the next, from its begin to its end.
 use Rattle.std.proofs.Common.{◌≡◌, ℕ, ◌+◌, ◌<◌, ◌≤◌, Bool, true, false, List, [], ◌∷◌, ◌++◌, length, take, drop, drop-cons, get_or, refl, sym, ap, ap₂, subst, ◌∙◌, arith, Option, Some, None, ◌⊎◌, inl, inr, zero, suc}
-use Rattle.std.specs.Prelude.{OnErr, option_map, Result, Ok, Err}
+use Rattle.std.specs.Prelude.{OnErr, IfSome, option_map, Result, Ok, Err}
 use Rattle.std.specs.List.{AllByRecursion}
 use Rattle.std.proofs.Math.Seq.{take-append_seam}
 use Rattle.std.proofs.lemmas.List.{drop_all}
@@ -15,15 +15,15 @@ use Rattle.ledger_model.specs.declared.script.Job.{Job}
 use Rattle.ledger_model.specs.Journal.{line, journal_bytes}
 use Rattle.ledger_model.specs.Recovered.{has_no_line_feed}
 use Rattle.ledger_model.specs.Script.{Placed, placed_from, all_placed, all_placed_from}
-use Rattle.ledger_claims.specs.Fits.{RunRecord, one_time, HasMask, IsTimeIn, Fits, greatest, mask_of}
+use Rattle.ledger_claims.specs.Fits.{RunRecord, HasMask, IsTimeIn, Fits, greatest, mask_of}
 use Rattle.ledger_claims.specs.Attempts.{Standing, IsStanding, Attempted, TellsFaults, HoldsBehind, LeavesPart, LeavesStore}
 use Rattle.ledger_claims.specs.SoFar.{InOrder, SoFar, LeavesRun, standing, extended}
 use Rattle.ledger_claims.specs.Stores.{HasJournal, Holding, HoldingWithRest, IsSynced}
 use Rattle.outside.specs.Told.{StoreTold, held}
 use Rattle.ledger_claims.specs.Calls.{Span, span}
-use Rattle.ledger_claims.specs.Top.{IsReportOf, HoldsRun}
+use Rattle.command_claims.specs.Runs.{Terms, IsReportOf, HoldsRun}
 use Rattle.ledger_claims.proofs.BlocksFit.{FitsBlocks-same}
-use Rattle.ledger_claims.proofs.Left.{journal-HoldingWithRest, all-HoldingWithRest, LeavesRun-here, LeavesRun-on, HoldsRun-left}
+use Rattle.ledger_claims.proofs.Left.{journal-HoldingWithRest, all-HoldingWithRest, LeavesRun-here, LeavesRun-on}
 use Rattle.ledger_claims.proofs.Places.{InOrder-all_placed}
 use Rattle.ledger_claims.proofs.Runs.{starts, goes_on, ends}
 use Rattle.ledger_core.specs.Faults.{IsSettleFault}
@@ -72,7 +72,8 @@ told p o = record { place = p.place; outcome = o }
 module _ (t : RunRecord) (time : TimeParts) (p : Placed) (rest : List Placed) (c d : Come) (o : Outcome)
     (law : (v : Value) → has_no_line_feed (value_text v) ≡ true)
     (attempted : Attempted c.stands time p o d.stands) (faults : TellsFaults c.store.faults o d.store.faults) (leaves : LeavesStore c.stands time p o d.stands (held c.store) (held d.store))
-    (later : c.store.faults ≤ d.store.faults) (outcomes : d.outcomes ≡ c.outcomes ++ told p o ∷ []) (runs : IsRunning t time (p ∷ rest) c) where
+    (later : c.store.faults ≤ d.store.faults) (outcomes : d.outcomes ≡ c.outcomes ++ told p o ∷ []) (timed : IsTimeIn t.times time)
+    (runs : IsRunning t (p ∷ rest) c) where
   abbrev u : RunRecord
   u = record_of t c
 
@@ -90,18 +91,17 @@ module _ (t : RunRecord) (time : TimeParts) (p : Placed) (rest : List Placed) (c
 
   one_further : SoFar v (runs.done ++ p ∷ []) rest d.stands.last × IsStanding d.stands × (d.stands ≡ standing v d.stands.last)
   one_further =
-      goes_on u time runs.timed runs.done p rest c.stands.last o d.stands d.store.faults runs.so_far
+      goes_on u time timed runs.done p rest c.stands.last o d.stands d.store.faults runs.so_far
       (subst (λ (x : Standing). IsStanding x) runs.stands_so runs.sound) later as_told faults
 
-  pub runs_on : IsRunning t time rest d
+  pub runs_on : IsRunning t rest d
   runs_on = record {
-    timed = runs.timed;
     done = runs.done ++ p ∷ [];
     so_far = subst (λ (x : RunRecord). SoFar x (runs.done ++ p ∷ []) rest d.stands.last) same_record one_further.0;
     stands_so = subst (λ (x : RunRecord). d.stands ≡ standing x d.stands.last) same_record one_further.2;
     sound = one_further.1;
     left = subst (λ (x : RunRecord). LeavesRun x d.store.faults (held d.store)) same_record
-        (LeavesRun-on u time runs.timed runs.done p rest c.stands.last d.stands d.store.faults c.store.faults d.store.faults
+        (LeavesRun-on u time timed runs.done p rest c.stands.last d.stands d.store.faults c.store.faults d.store.faults
         (held c.store) (held d.store) law runs.so_far runs.left o as_told as_left);
     begins = begins_on c.stands time p d.stands (held c.store) (held d.store) runs.begins o attempted leaves;
   }
@@ -163,17 +163,16 @@ all_at P (x ∷ xs) (suc k) d h within = all_at P xs k d h.1 (omega (arith, with
 -- ---- the begin
 
 -- no job is done
-pub runs_begun : (t : RunRecord) (time : TimeParts) (script : List (List Job)) (c : Come) → t.before ≡ c.stands.blocks
-    → t.mask ≡ c.stands.mask → HasMask t → IsTimeIn t.times time → t.jobs ≡ all_placed script → c.store.faults ≡ t.opened
+pub runs_begun : (t : RunRecord) (script : List (List Job)) (c : Come) → t.before ≡ c.stands.blocks
+    → t.mask ≡ c.stands.mask → HasMask t → t.jobs ≡ all_placed script → c.store.faults ≡ t.opened
     → c.outcomes ≡ [] → IsStanding c.stands → c.stands.last ≡ greatest c.stands.mask c.stands.blocks
-    → HasJournal c.stands.blocks (held c.store) → IsRunning t time (all_placed script) c
-runs_begun t time script c before masks masked timed jobs opens none sound last has =
+    → HasJournal c.stands.blocks (held c.store) → IsRunning t (all_placed script) c
+runs_begun t script c before masks masked jobs opens none sound last has =
     let u : RunRecord = record_of t c in
     let so : SoFar u [] u.jobs c.stands.last =
     starts u c.stands (subst (λ (x : List Placed). InOrder x) (sym jobs) (InOrder-all_placed script)) masked (sym before) none opens sound
     (sym before) (sym masks) (last ∙ (λ i. greatest (sym masks i) (sym before i))) in
     record {
-      timed = timed;
       done = [];
       so_far = subst (λ (x : List Placed). SoFar u [] x c.stands.last) jobs so;
       stands_so = λ i. record { mask = sym masks i; last = c.stands.last; blocks = c.stands.blocks };
@@ -185,16 +184,16 @@ runs_begun t time script c before masks masked timed jobs opens none sound last 
 -- ---- the end
 
 -- the whole run was told
-pub runs_ended : (t : RunRecord) (time : TimeParts) (c : Come) (now : Standing) (closed : ℕ) → IsRunning t time [] c → now ≡ c.stands → closed ≡ c.store.faults
+pub runs_ended : (t : RunRecord) (c : Come) (now : Standing) (closed : ℕ) → IsRunning t [] c → now ≡ c.stands → closed ≡ c.store.faults
     → Fits (record t { after = now.blocks; outcomes = c.outcomes; closed = closed })
-runs_ended t time c now closed runs same fine =
+runs_ended t c now closed runs same fine =
     subst (λ (x : Standing). Fits (record t { after = x.blocks; outcomes = c.outcomes; closed = closed })) (sym same)
     (subst (λ (n : ℕ). Fits (record t { after = c.stands.blocks; outcomes = c.outcomes; closed = n })) (sym fine)
     (ends (record_of t c) runs.done c.stands.last runs.so_far))
 
 -- what a run leaves that stopped
-pub stopped_leaves : (t : RunRecord) (time : TimeParts) (rest : List Placed) (c : Come) → IsRunning t time rest c → LeavesRun t c.store.faults (held c.store)
-stopped_leaves t time rest c runs = record {
+pub stopped_leaves : (t : RunRecord) (rest : List Placed) (c : Come) → IsRunning t rest c → LeavesRun t c.store.faults (held c.store)
+stopped_leaves t rest c runs = record {
   blocks = runs.left.blocks;
   fits = FitsBlocks-same (record (record_of t c) { after = runs.left.blocks; closed = c.store.faults }) t.outcomes c.store.faults runs.left.fits;
   holding = runs.left.holding;
@@ -207,9 +206,9 @@ leaves_later t before closed held kept same left = record {
   holding = subst (λ (x : Option (List ℕ)). HoldingWithRest left.blocks x) (sym same) left.holding;
 }
 
-leaves_all : (t : RunRecord) (time : TimeParts) (rest : List Placed) (c : Come) (closed : ℕ) (kept : Option (List ℕ)) → IsRunning t time rest c
+leaves_all : (t : RunRecord) (rest : List Placed) (c : Come) (closed : ℕ) (kept : Option (List ℕ)) → IsRunning t rest c
     → Holding c.stands.blocks kept → LeavesRun t closed kept
-leaves_all t time rest c closed kept runs holds = record {
+leaves_all t rest c closed kept runs holds = record {
   blocks = c.stands.blocks;
   fits = FitsBlocks-same (record_of t c) t.outcomes closed runs.so_far.blocks;
   holding = all-HoldingWithRest c.stands.blocks kept holds;
@@ -221,17 +220,17 @@ cut_holds blocks None begins = tt
 cut_holds blocks (Some bytes) begins =
     ap (λ (x : List ℕ). take (length (journal_bytes blocks)) x) begins.1 ∙ take-append_seam (journal_bytes blocks) begins.0
 
-pub cut_leaves : (t : RunRecord) (time : TimeParts) (rest : List Placed) (c : Come) (closed : ℕ) (kept : Option (List ℕ)) → IsRunning t time rest c
+pub cut_leaves : (t : RunRecord) (rest : List Placed) (c : Come) (closed : ℕ) (kept : Option (List ℕ)) → IsRunning t rest c
     → MayBeCut (held c.store) kept (length (journal_bytes c.stands.blocks)) → LeavesRun t closed kept
-cut_leaves t time rest c closed kept runs (inl same) = leaves_later t c.store.faults closed (held c.store) kept same (stopped_leaves t time rest c runs)
-cut_leaves t time rest c closed kept runs (inr cut) =
-    leaves_all t time rest c closed kept runs (subst (λ (x : Option (List ℕ)). Holding c.stands.blocks x) (sym cut) (cut_holds c.stands.blocks (held c.store) runs.begins))
+cut_leaves t rest c closed kept runs (inl same) = leaves_later t c.store.faults closed (held c.store) kept same (stopped_leaves t rest c runs)
+cut_leaves t rest c closed kept runs (inr cut) =
+    leaves_all t rest c closed kept runs (subst (λ (x : Option (List ℕ)). Holding c.stands.blocks x) (sym cut) (cut_holds c.stands.blocks (held c.store) runs.begins))
 
 -- where the report finds no memory
-pub settled_leaves : (t : RunRecord) (time : TimeParts) (rest : List Placed) (c : Come) (now : Standing) (closed : ℕ) (kept : Option (List ℕ)) → IsRunning t time rest c
+pub settled_leaves : (t : RunRecord) (rest : List Placed) (c : Come) (now : Standing) (closed : ℕ) (kept : Option (List ℕ)) → IsRunning t rest c
     → now ≡ c.stands → Holding now.blocks kept → LeavesRun t closed kept
-settled_leaves t time rest c now closed kept runs same holds =
-    leaves_all t time rest c closed kept runs (subst (λ (x : Standing). Holding x.blocks kept) same holds)
+settled_leaves t rest c now closed kept runs same holds =
+    leaves_all t rest c closed kept runs (subst (λ (x : Standing). Holding x.blocks kept) same holds)
 
 -- ---- what is synced
 
@@ -243,10 +242,10 @@ pub kept_settled : (c : Come) (now : StoreTold) → (c.marked ≡ true → IsSyn
 kept_settled c now all same is = synced_by c.marked c.store now is all same
 
 -- the same run, told of an equal script and an equal state
-pub runs_same : (t : RunRecord) (time : TimeParts) (script given : List (List Job)) (c d : Come) → given ≡ script → d ≡ c → IsRunning t time (all_placed script) c
-    → IsRunning t time (all_placed given) d
-runs_same t time script given c d same come runs =
-    subst (λ (x : List (List Job)). IsRunning t time (all_placed x) d) (sym same) (subst (λ (x : Come). IsRunning t time (all_placed script) x) (sym come) runs)
+pub runs_same : (t : RunRecord) (script given : List (List Job)) (c d : Come) → given ≡ script → d ≡ c → IsRunning t (all_placed script) c
+    → IsRunning t (all_placed given) d
+runs_same t script given c d same come runs =
+    subst (λ (x : List (List Job)). IsRunning t (all_placed x) d) (sym same) (subst (λ (x : Come). IsRunning t (all_placed script) x) (sym come) runs)
 
 -- a failure after a later time is one after an earlier time
 pub stop_later : (why : SettleFault) (before between after : StoreTold) → before.faults ≤ between.faults → IsSettleFault why between after
@@ -256,12 +255,12 @@ stop_later settle.OutOfMemory before between after later h = tt
 
 -- ---- the whole run
 
--- the record of a run that begins with what was loaded
-abbrev pub loaded : TimeParts → List (List Job) → ℕ → Standing → RunRecord
-loaded time script opened found = record {
-  given = Some 0;
+-- the record of a run on these terms that begins with what was loaded
+abbrev pub loaded : Terms → List (List Job) → ℕ → Standing → RunRecord
+loaded terms script opened found = record {
+  given = terms.given;
   mask = found.mask;
-  times = one_time time;
+  times = terms.times;
   workers = 1;
   jobs = all_placed script;
   opened = opened;
@@ -271,27 +270,34 @@ loaded time script opened found = record {
   outcomes = [];
 }
 
-loaded_journal : (held : Option (List ℕ)) (blocks : List Block) (marked : Bool) → IsLoaded held blocks marked → HasJournal blocks held
+pub loaded_journal : (held : Option (List ℕ)) (blocks : List Block) (marked : Bool) → IsLoaded held blocks marked → HasJournal blocks held
 loaded_journal None blocks marked is = tt
 loaded_journal (Some bytes) blocks marked is = (is.0, is.1)
 
-module _ (time : TimeParts) (script : List (List Job)) (s : Span StoreTold) (found : Standing) (marked : Bool) (journal : IsLoaded (held s.before) found.blocks marked)
-    (mask : found.mask ≡ mask_of 0 found.blocks) where
+-- the mask is that of the blocks, or the one that is told where there is none
+masked_as : (given : Option ℕ) (mask own : ℕ) (blocks : List Block) → IfSome given (λ g. g ≡ mask) → own ≡ mask_of mask blocks
+    → IfSome given (λ g. own ≡ mask_of g blocks)
+masked_as None mask own blocks same is = tt
+masked_as (Some g) mask own blocks same is = is ∙ ap (λ (n : ℕ). mask_of n blocks) (sym same)
+
+module _ (terms : Terms) (given : ℕ) (told : IfSome terms.given (λ g. g ≡ given)) (script : List (List Job)) (s : Span StoreTold) (found : Standing)
+    (marked : Bool) (journal : IsLoaded (held s.before) found.blocks marked) (mask : found.mask ≡ mask_of given found.blocks) where
   abbrev t : RunRecord
-  t = loaded time script s.before.faults found
+  t = loaded terms script s.before.faults found
 
   -- the run begins
   pub loaded_begun : (c : Come) → c.stands ≡ found → c.outcomes ≡ [] → c.store.faults ≡ s.before.faults → held c.store ≡ held s.before → IsStanding found
-      → found.last ≡ greatest found.mask found.blocks → IsRunning t time (all_placed script) c
+      → found.last ≡ greatest found.mask found.blocks → IsRunning t (all_placed script) c
   loaded_begun c same none opens bytes sound last =
-      runs_begun t time script c (ap (λ (x : Standing). x.blocks) (sym same)) (ap (λ (x : Standing). x.mask) (sym same)) mask refl refl opens none
+      runs_begun t script c (ap (λ (x : Standing). x.blocks) (sym same)) (ap (λ (x : Standing). x.mask) (sym same))
+      (masked_as terms.given given found.mask found.blocks told mask) refl opens none
       (subst (λ (x : Standing). IsStanding x) (sym same) sound)
       (subst (λ (x : Standing). x.last ≡ greatest x.mask x.blocks) (sym same) last)
       (subst (λ (x : Standing). HasJournal x.blocks (held c.store)) (sym same)
       (subst (λ (x : Option (List ℕ)). HasJournal found.blocks x) (sym bytes) (loaded_journal (held s.before) found.blocks marked journal)))
 
   pub loaded_reported : (text : List ℕ) → IsReported t s.after text
-      → (IsSynced s.before → IsSynced s.after) → IsReportOf time script s text
+      → (IsSynced s.before → IsSynced s.after) → IsReportOf terms script s text
   loaded_reported text reported synced = record {
     told = record t { after = reported.blocks; outcomes = reported.outcomes; closed = s.after.faults };
     done = record {
@@ -311,5 +317,18 @@ module _ (time : TimeParts) (script : List (List Job)) (s : Span StoreTold) (fou
     text_is = reported.text_is;
   }
 
-  pub loaded_left : LeavesRun t s.after.faults (held s.after) → HoldsRun time script s
-  loaded_left left = HoldsRun-left time script s t (loaded_journal (held s.before) found.blocks marked journal) refl refl refl refl refl left
+  pub loaded_left : LeavesRun t s.after.faults (held s.after) → HoldsRun terms script s
+  loaded_left left = record {
+    told = record t { after = left.blocks; closed = s.after.faults };
+    of_run = record {
+      found = loaded_journal (held s.before) found.blocks marked journal;
+      given = refl;
+      times = refl;
+      workers = refl;
+      jobs = refl;
+      opened = refl;
+      closed = refl;
+    };
+    fits = left.fits;
+    holding = left.holding;
+  }

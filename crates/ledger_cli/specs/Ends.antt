@@ -1,13 +1,14 @@
--- What is so where a run ends, by its report or by why it has none.
-use Rattle.std.specs.Prelude.{◌≡◌, ℕ, ◌<◌, ◌⊎◌, List, [], ◌∷◌, ◌++◌, codes, Result, Ok, Err}
+-- What is so where a command ends, by its output or by why it has none.
+use Rattle.std.specs.Prelude.{◌≡◌, ℕ, ◌<◌, ◌⊎◌, List, [], ◌∷◌, ◌++◌, codes, Option, Result, Ok, Err}
 use Rattle.std.specs.Fmt.{decimal}
-use Rattle.ion_values.specs.declared.time.TimeParts.{TimeParts}
-use Rattle.outside.specs.Told.{SourceTold, SinkTold, StoreTold}
+use Rattle.outside.specs.Told.{SinkTold}
+use Rattle.command_words.specs.declared.Command.{Command}
 use Rattle.ledger_claims.specs.Calls.{Span}
-use Rattle.ledger_claims.specs.Lines.{memory_line, input_line, damaged_line, faults_line}
 use Rattle.ledger_claims.specs.Streams.{Writes, WritesPart, BreaksOff, WritesLine}
-use Rattle.ledger_claims.specs.Top.{ServesScript, HasFailed, HasReport, IsBadInput, IsDamagedAt, IsOnlyRead, IsUncalled, Leaves}
-use Rattle.ledger_claims.specs.Top as top
+use Rattle.command_claims.specs.Calls.{Outside}
+use Rattle.command_claims.specs.Lines.{memory_line, input_line, no_such_line, damaged_line, faults_line, proof_fault_line}
+use Rattle.command_claims.specs.Top.{Gives, Refuses}
+use Rattle.command_claims.specs.Top as top
 use Rattle.ledger_cli.specs.Judgements.{cause_of}
 use Rattle.ledger_cli.specs.Inputs.{IsFine}
 use Rattle.ledger_cli.specs.declared.ends.Status.{Status}
@@ -24,22 +25,26 @@ status_of status.Damaged = top.damaged
 status_of status.SourceFailed = top.source_failed
 status_of status.StoreFailed = top.store_failed
 status_of status.SinkFailed = top.sink_failed
+status_of status.NotAccepted = top.not_accepted
 status_of status.OutOfMemory = top.out_of_memory
 
--- ---- what the run did
+-- ---- what the command came to
 
--- there is the text of a report, or a cause why not
-abbrev pub Works : Type 0 → TimeParts → Result (List ℕ) Stop → Span SourceTold → Span StoreTold → Type 0
-Works same time (Ok text) source store = HasReport time source store text × IsFine source
-Works same time (Err (stop.BadInput cause)) source store =
-    IsBadInput (cause_of cause) source × IsUncalled same store × IsFine source
-Works same time (Err (stop.Damaged sequence kind)) source store =
-    IsDamagedAt source store sequence kind × IsOnlyRead store × IsFine source
-Works same time (Err stop.SourceFailed) source store =
-    (source.before.faults < source.after.faults) × IsUncalled same store
-Works same time (Err stop.StoreFailed) source store =
-    ServesScript source × HasFailed store × Leaves time source store × IsFine source
-Works same time (Err stop.OutOfMemory) source store = Leaves time source store × IsFine source
+-- what was asked for, or a cause why not, with its status and its line
+abbrev pub Works : Type 0 → Option Command → Result (List ℕ) Stop → Outside → Type 0
+Works same what (Ok text) x = Gives what x text × IsFine x.source
+Works same what (Err (stop.BadInput cause)) x =
+    Refuses same what x top.bad_input (input_line (cause_of cause)) × IsFine x.source
+Works same what (Err (stop.NoSuch why)) x = Refuses same what x top.bad_input (no_such_line why) × IsFine x.source
+Works same what (Err (stop.Damaged sequence kind)) x =
+    Refuses same what x top.damaged (damaged_line sequence kind) × IsFine x.source
+Works same what (Err stop.SourceFailed) x =
+    Refuses same what x top.source_failed (faults_line (codes "4") x.source.after.faults)
+Works same what (Err stop.StoreFailed) x =
+    Refuses same what x top.store_failed (faults_line (codes "5") x.store.after.faults) × IsFine x.source
+Works same what (Err (stop.NotAccepted fault)) x =
+    Refuses same what x top.not_accepted (proof_fault_line fault) × IsFine x.source
+Works same what (Err stop.OutOfMemory) x = IsFine x.source
 
 -- ---- how it is written
 
@@ -61,23 +66,26 @@ IsOwnLine s own sink text =
 abbrev pub count_line : List ℕ → ℕ → List ℕ
 count_line front count = front ++ decimal count ++ codes "}" ++ 10 ∷ []
 
--- all of the report was written, or a part of it where the sink failed or memory was wanted
-pub record IsReportEnd (s : Status) (sink : Span SinkTold) (text : List ℕ) : Type 0 where
+-- all of the output was written, or a part of it where the sink failed or memory was wanted
+pub record IsOutputEnd (s : Status) (sink : Span SinkTold) (text : List ℕ) : Type 0 where
   pub known : (s ≡ status.Done) ⊎ (s ≡ status.SinkFailed) ⊎ (s ≡ status.OutOfMemory)
   pub done : s ≡ status.Done → Writes sink text
   pub part : WritesPart sink text
   pub failed : s ≡ status.SinkFailed → sink.before.faults < sink.after.faults
   pub wanted : s ≡ status.OutOfMemory → sink.after.faults ≡ sink.before.faults
 
--- with the report or an error line, where the source and the store have failed so often
+-- with the output or an error line, where the source and the store have failed so often
 abbrev pub EndsBy : Result (List ℕ) Stop → Status → ℕ → ℕ → Span SinkTold → Type 0
-EndsBy (Ok text) s source_faults store_faults sink = IsReportEnd s sink text
+EndsBy (Ok text) s source_faults store_faults sink = IsOutputEnd s sink text
 EndsBy (Err (stop.BadInput cause)) s source_faults store_faults sink =
     IsLine s status.BadInput sink (input_line (cause_of cause))
+EndsBy (Err (stop.NoSuch why)) s source_faults store_faults sink = IsLine s status.BadInput sink (no_such_line why)
 EndsBy (Err (stop.Damaged sequence kind)) s source_faults store_faults sink =
     IsLine s status.Damaged sink (damaged_line sequence kind)
 EndsBy (Err stop.SourceFailed) s source_faults store_faults sink =
     IsOwnLine s status.SourceFailed sink (faults_line (codes "4") source_faults)
 EndsBy (Err stop.StoreFailed) s source_faults store_faults sink =
     IsOwnLine s status.StoreFailed sink (faults_line (codes "5") store_faults)
+EndsBy (Err (stop.NotAccepted fault)) s source_faults store_faults sink =
+    IsLine s status.NotAccepted sink (proof_fault_line fault)
 EndsBy (Err stop.OutOfMemory) s source_faults store_faults sink = (s ≡ status.OutOfMemory) × IsWanted sink

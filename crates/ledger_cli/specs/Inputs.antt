@@ -3,7 +3,7 @@ use Rattle.std.specs.Prelude.{◌≡◌, ◌<◌, List, Result, Ok, Err}
 use Rattle.ledger_model.specs.declared.script.Job.{Job}
 use Rattle.outside.specs.Told.{SourceTold}
 use Rattle.ledger_claims.specs.Calls.{Span}
-use Rattle.ledger_claims.specs.Top.{HasScript, IsBadInput}
+use Rattle.command_claims.specs.Inputs.{HasScript, IsNoScript}
 use Rattle.ledger_cli.specs.Judgements.{AreRunnable, cause_of}
 use Rattle.ledger_cli.specs.declared.lines.BadInput.TheVariants as bad
 use Rattle.ledger_cli.specs.declared.stop.Stop.{Stop}
@@ -16,17 +16,21 @@ IsFine source = source.after.faults ≡ source.before.faults
 -- why an input wasn't read: it is too long, or the source failed, or memory was wanted
 abbrev pub IsUnread : Stop → Span SourceTold → Type 0
 IsUnread (stop.BadInput cause) source = (cause ≡ bad.TooLong) × IsFine source
+IsUnread (stop.NoSuch why) source = ⊥
 IsUnread (stop.Damaged sequence kind) source = ⊥
 IsUnread stop.SourceFailed source = source.before.faults < source.after.faults
 IsUnread stop.StoreFailed source = ⊥
+IsUnread (stop.NotAccepted fault) source = ⊥
 IsUnread stop.OutOfMemory source = IsFine source
 
 -- why there is no script: the source failed only where that is the cause, and a store is not asked
 abbrev pub IsReadStop : Stop → Span SourceTold → Type 0
-IsReadStop (stop.BadInput cause) source = IsBadInput (cause_of cause) source × IsFine source
+IsReadStop (stop.BadInput cause) source = IsNoScript (cause_of cause) source × IsFine source
+IsReadStop (stop.NoSuch why) source = ⊥
 IsReadStop (stop.Damaged sequence kind) source = ⊥
 IsReadStop stop.SourceFailed source = source.before.faults < source.after.faults
 IsReadStop stop.StoreFailed source = ⊥
+IsReadStop (stop.NotAccepted fault) source = ⊥
 IsReadStop stop.OutOfMemory source = IsFine source
 
 -- there is a script that is served, or a cause why not

@@ -3,8 +3,8 @@ use Rattle.std.specs.Prelude.{◌≡◌, ℕ, ◌+◌, ◌<◌, ◌^◌, List, [
 use Rattle.std.specs.List.{AllByRecursion}
 use Rattle.ledger_model.specs.declared.script.Job.{Job}
 use Rattle.ledger_model.specs.Unbuilt.{Judged, too_long, faulty, misspelt, unbuilt, served}
-use Rattle.ledger_claims.specs.Lines.{BadInput}
-use Rattle.ledger_claims.specs.Lines as bad
+use Rattle.command_claims.specs.Lines.{BadInput}
+use Rattle.command_claims.specs.Lines as bad
 use Rattle.ledger_cli.specs.declared.lines.BadInput as held
 use Rattle.ledger_cli.specs.declared.lines.BadInput.TheVariants as cause
 use Rattle.ledger_cli.specs.declared.stop.Stop.{Stop}
@@ -26,9 +26,11 @@ cause_of cause.Unbuilt = bad.unbuilt
 abbrev pub JudgesTo : Result (List (List Job)) Stop → Judged → Type 0
 JudgesTo (Ok script) judgement = judgement ≡ served script
 JudgesTo (Err (stop.BadInput cause)) judgement = judgement ≡ judged_of cause
+JudgesTo (Err (stop.NoSuch why)) judgement = ⊥
 JudgesTo (Err (stop.Damaged sequence kind)) judgement = ⊥
 JudgesTo (Err stop.SourceFailed) judgement = ⊥
 JudgesTo (Err stop.StoreFailed) judgement = ⊥
+JudgesTo (Err (stop.NotAccepted fault)) judgement = ⊥
 JudgesTo (Err stop.OutOfMemory) judgement = Unit {0}
 
 -- these transactions can be counted in 32 bits

@@ -1,6 +1,5 @@
 -- How far the run of a script has come, what is so between two of its transactions, and how it ends.
 use Rattle.std.specs.Prelude.{◌≡◌, ℕ, Bool, false, List, ◌++◌, Option, IfSome}
-use Rattle.ion_values.specs.declared.time.TimeParts.{TimeParts}
 use Rattle.ledger_model.specs.declared.block.Block.{Block}
 use Rattle.ledger_model.specs.declared.outcome.PlacedOutcome.{PlacedOutcome}
 use Rattle.ledger_model.specs.Journal.{journal_bytes}
@@ -8,10 +7,13 @@ use Rattle.ledger_model.specs.Report.{report}
 use Rattle.ledger_model.specs.Script.{Placed}
 use Rattle.outside.specs.Told.{StoreTold, held}
 use Rattle.ledger_claims.specs.Attempts.{Standing, IsStanding}
-use Rattle.ledger_claims.specs.Fits.{RunRecord, IsTimeIn, Fits}
+use Rattle.ledger_claims.specs.Fits.{RunRecord, Fits}
 use Rattle.ledger_claims.specs.SoFar.{SoFar, LeavesRun, standing}
 use Rattle.ledger_claims.specs.Stores.{Holding, IsSynced}
+use Rattle.command_claims.specs.Clocks.{Answers}
 use Rattle.ledger_core.specs.Tails.{TailHeld}
+use Rattle.ledger_cli.specs.Clocks.{Covers}
+use Rattle.ledger_cli.specs.declared.times.TimeSource.{TimeSource}
 
 -- what the ledger stands for, whether its store is to be cut, what the store tells, and the outcomes so far
 pub record Come : Type 0 where
@@ -32,10 +34,9 @@ record_of t c = record t { after = c.stands.blocks; outcomes = c.outcomes; close
 abbrev pub BeginsWith : List Block → Option (List ℕ) → Type 0
 BeginsWith blocks held = IfSome held (λ bytes. (rest : List ℕ) × (bytes ≡ journal_bytes blocks ++ rest))
 
--- Of this run, of whose times this one is, these transactions are to come. What it made and told so far is true, and the
--- store holds the journal of it, or that of one transaction more, which was not told.
-pub record IsRunning (t : RunRecord) (time : TimeParts) (rest : List Placed) (c : Come) : Type 0 where
-  pub timed : IsTimeIn t.times time
+-- Of this run these transactions are to come. What it made and told so far is true, and the store holds the journal of it,
+-- or that of one transaction more, which was not told.
+pub record IsRunning (t : RunRecord) (rest : List Placed) (c : Come) : Type 0 where
   pub done : List Placed
   pub so_far : SoFar (record_of t c) done rest c.stands.last
   pub stands_so : c.stands ≡ standing (record_of t c) c.stands.last
@@ -43,10 +44,12 @@ pub record IsRunning (t : RunRecord) (time : TimeParts) (rest : List Placed) (c 
   pub left : LeavesRun (record_of t c) c.store.faults (held c.store)
   pub begins : BeginsWith c.stands.blocks (held c.store)
 
--- a run of which these transactions were to come next has come behind them
-abbrev pub Passes : TimeParts → List Placed → Come → Come → Type 0
-Passes time placed before now =
-    (t : RunRecord) (rest : List Placed) → IsRunning t time (placed ++ rest) before → IsRunning t time rest now
+-- A run of which these transactions were to come next has come behind them, where the times that the source gave them are
+-- among its times. These are the answers of the clock before and after them.
+abbrev pub Passes : TimeSource → Answers → Answers → List Placed → Come → Come → Type 0
+Passes from earlier later placed before now =
+    (t : RunRecord) (rest : List Placed) → Covers from earlier later t.times → IsRunning t (placed ++ rest) before
+    → IsRunning t rest now
 
 -- where nothing is to be cut, all bytes that the store tells are synced
 abbrev pub IsKept : Come → Type 0

@@ -1,9 +1,13 @@
--- Why a run has no report.
-use Rattle.std.specs.Prelude.{IfSome}
-use Rattle.ledger_model.specs.Recovered.{IsDamaged}
-use Rattle.outside.specs.Told.{StoreTold, held}
+-- Why a command has no output.
+use Rattle.std.specs.Prelude.{List}
+use Rattle.ledger_model.specs.declared.block.Block.{Block}
+use Rattle.outside.specs.Told.{StoreTold}
+use Rattle.proof_issue.specs.declared.NoSuch.{NoSuch}
+use Rattle.proof_issue.specs.declared.NoSuch.TheVariants as none_such
+use Rattle.proof_verify.specs.declared.ProofFault.{ProofFault}
+use Rattle.proof_verify.specs.declared.ProofFault.TheVariants as fault
 use Rattle.ledger_claims.specs.Calls.{Span}
-use Rattle.ledger_claims.specs.Top.{HasFailed, IsOnlyRead}
+use Rattle.command_claims.specs.Journals.{Question, HasNone, HasFailed, ReadsDamage}
 use Rattle.ledger_core.specs.declared.keeping.SettleFault.{SettleFault}
 use Rattle.ledger_core.specs.declared.keeping.SettleFault.TheVariants as settle
 use Rattle.ledger_core.specs.declared.reload.LoadCause.{LoadCause}
@@ -17,25 +21,48 @@ load_stop (load.Damaged sequence kind) = stop.Damaged sequence kind
 load_stop (load.StoreFault count) = stop.StoreFailed
 load_stop load.OutOfMemory = stop.OutOfMemory
 
--- and by why nothing was cut
+-- by why nothing was cut
 abbrev pub settle_stop : SettleFault → Stop
 settle_stop (settle.StoreFault count) = stop.StoreFailed
 settle_stop settle.OutOfMemory = stop.OutOfMemory
+
+-- by why there is no such digest or proof
+abbrev pub no_such_stop : NoSuch → Stop
+no_such_stop none_such.OutOfMemory = stop.OutOfMemory
+no_such_stop why = stop.NoSuch why
+
+-- and by why a proof isn't accepted
+abbrev pub proof_stop : ProofFault → Stop
+proof_stop fault.OutOfMemory = stop.OutOfMemory
+proof_stop why = stop.NotAccepted why
 
 -- The store failed, in its last call too. Want of memory may come behind transactions that the store failed at, and no
 -- line is damaged and no input refused.
 abbrev pub IsTailStop : Stop → Span StoreTold → Type 0
 IsTailStop (stop.BadInput cause) store = ⊥
+IsTailStop (stop.NoSuch why) store = ⊥
 IsTailStop (stop.Damaged sequence kind) store = ⊥
 IsTailStop stop.SourceFailed store = ⊥
 IsTailStop stop.StoreFailed store = HasFailed store
+IsTailStop (stop.NotAccepted fault) store = ⊥
 IsTailStop stop.OutOfMemory store = Unit {0}
 
 -- The store's journal is damaged there, and it was only read; or the store failed. Want of memory says nothing.
-abbrev pub IsRunStop : Stop → Span StoreTold → Type 0
-IsRunStop (stop.BadInput cause) store = ⊥
-IsRunStop (stop.Damaged sequence kind) store =
-    IfSome (held store.before) (λ bytes. IsDamaged bytes sequence kind) × IsOnlyRead store
-IsRunStop stop.SourceFailed store = ⊥
-IsRunStop stop.StoreFailed store = HasFailed store
-IsRunStop stop.OutOfMemory store = Unit {0}
+abbrev pub IsLoadStop : Stop → Span StoreTold → Type 0
+IsLoadStop (stop.BadInput cause) store = ⊥
+IsLoadStop (stop.NoSuch why) store = ⊥
+IsLoadStop (stop.Damaged sequence kind) store = ReadsDamage store sequence kind
+IsLoadStop stop.SourceFailed store = ⊥
+IsLoadStop stop.StoreFailed store = HasFailed store
+IsLoadStop (stop.NotAccepted fault) store = ⊥
+IsLoadStop stop.OutOfMemory store = Unit {0}
+
+-- the blocks have no answer to the question, or memory was wanted
+abbrev pub IsAnswerStop : Question → List Block → Stop → Type 0
+IsAnswerStop question blocks (stop.BadInput cause) = ⊥
+IsAnswerStop question blocks (stop.NoSuch why) = HasNone question blocks why
+IsAnswerStop question blocks (stop.Damaged sequence kind) = ⊥
+IsAnswerStop question blocks stop.SourceFailed = ⊥
+IsAnswerStop question blocks stop.StoreFailed = ⊥
+IsAnswerStop question blocks (stop.NotAccepted fault) = ⊥
+IsAnswerStop question blocks stop.OutOfMemory = Unit {0}

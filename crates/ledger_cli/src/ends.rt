@@ -1,18 +1,21 @@
-//! How a command ends: with its report or an error line, and an exit status.
+//! How a command ends: with its output or an error line, and an exit status.
 ghost use Rattle.std.specs.Prelude.{◌≡◌, ◌<◌, ◌⊎◌, Err};
 ghost use Rattle.ledger_claims.specs.Calls.{span};
 ghost use Rattle.ledger_claims.specs.Streams.{Writes, WritesPart};
-ghost use Rattle.ledger_claims.specs.Lines.{input_line, damaged_line};
-ghost use Rattle.ledger_claims.specs.Top as top;
+ghost use Rattle.command_claims.specs.Lines.{damaged_line, input_line, no_such_line, proof_fault_line};
+ghost use Rattle.command_claims.specs.Top as top;
 ghost use Rattle.ledger_cli.specs.Ends.{EndsBy, IsLine, IsOwnLine, IsWanted, count_line, status_of};
 ghost use Rattle.ledger_cli.specs.Judgements.{cause_of};
 
-use crate::lines::{BadInput, damaged_line, input_line};
+use crate::faults::proof_fault_line;
+use crate::lines::{BadInput, damaged_line, input_line, no_such_line};
 use crate::output::{write_all, write_count};
 use crate::stop::Stop;
 use ion_values::Text;
 use ledger_model::Damage;
 use outside::{JournalStore, OutFault, Sink, Source};
+use proof_issue::NoSuch;
+use proof_verify::ProofFault;
 use std::alloc::Global;
 
 /// How a command ends. Its number is the exit status.
@@ -25,6 +28,7 @@ pub enum Status {
     SourceFailed = 4,
     StoreFailed = 5,
     SinkFailed = 6,
+    NotAccepted = 7,
     OutOfMemory = 8,
 }
 
@@ -35,19 +39,19 @@ pub fn number_of(status: Status) -> u8
     status as u8
 }
 
-/// Ends with the report, or with the error line of what the command was stopped by.
+/// Ends with the output, or with the error line of what the command was stopped by.
 pub fn end<So: Source, Si: Sink, St: JournalStore>(
     alloc: Global,
-    report: Result<Text, Stop>,
+    came: Result<Text, Stop>,
     source: &So,
     sink: &mut Si,
     store: &St,
 ) -> Status
-    ensures { EndsBy report result (So.told source.now).faults (St.told store.now).faults
+    ensures { EndsBy came result (So.told source.now).faults (St.told store.now).faults
         (span (Si.told sink.old) (Si.told sink.new)) }
 {
-    match report {
-        Ok(text) => end_by_report(sink, text),
+    match came {
+        Ok(text) => end_by_output(sink, text),
         Err(stop) => end_by_stop(alloc, stop, source, sink, store),
     }
 }
@@ -65,6 +69,8 @@ fn end_by_stop<So: Source, Si: Sink, St: JournalStore>(
 {
     match stop {
         Stop::BadInput(cause) => end_by_input(alloc, sink, cause),
+        Stop::NoSuch(refused) => end_by_none(alloc, sink, refused),
+        Stop::NotAccepted(fault) => end_by_fault(alloc, sink, &fault),
         Stop::Damaged { sequence, kind } => end_by_damage(alloc, sink, sequence, kind),
         Stop::SourceFailed => {
             end_by_count(
@@ -86,8 +92,8 @@ fn end_by_stop<So: Source, Si: Sink, St: JournalStore>(
     }
 }
 
-/// Ends with the report.
-fn end_by_report<Si: Sink>(sink: &mut Si, text: Text) -> Status
+/// Ends with the output.
+fn end_by_output<Si: Sink>(sink: &mut Si, text: Text) -> Status
     ensures known { (result ≡ Status.Done) ⊎ (result ≡ Status.SinkFailed) ⊎ (result ≡ Status.OutOfMemory) }
     ensures done { result ≡ Status.Done → Writes (span (Si.told sink.old) (Si.told sink.new)) text }
     ensures part { WritesPart (span (Si.told sink.old) (Si.told sink.new)) text }
@@ -124,7 +130,7 @@ fn end_by_count<Si: Sink>(sink: &mut Si, front: &str, count: u64, status: Status
 }
 
 /// Ends with the error line of want of memory, whether the sink takes it or not.
-fn end_by_want<Si: Sink>(sink: &mut Si) -> Status
+pub fn end_by_want<Si: Sink>(sink: &mut Si) -> Status
     ensures wanted { result ≡ Status.OutOfMemory }
     ensures line { IsWanted (span (Si.told sink.old) (Si.told sink.new)) }
 {
@@ -137,6 +143,26 @@ fn end_by_input<Si: Sink>(alloc: Global, sink: &mut Si, cause: BadInput) -> Stat
 {
     match input_line(alloc, cause) {
         Ok(line) => end_by_line(sink, line.as_str(), Status::BadInput),
+        Err(_) => end_by_want(sink),
+    }
+}
+
+/// Ends with the error line of a digest or proof that there is none of.
+fn end_by_none<Si: Sink>(alloc: Global, sink: &mut Si, refused: NoSuch) -> Status
+    ensures { IsLine result Status.BadInput (span (Si.told sink.old) (Si.told sink.new)) (no_such_line refused) }
+{
+    match no_such_line(alloc, refused) {
+        Ok(line) => end_by_line(sink, line.as_str(), Status::BadInput),
+        Err(_) => end_by_want(sink),
+    }
+}
+
+/// Ends with the error line of a proof that isn't accepted.
+fn end_by_fault<Si: Sink>(alloc: Global, sink: &mut Si, fault: &ProofFault) -> Status
+    ensures { IsLine result Status.NotAccepted (span (Si.told sink.old) (Si.told sink.new)) (proof_fault_line fault.now) }
+{
+    match proof_fault_line(alloc, fault) {
+        Ok(line) => end_by_line(sink, line.as_str(), Status::NotAccepted),
         Err(_) => end_by_want(sink),
     }
 }

@@ -1,18 +1,22 @@
-//! The top call of the ledger: it reads a script, runs it and writes its report.
+//! The top call of the ledger: it does what the words of a command line ask for.
 #![tactic(auto)]
 
+mod audit;
+mod digest;
 mod ends;
+mod faults;
 mod input;
+mod journal;
 mod lines;
 mod output;
+mod prove;
 mod returned;
 mod run;
 mod served;
 mod stop;
+mod times;
 mod top;
-mod words;
+mod verify;
+mod work;
 
 pub use top::{Ended, ledger_top};
-
-#[cfg(test)]
-mod tests;

@@ -1,10 +1,12 @@
 //! The lines that are written in place of a report.
 ghost use Rattle.std.specs.Prelude.{◌≡◌, ◌++◌, IfOk, OnOk};
-ghost use Rattle.ledger_claims.specs.Lines.{damage_name, damaged_line, fault_text, faulty, input_line, kind_name, script_fault_text, script_kind_name};
+ghost use Rattle.std.specs.Fmt.{decimal};
+ghost use Rattle.command_claims.specs.Lines.{damage_name, damaged_line, fault_text, faulty, input_line, kind_name, no_such_line, no_such_text, script_fault_text, script_kind_name};
 ghost use Rattle.ledger_cli.specs.Judgements.{cause_of};
 
 use ion_values::{IonFault, IonKind, OutOfMemory, Text};
 use ledger_model::{Damage, ScriptFault, ScriptKind};
+use proof_issue::NoSuch;
 use std::alloc::Global;
 
 /// Why an input is refused.
@@ -104,6 +106,71 @@ fn script_kind_name(kind: ScriptKind) -> &'static str
         ScriptKind::BadDigest => "BadDigest",
         ScriptKind::BadEnd => "BadEnd",
     }
+}
+
+/// The error line where there is no such digest or proof.
+pub fn no_such_line(alloc: Global, refused: NoSuch) -> Result<Text, OutOfMemory>
+    ensures { IfOk result (λ line. line ≡ no_such_line refused) }
+{
+    let mut line = Text::new(alloc);
+    line.push_str("{status:2,fault:{")?;
+    push_no_such(alloc, &mut line, refused)?;
+    line.push_str("}}\n")?;
+    Ok(line)
+}
+
+/// Writes why there is no such digest or proof.
+fn push_no_such(alloc: Global, line: &mut Text, refused: NoSuch) -> Result<(), OutOfMemory>
+    ensures { OnOk result (line.new ≡ line.old ++ no_such_text refused) }
+{
+    match refused {
+        NoSuch::Block { sequence, blocks } => push_two(
+            alloc,
+            line,
+            "kind:NoSuchBlock,sequence:",
+            sequence,
+            ",blocks:",
+            blocks,
+        )?,
+        NoSuch::Revision { index, count } => push_two(
+            alloc,
+            line,
+            "kind:NoSuchRevision,index:",
+            u64::from(index),
+            ",count:",
+            u64::from(count),
+        )?,
+        NoSuch::PastTip { sequence, tip } => push_two(
+            alloc,
+            line,
+            "kind:PastTip,sequence:",
+            sequence,
+            ",tip:",
+            tip,
+        )?,
+        NoSuch::OutOfMemory => line.push_str("kind:OutOfMemory")?,
+    }
+    Ok(())
+}
+
+/// Writes two texts, a number behind each.
+fn push_two(
+    alloc: Global,
+    line: &mut Text,
+    front: &str,
+    first: u64,
+    between: &str,
+    second: u64,
+) -> Result<(), OutOfMemory>
+    ensures { OnOk result (line.new ≡ line.old ++ (front.now ++ decimal first ++ between.now ++ decimal second)) }
+{
+    let number = first.to_string(alloc)?;
+    let other = second.to_string(alloc)?;
+    line.push_str(front)?;
+    line.push_str(number.as_str())?;
+    line.push_str(between)?;
+    line.push_str(other.as_str())?;
+    Ok(())
 }
 
 /// The error line of a journal whose line of this number, counted from 0, fails this check first.

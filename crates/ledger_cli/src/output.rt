@@ -1,12 +1,25 @@
 //! Writing a whole text.
-ghost use Rattle.std.specs.Prelude.{OnOk, OnErr};
+ghost use Rattle.std.specs.Prelude.{◌≡◌, ◌++◌, OnOk, OnErr};
 ghost use Rattle.outside.specs.Causes.{HasCause};
 ghost use Rattle.ledger_claims.specs.Calls.{span};
 ghost use Rattle.ledger_claims.specs.Streams.{Writes, WritesPart, BreaksOff};
+ghost use Rattle.command_claims.specs.Outputs.{value_line};
 ghost use Rattle.ledger_cli.specs.Ends.{count_line};
 
+use ion_text::write;
+use ion_values::{OutOfMemory, Text, Value};
 use itoa::Buffer;
 use outside::{OutFault, Sink};
+use std::alloc::Global;
+
+/// Puts the text of a value behind the others, on a line of its own.
+pub fn put_line(alloc: Global, text: &mut Text, value: &Value) -> Result<(), OutOfMemory>
+    ensures { OnOk result (text.new ≡ text.old ++ value_line value.now) }
+{
+    let written = write(alloc, value)?;
+    text.push_str(written.as_str())?;
+    text.push_str("\n")
+}
 
 /// Writes all of the text. After a fault a front part of it was written, and not all.
 pub fn write_all<Si: Sink>(sink: &mut Si, text: &[u8]) -> Result<(), OutFault>

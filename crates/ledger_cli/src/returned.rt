@@ -1,9 +1,8 @@
 //! What a step gives back.
 
-/// What came of a step, and the store and the clock that it was given.
+/// What came of a step, and the store that it was given.
 #[derive(Drop)]
-pub struct Returned<T, S, C> {
+pub struct Returned<T, S> {
     pub came: T,
     pub store: S,
-    pub clock: C,
 }

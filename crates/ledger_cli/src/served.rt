@@ -17,7 +17,7 @@ use script_form::{ScriptAnswer, read_script};
 use std::alloc::Global;
 
 /// The deepest nesting of an input.
-const DEEPEST: u32 = 80;
+pub const DEEPEST: u32 = 80;
 
 /// Whether all of the statements are served.
 fn are_served(alloc: Global, asked: &[Request]) -> Result<bool, OutOfMemory>

@@ -1,22 +1,17 @@
 //! The top call.
-ghost use Rattle.std.specs.Prelude.{◌≡◌};
-ghost use Rattle.ion_values.specs.declared.time.TimeParts.{TimeParts};
-ghost use Rattle.ledger_claims.specs.Calls.{exchange, span};
+ghost use Rattle.std.specs.Prelude.{◌≡◌, Some, false, map, string_bytes};
+ghost use Rattle.ledger_claims.specs.Calls.{span};
 ghost use Rattle.ledger_claims.specs.Streams.{TakesFew};
-ghost use Rattle.ledger_claims.specs.Top.{Does, RunDoes};
-ghost use Rattle.ledger_claims.specs.Top as top;
-ghost use Rattle.ledger_cli.specs.Ends.{Works, status_of};
-ghost use Rattle.ledger_cli.specs.Inputs.{ReadsScript};
+ghost use Rattle.command_claims.specs.Calls.{outside};
+ghost use Rattle.command_claims.specs.Top.{Does, Ends, Keeps, asks_clock};
+ghost use Rattle.command_claims.specs.Top as top;
+ghost use Rattle.command_words.specs.Words.{asked};
+ghost use Rattle.ledger_cli.specs.Ends.{status_of};
 
-use crate::ends::{Status, end, end_by_line, number_of};
-use crate::input::read_all;
+use crate::ends::{Status, end, end_by_line, end_by_want, number_of};
 use crate::returned::Returned;
-use crate::run::{Ran, run_script};
-use crate::served::judge;
-use crate::stop::Stop;
-use crate::words::time_in;
-use ion_values::IonTime;
-use ledger_model::Script;
+use crate::work::work;
+use command_words::{Command, WordsFault, command_in};
 use outside::{Clock, Gate, JournalStore, Sink, Source};
 use std::alloc::Global;
 use std::sync::Wait;
@@ -30,9 +25,12 @@ pub struct Ended<St, C> {
     pub clock: C,
 }
 
-/// Does what the words say, which so far is one command, `run --plain-ids --at TIME`. It reads a script from the source,
-/// runs it on the journal that the store keeps, with TIME as the time of its blocks, and writes its report to the sink. The
-/// clock is given back as it was.
+/// Does what the words say: `run`, `digest`, `prove`, `verify` or `audit`, with the words behind it.
+///
+/// `run` reads a script from the source, runs it on the journal that the store keeps, and writes its report to the sink.
+/// `digest`, `prove` and `audit` read the journal and write its digest, the proof of a revision, or how much it holds;
+/// `verify` reads such a proof from the source. These four leave the store's bytes as they are. The clock is asked by `run`
+/// alone, and only where the words give no time or leave out where the ids come from.
 pub fn ledger_top<
     R: Threads + Wait + Sync,
     So: Source,
@@ -52,16 +50,17 @@ pub fn ledger_top<
 ) -> Ended<St, C>
     ensures does { Does (result.store ≡ store) (record {
       words = words.now;
-      told = exchange (span (So.told source.old) (So.told source.new)) (span (Si.told sink.old) (Si.told sink.new))
-          (span (St.told store) (St.told result.store));
+      told = outside (span (So.told source.old) (So.told source.new)) (span (St.told store) (St.told result.store))
+          (span (C.answers clock) (C.answers result.clock));
+      sink = span (Si.told sink.old) (Si.told sink.new);
     }) result.status }
-    ensures clock { result.clock ≡ clock }
+    ensures clock { asks_clock (asked (map string_bytes words.now)) ≡ false → result.clock ≡ clock }
 {
+    let mut clock = clock;
     let Returned {
         came: status,
         store,
-        clock,
-    } = command(alloc, words, source, sink, store, clock);
+    } = do_asked(alloc, words, source, sink, store, &mut clock);
     Ended {
         status: number_of(status),
         store,
@@ -70,86 +69,56 @@ pub fn ledger_top<
 }
 
 /// Does what the words ask for, or refuses them.
-fn command<So: Source, Si: Sink, St: JournalStore, C>(
+fn do_asked<So: Source, Si: Sink, St: JournalStore, C: Clock>(
     alloc: Global,
     words: &[String],
     source: &mut So,
     sink: &mut Si,
     store: St,
-    clock: C,
-) -> Returned<Status, St, C>
+    clock: &mut C,
+) -> Returned<Status, St>
     ensures does { Does (result.store ≡ store) (record {
       words = words.now;
-      told = exchange (span (So.told source.old) (So.told source.new)) (span (Si.told sink.old) (Si.told sink.new))
-          (span (St.told store) (St.told result.store));
+      told = outside (span (So.told source.old) (So.told source.new)) (span (St.told store) (St.told result.store))
+          (span (C.answers clock.old) (C.answers clock.new));
+      sink = span (Si.told sink.old) (Si.told sink.new);
     }) (top.number_of (status_of result.came)) }
-    ensures clock { result.clock ≡ clock }
+    ensures clock { asks_clock (asked (map string_bytes words.now)) ≡ false → clock.new ≡ clock.old }
 {
-    match time_in(words) {
-        Some(time) => run(alloc, time, source, sink, store, clock),
-        None => Returned {
+    match command_in(alloc, words) {
+        Ok(command) => do_command(alloc, command, source, sink, store, clock),
+        Err(WordsFault::Refused) => Returned {
             came: end_by_line(sink, "{status:1}\n", Status::BadWords),
             store,
-            clock,
+        },
+        Err(WordsFault::OutOfMemory) => Returned {
+            came: end_by_want(sink),
+            store,
         },
     }
 }
 
-/// Runs the script that the source gives, with this time, and writes its report or an error line.
-fn run<So: Source, Si: Sink, St: JournalStore, C>(
+/// Does what the command says, and writes its output or an error line.
+fn do_command<So: Source, Si: Sink, St: JournalStore, C: Clock>(
     alloc: Global,
-    time: IonTime,
+    command: Command,
     source: &mut So,
     sink: &mut Si,
     store: St,
-    clock: C,
-) -> Returned<Status, St, C>
-    ensures does { RunDoes (result.store ≡ store) time (exchange (span (So.told source.old) (So.told source.new))
-        (span (Si.told sink.old) (Si.told sink.new)) (span (St.told store) (St.told result.store))) (status_of result.came) }
+    clock: &mut C,
+) -> Returned<Status, St>
+    ensures ends { Ends (result.store ≡ store) (Some command) (outside (span (So.told source.old) (So.told source.new))
+        (span (St.told store) (St.told result.store)) (span (C.answers clock.old) (C.answers clock.new)))
+        (span (Si.told sink.old) (Si.told sink.new)) (status_of result.came) }
+    ensures keeps { Keeps (result.store ≡ store) (Some command) (outside (span (So.told source.old) (So.told source.new))
+        (span (St.told store) (St.told result.store)) (span (C.answers clock.old) (C.answers clock.new))) }
     ensures few { TakesFew (span (So.told source.old) (So.told source.new)) }
-    ensures clock { result.clock ≡ clock }
+    ensures asks { asks_clock (Some command) ≡ false → clock.new ≡ clock.old }
 {
-    let Returned {
-        came: report,
-        store,
-        clock,
-    } = work(alloc, time, source, store, clock);
-    let status = end(alloc, report, source, sink, &store);
+    let Returned { came, store } = work(alloc, command, source, store, clock);
+    let status = end(alloc, came, source, sink, &store);
     Returned {
         came: status,
         store,
-        clock,
     }
-}
-
-/// Runs the script that the source gives, with this time, and answers its report.
-fn work<So: Source, St: JournalStore, C>(
-    alloc: Global,
-    time: IonTime,
-    source: &mut So,
-    store: St,
-    clock: C,
-) -> Ran<St, C>
-    ensures works { Works (result.store ≡ store) time result.came (span (So.told source.old) (So.told source.new))
-        (span (St.told store) (St.told result.store)) }
-    ensures few { TakesFew (span (So.told source.old) (So.told source.new)) }
-    ensures clock { result.clock ≡ clock }
-{
-    match read_script(alloc, source) {
-        Ok(script) => run_script(alloc, &script, time, store, clock),
-        Err(stop) => Returned {
-            came: Err(stop),
-            store,
-            clock,
-        },
-    }
-}
-
-/// Reads the input and the script that it spells.
-fn read_script<So: Source>(alloc: Global, source: &mut So) -> Result<Script, Stop>
-    ensures reads { ReadsScript result (span (So.told source.old) (So.told source.new)) }
-    ensures few { TakesFew (span (So.told source.old) (So.told source.new)) }
-{
-    let input = read_all(alloc, source)?;
-    judge(alloc, &input)
 }

@@ -1,6 +1,6 @@
 use Rattle.std.proofs.Common.{Err, codes, sym, subst, ap}
 use Rattle.ledger_claims.specs.Calls.{span}
-use Rattle.ledger_claims.specs.Lines.{faults_line}
+use Rattle.command_claims.specs.Lines.{faults_line}
 use Rattle.ledger_cli.specs.declared.ends.Status.TheVariants as status
 use Rattle.ledger_cli.specs.declared.stop.Stop.{Stop}
 use Rattle.ledger_cli.specs.Ends.{EndsBy, count_line}

@@ -8,9 +8,11 @@ use Rattle.ledger_claims.specs.Fits.{RunRecord}
 use Rattle.ledger_claims.specs.SoFar.{LeavesRun}
 use Rattle.ledger_model.specs.declared.script.Job.{Job}
 use Rattle.ledger_cli.specs.declared.stop.Stop.{Stop}
+use Rattle.ledger_cli.specs.Clocks.{Covers}
 use Rattle.ledger_cli.specs.Judgements.{AreRunnable, job_count}
 use Rattle.ledger_cli.specs.Runs.{Come, IsKept, IsRunning, come}
 use Rattle.ledger_cli.specs.Stops.{IsTailStop, settle_stop}
+use Rattle.ledger_cli.proofs.Clocks.{extends_same, asks_nothing}
 use Rattle.ledger_cli.proofs.Running.{on_err, runs_same, runs_ended, stopped_leaves, cut_leaves, settled_leaves, kept_settled, stop_later}
 use Rattle.ledger_cli.proofs.run.run_and_report.Goals as goal
 
@@ -24,20 +26,28 @@ run_sessions-requires-clause-room g c =
 
 pub returns-in_err-outcomes-clause-left : goal.returns-in_err-outcomes-clause-left
 returns-in_err-outcomes-clause-left g c =
-    let leaves : (t : RunRecord) → IsRunning t c.args.time (all_placed c.args.script.now) (come g.S.JournalStore.told c.args.tail.now [])
+    let now = g.C.Clock.answers c.args.clock.now in
+    let leaves : (t : RunRecord) → Covers c.args.times.now now now t.times → IsRunning t (all_placed c.args.script.now) (come g.S.JournalStore.told c.args.tail.now [])
     → LeavesRun t (g.S.JournalStore.told c.args.tail.now.store).faults (held (g.S.JournalStore.told c.args.tail.now.store)) =
-    λ t runs. stopped_leaves t c.args.time (all_placed c.args.script.now) _ runs in
+    λ t covers runs. stopped_leaves t (all_placed c.args.script.now) _ runs in
     on_err _ leaves
+
+pub returns-in_err-outcomes-clause-extends : goal.returns-in_err-outcomes-clause-extends
+returns-in_err-outcomes-clause-extends g c = extends_same (g.C.Clock.answers c.args.clock.now)
+
+pub returns-in_err-outcomes-clause-asks : goal.returns-in_err-outcomes-clause-asks
+returns-in_err-outcomes-clause-asks g c = asks_nothing c.args.times.now c.args.clock.now
 
 pub returns-in_err-settle-clause-left : goal.returns-in_err-settle-clause-left
 returns-in_err-settle-clause-left g c =
     let told = g.S.JournalStore.told in
     let none = ap (λ o. come told c.args.tail.now o) c.in_ok-outcomes.ensures.none in
-    let leaves : (t : RunRecord) → IsRunning t c.args.time (all_placed c.args.script.now) (come told c.args.tail.now [])
+    let leaves : (t : RunRecord) → Covers c.args.times.now (g.C.Clock.answers c.args.clock.now) (g.C.Clock.answers c.run_sessions.new.clock) t.times
+    → IsRunning t (all_placed c.args.script.now) (come told c.args.tail.now [])
     → LeavesRun t (told c.settle.new.self.store).faults (held (told c.settle.new.self.store)) =
-    λ t runs.
-    let all = c.run_sessions.ensures.runs t (runs_same t c.args.time c.args.script.now c.as_slice.result.now _ _ c.as_slice.ensures none runs) in
-    cut_leaves t c.args.time [] _ (told c.settle.new.self.store).faults (held (told c.settle.new.self.store)) all c.settle.ensures.cut in
+    λ t covers runs.
+    let all = c.run_sessions.ensures.runs t covers (runs_same t c.args.script.now c.as_slice.result.now _ _ c.as_slice.ensures none runs) in
+    cut_leaves t [] _ (told c.settle.new.self.store).faults (held (told c.settle.new.self.store)) all c.settle.ensures.cut in
     on_err _ leaves
 
 pub returns-in_err-settle-clause-stop : goal.returns-in_err-settle-clause-stop
@@ -52,23 +62,24 @@ pub returns-in_err-text-clause-left : goal.returns-in_err-text-clause-left
 returns-in_err-text-clause-left g c =
     let told = g.S.JournalStore.told in
     let none = ap (λ o. come told c.args.tail.now o) c.in_ok-outcomes.ensures.none in
-    let leaves : (t : RunRecord) → IsRunning t c.args.time (all_placed c.args.script.now) (come told c.args.tail.now [])
+    let leaves : (t : RunRecord) → Covers c.args.times.now (g.C.Clock.answers c.args.clock.now) (g.C.Clock.answers c.run_sessions.new.clock) t.times
+    → IsRunning t (all_placed c.args.script.now) (come told c.args.tail.now [])
     → LeavesRun t (told c.settle.new.self.store).faults (held (told c.settle.new.self.store)) =
-    λ t runs.
-    let all = c.run_sessions.ensures.runs t (runs_same t c.args.time c.args.script.now c.as_slice.result.now _ _ c.as_slice.ensures none runs) in
-    settled_leaves t c.args.time [] _ c.settle.new.self.standing (told c.settle.new.self.store).faults (held (told c.settle.new.self.store)) all
+    λ t covers runs.
+    let all = c.run_sessions.ensures.runs t covers (runs_same t c.args.script.now c.as_slice.result.now _ _ c.as_slice.ensures none runs) in
+    settled_leaves t [] _ c.settle.new.self.standing (told c.settle.new.self.store).faults (held (told c.settle.new.self.store)) all
     c.settle.ensures.standing c.in_ok-settle.ensures.holds in
     on_err _ leaves
 
 pub returns-clause-done : goal.returns-clause-done
-returns-clause-done g c t runs =
+returns-clause-done g c t covers runs =
     let told = g.S.JournalStore.told in
     let none = ap (λ o. come told c.args.tail.now o) c.in_ok-outcomes.ensures.none in
-    let all = c.run_sessions.ensures.runs t (runs_same t c.args.time c.args.script.now c.as_slice.result.now _ _ c.as_slice.ensures none runs) in
+    let all = c.run_sessions.ensures.runs t covers (runs_same t c.args.script.now c.as_slice.result.now _ _ c.as_slice.ensures none runs) in
     record {
       blocks = c.settle.new.self.standing.blocks;
       outcomes = c.run_sessions.new.outcomes.items;
-      fits = runs_ended t c.args.time _ c.settle.new.self.standing (told c.settle.new.self.store).faults all c.settle.ensures.standing c.in_ok-settle.ensures.fine;
+      fits = runs_ended t _ c.settle.new.self.standing (told c.settle.new.self.store).faults all c.settle.ensures.standing c.in_ok-settle.ensures.fine;
       holding = c.in_ok-settle.ensures.holds;
       text_is = c.in_ok-text.ensures ∙ ap₂ (λ bs os. report bs os) c.blocks-2.ensures.blocks c.from_vec.ensures;
     }

@@ -1,8 +1,9 @@
-use Rattle.std.proofs.Common.{◌≡◌, ◌+◌, ◌≤◌, drop}
+use Rattle.std.proofs.Common.{◌+◌, ◌≤◌, drop}
 use Rattle.std.specs.Prelude.{vec_len, vec_capacity}
 use Rattle.ledger_model.specs.Script.{all_placed, all_placed_from}
 use Rattle.ledger_claims.specs.Fits.{RunRecord}
 use Rattle.ledger_cli.specs.Judgements.{job_count}
+use Rattle.ledger_cli.specs.Clocks.{Covers, Extends, MayAsk}
 use Rattle.ledger_cli.specs.Runs.{IsRunning, IsKept, come}
 use Rattle.ledger_cli.proofs.run.run_sessions.Given as goal
 
@@ -11,10 +12,14 @@ abbrev pub invariant-sessions : goal.invariant-sessions
 invariant-sessions g l =
     let before = come g.S.JournalStore.told l.initial.tail l.initial.outcomes.items in
     let now = come g.S.JournalStore.told l.tail l.outcomes.items in
+    let first = g.C.Clock.answers l.initial.clock in
+    let last = g.C.Clock.answers l.clock in
     record {
-      runs : (t : RunRecord) → IsRunning t l.fn.time (all_placed l.sessions) before → IsRunning t l.fn.time (all_placed_from (1 + l.at) (drop l.at l.sessions)) now;
+      runs : (t : RunRecord) → Covers l.fn.times first last t.times → IsRunning t (all_placed l.sessions) before
+          → IsRunning t (all_placed_from (1 + l.at) (drop l.at l.sessions)) now;
+      extends : Extends first last;
+      asks : MayAsk l.fn.times l.initial.clock l.clock;
       kept : IsKept before → IsKept now;
       room : vec_len l.outcomes + job_count (drop l.at l.sessions) ≤ vec_capacity l.outcomes;
       later : before.store.faults ≤ now.store.faults;
-      clock : l.tail.clock ≡ l.initial.tail.clock;
     }

@@ -1,0 +1,9 @@
+pub mod Bundles
+pub mod Calls
+pub mod Clocks
+pub mod Inputs
+pub mod Journals
+pub mod Lines
+pub mod Outputs
+pub mod Runs
+pub mod Top

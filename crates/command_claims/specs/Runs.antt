@@ -1,0 +1,75 @@
+-- The run of a script, with its report and what it leaves in the store.
+use Rattle.std.specs.Prelude.{◌≡◌, ◌⊎◌, ℕ, List, Option}
+use Rattle.ledger_model.specs.declared.script.Job.{Job}
+use Rattle.ledger_model.specs.Script.{all_placed}
+use Rattle.ledger_model.specs.Report.{report}
+use Rattle.outside.specs.Told.{StoreTold, held}
+use Rattle.command_words.specs.declared.RunOptions.{RunOptions}
+use Rattle.ledger_claims.specs.Calls.{Span}
+use Rattle.ledger_claims.specs.Fits.{RunRecord, Times, Fits, FitsBlocks}
+use Rattle.ledger_claims.specs.Stores.{HasJournal, Holding, IsSynced, HoldingWithRest}
+use Rattle.command_claims.specs.Calls.{Outside}
+use Rattle.command_claims.specs.Clocks.{Answers, given_by, AreTimes}
+use Rattle.command_claims.specs.Inputs.{HasScript}
+
+-- what the words and the clock give a run: the mask of the ids, where they tell it, and the times of the blocks
+pub record Terms : Type 0 where
+  pub given : Option ℕ
+  pub times : Times
+
+-- the terms are those of the words' options
+pub record AreTerms (o : RunOptions) (clock : Span Answers) (terms : Terms) : Type 0 where
+  pub given : terms.given ≡ given_by o.ids clock
+  pub times : AreTimes o.time clock terms.times
+
+-- the record is that of a run of this script on these terms by one worker on the store's journal
+pub record IsOfRun (terms : Terms) (script : List (List Job)) (store : Span StoreTold) (t : RunRecord) : Type 0 where
+  pub found : HasJournal t.before (held store.before)
+  pub given : t.given ≡ terms.given
+  pub times : t.times ≡ terms.times
+  pub workers : t.workers ≡ 1
+  pub jobs : t.jobs ≡ all_placed script
+  pub opened : t.opened ≡ store.before.faults
+  pub closed : t.closed ≡ store.after.faults
+
+-- the script was run, and the store holds the journal that is left, synced where it was synced
+pub record IsDone (terms : Terms) (script : List (List Job)) (store : Span StoreTold) (t : RunRecord) : Type 0 where
+  pub of_run : IsOfRun terms script store t
+  pub fits : Fits t
+  pub holding : Holding t.after (held store.after)
+  pub synced : IsSynced store.before → IsSynced store.after
+
+-- the script was run on these terms, and the text is the report of that run
+pub record IsReportOf (terms : Terms) (script : List (List Job)) (store : Span StoreTold) (text : List ℕ) : Type 0 where
+  pub told : RunRecord
+  pub done : IsDone terms script store told
+  pub text_is : text ≡ report told.after told.outcomes
+
+-- the store holds the journal of a run of the script, and perhaps a rest that is no whole line
+pub record HoldsRun (terms : Terms) (script : List (List Job)) (store : Span StoreTold) : Type 0 where
+  pub told : RunRecord
+  pub of_run : IsOfRun terms script store told
+  pub fits : FitsBlocks told
+  pub holding : HoldingWithRest told.after (held store.after)
+
+-- ---- by the words
+
+-- the whole input was read, it is a script that is served, and this is the report of its run with these options
+pub record Reports (o : RunOptions) (x : Outside) (text : List ℕ) : Type 0 where
+  pub script : List (List Job)
+  pub has : HasScript x.source script
+  pub terms : Terms
+  pub are : AreTerms o x.clock terms
+  pub reported : IsReportOf terms script x.store text
+
+-- the store holds the journal of such a run or a part of one
+pub record HoldsAsked (o : RunOptions) (x : Outside) : Type 0 where
+  pub script : List (List Job)
+  pub has : HasScript x.source script
+  pub terms : Terms
+  pub are : AreTerms o x.clock terms
+  pub holds : HoldsRun terms script x.store
+
+-- what a run leaves in its store, also where it was stopped: what it held, or the journal of the run or a part of it
+abbrev pub LeavesRun : RunOptions → Outside → Type 0
+LeavesRun o x = (held x.store.after ≡ held x.store.before) ⊎ HoldsAsked o x

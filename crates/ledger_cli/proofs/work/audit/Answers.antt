@@ -1,0 +1,16 @@
+use Rattle.ledger_claims.specs.Calls.{span}
+use Rattle.command_claims.specs.Journals as asks
+use Rattle.ledger_cli.proofs.Answering.{answered_so, if_err, if_ok, unread_so}
+use Rattle.ledger_cli.proofs.work.audit.Goals as goal
+
+pub returns-in-Ok : goal.returns-in-Ok
+returns-in-Ok g c =
+    let k = c.read_blocks-came in
+    answered_so asks.counts c.in-Ok.blocks.list c.counts_text.result (span (g.St.JournalStore.told c.args.store) (g.St.JournalStore.told k.result.store))
+    (if_ok _ c.in-Ok.is k.ensures.read) c.counts_text.ensures.counted c.counts_text.ensures.stop
+
+pub returns-in-Err : goal.returns-in-Err
+returns-in-Err g c =
+    let k = c.read_blocks-came in
+    unread_so asks.counts c.in-Err.stop (span (g.St.JournalStore.told c.args.store) (g.St.JournalStore.told k.result.store))
+    (if_err _ c.in-Err.is k.ensures.stop) k.ensures.unchanged

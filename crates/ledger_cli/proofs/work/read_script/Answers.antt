@@ -1,0 +1,24 @@
+use Rattle.std.proofs.Common.{◌≡◌, ℕ, List, Result, Err, sym, ap, subst, rules}
+use Rattle.ledger_model.specs.declared.script.Job.{Job}
+use Rattle.ledger_model.specs.Unbuilt.{judged}
+use Rattle.ledger_claims.specs.Calls.{span}
+use Rattle.ledger_cli.specs.declared.stop.Stop.{Stop}
+use Rattle.ledger_cli.specs.Inputs.{ReadsScript}
+use Rattle.ledger_cli.specs.Judgements.{JudgesTo}
+use Rattle.ledger_cli.proofs.Runnable.{reads_input, unread_input}
+use Rattle.ledger_cli.proofs.work.read_script.Goals as goal
+
+pub returns-in_err-input-clause-reads : goal.returns-in_err-input-clause-reads
+returns-in_err-input-clause-reads g c =
+    let source = span (g.So.Source.told c.args.source.now) (g.So.Source.told c.read_all.new.source) in
+    let is : c.from_residual.result ≡ Err c.in_err-input.field-0.0 = search rules in
+    subst (λ (r : Result (List (List Job)) Stop). ReadsScript r source) (sym is)
+    (unread_input source c.in_err-input.field-0.0 c.in_err-input.ensures.stop
+    (λ same. c.in_err-input.ensures.too_long (ap (λ (why : Stop). Err why) same)))
+
+pub returns-clause-reads : goal.returns-clause-reads
+returns-clause-reads g c =
+    let source = span (g.So.Source.told c.args.source.now) (g.So.Source.told c.read_all.new.source) in
+    let is : c.deref.result.now ≡ c.in_ok-input.input.items = search rules in
+    reads_input source c.in_ok-input.input.items c.judge.result c.in_ok-input.ensures.read c.in_ok-input.ensures.fine
+    (subst (λ (bytes : List ℕ). JudgesTo c.judge.result (judged bytes)) is c.judge.ensures.judged) c.judge.ensures.runnable

@@ -1,0 +1,62 @@
+-- What comes of an input that is to be a bundle.
+use Rattle.std.specs.Prelude.{◌≡◌, ◌<◌, ℕ, List, Result, Ok, Err}
+use Rattle.ion_grammar.specs.Read.{read_text}
+use Rattle.ion_values.specs.declared.value.Value.{Value}
+use Rattle.outside.specs.Told.{SourceTold}
+use Rattle.proof_verify.specs.declared.ProofFault.{ProofFault}
+use Rattle.proof_verify.specs.declared.ProofFault.TheVariants as fault
+use Rattle.ledger_claims.specs.Calls.{Span}
+use Rattle.command_claims.specs.Bundles.{IsAccepted, IsNotAccepted}
+use Rattle.command_claims.specs.Inputs.{HasValues, IsNoText, deepest}
+use Rattle.command_claims.specs.Outputs.{verified_text}
+use Rattle.ledger_cli.specs.Inputs.{IsFine}
+use Rattle.ledger_cli.specs.Judgements.{cause_of}
+use Rattle.ledger_cli.specs.declared.lines.BadInput.{BadInput}
+use Rattle.ledger_cli.specs.declared.lines.BadInput.TheVariants as cause
+use Rattle.ledger_cli.specs.declared.stop.Stop.{Stop}
+use Rattle.ledger_cli.specs.declared.stop.Stop.TheVariants as stop
+
+-- the input is no text, by this fault, or memory was wanted
+abbrev pub IsFaulty : BadInput → List ℕ → Type 0
+IsFaulty (cause.Faulty fault) input = read_text deepest input ≡ Err fault
+IsFaulty _ input = ⊥
+
+abbrev pub ReadsValues : Result (List Value) Stop → List ℕ → Type 0
+ReadsValues (Ok values) input = read_text deepest input ≡ Ok values
+ReadsValues (Err (stop.BadInput why)) input = IsFaulty why input
+ReadsValues (Err stop.OutOfMemory) input = Unit {0}
+ReadsValues (Err _) input = ⊥
+
+-- the values are no bundle whose proof is accepted, by this fault, or memory was wanted
+abbrev pub IsUnproved : List Value → ProofFault → Type 0
+IsUnproved values fault.OutOfMemory = Unit {0}
+IsUnproved values why = IsNotAccepted values why
+
+abbrev pub Decides : Result (List ℕ) Stop → List Value → Type 0
+Decides (Ok text) values = IsAccepted values × (text ≡ verified_text)
+Decides (Err (stop.NotAccepted why)) values = IsNotAccepted values why
+Decides (Err stop.OutOfMemory) values = Unit {0}
+Decides (Err _) values = ⊥
+
+-- the input is a bundle whose proof is accepted
+pub record IsVerified (source : Span SourceTold) (text : List ℕ) : Type 0 where
+  pub values : List Value
+  pub has : HasValues source values
+  pub accepted : IsAccepted values
+  pub text_is : text ≡ verified_text
+
+-- its values are none
+pub record IsRefused (source : Span SourceTold) (why : ProofFault) : Type 0 where
+  pub values : List Value
+  pub has : HasValues source values
+  pub is : IsNotAccepted values why
+
+abbrev pub Verifies : Result (List ℕ) Stop → Span SourceTold → Type 0
+Verifies (Ok text) source = IsVerified source text × IsFine source
+Verifies (Err (stop.BadInput why)) source = IsNoText (cause_of why) source × IsFine source
+Verifies (Err (stop.NoSuch why)) source = ⊥
+Verifies (Err (stop.Damaged sequence kind)) source = ⊥
+Verifies (Err stop.SourceFailed) source = source.before.faults < source.after.faults
+Verifies (Err stop.StoreFailed) source = ⊥
+Verifies (Err (stop.NotAccepted why)) source = IsRefused source why × IsFine source
+Verifies (Err stop.OutOfMemory) source = IsFine source

@@ -1,0 +1,55 @@
+//! The verdict on a bundle.
+ghost use Rattle.std.specs.Prelude.{◌≡◌, IfOk, IfErr};
+ghost use Rattle.ledger_claims.specs.Calls.{span};
+ghost use Rattle.ledger_claims.specs.Streams.{TakesFew};
+ghost use Rattle.command_claims.specs.Bundles.{IsAccepted};
+ghost use Rattle.ledger_cli.specs.Bundles.{Decides, IsUnproved, ReadsValues, Verifies};
+
+use crate::input::read_all;
+use crate::lines::BadInput;
+use crate::served::DEEPEST;
+use crate::stop::Stop;
+use ion_text::{ReadFault, read_stream};
+use ion_values::{Text, Values};
+use outside::Source;
+use proof_verify::{ProofFault, read_bundle, verify};
+use std::alloc::Global;
+
+/// The values that the input spells.
+fn read_values(alloc: Global, input: &[u8]) -> Result<Values, Stop>
+    ensures { ReadsValues result input.now }
+{
+    match read_stream(alloc, input, DEEPEST) {
+        Ok(values) => Ok(values),
+        Err(ReadFault::Ion(fault)) => Err(Stop::BadInput(BadInput::Faulty(fault))),
+        Err(ReadFault::OutOfMemory) => Err(Stop::OutOfMemory),
+    }
+}
+
+/// Whether the values are a bundle whose proof is accepted.
+fn judge(alloc: Global, values: &Values) -> Result<(), ProofFault>
+    ensures accepted { IfOk result (λ _. IsAccepted values.now) }
+    ensures refused { IfErr result (λ fault. IsUnproved values.now fault) }
+{
+    let (digest, revision, proof) = read_bundle(alloc, values)?;
+    verify(alloc, &digest, &revision, &proof)
+}
+
+/// The text that says that the proof of the values is accepted.
+fn verdict(alloc: Global, values: &Values) -> Result<Text, Stop>
+    ensures { Decides result values.now }
+{
+    judge(alloc, values)?;
+    let text = Text::from_text(alloc, "{verified:true}\n")?;
+    Ok(text)
+}
+
+/// Reads the bundle that the source gives, and says that its proof is accepted.
+pub fn verify_input<So: Source>(alloc: Global, source: &mut So) -> Result<Text, Stop>
+    ensures verifies { Verifies result (span (So.told source.old) (So.told source.new)) }
+    ensures few { TakesFew (span (So.told source.old) (So.told source.new)) }
+{
+    let input = read_all(alloc, source)?;
+    let values = read_values(alloc, &input)?;
+    verdict(alloc, &values)
+}

@@ -1,0 +1,158 @@
+//! What the commands come to: an output, or why there is none.
+ghost use Rattle.std.specs.Prelude.{◌≡◌, Some, false};
+ghost use Rattle.ledger_claims.specs.Calls.{span};
+ghost use Rattle.ledger_claims.specs.Streams.{TakesFew};
+ghost use Rattle.command_claims.specs.Calls.{outside};
+ghost use Rattle.command_claims.specs.Journals as asks;
+ghost use Rattle.command_claims.specs.Top.{Keeps, asks_clock};
+ghost use Rattle.command_words.specs.declared.Command.TheVariants as asked;
+ghost use Rattle.ledger_cli.specs.Ends.{Works};
+ghost use Rattle.ledger_cli.specs.Inputs.{ReadsScript};
+ghost use Rattle.ledger_cli.specs.Questions.{Tells};
+
+use crate::audit::counts_text;
+use crate::digest::digest_text;
+use crate::input::read_all;
+use crate::journal::read_blocks;
+use crate::prove::proof_text;
+use crate::returned::Returned;
+use crate::run::run_script;
+use crate::served::judge;
+use crate::stop::Stop;
+use crate::times::{mask_by, time_source};
+use crate::verify::verify_input;
+use command_words::{Command, RunOptions};
+use ion_values::Text;
+use ledger_model::Script;
+use outside::{Clock, JournalStore, Source};
+use std::alloc::Global;
+
+/// What came of a command: its output, or why there is none, and the store that it was given.
+pub type Came<S> = Returned<Result<Text, Stop>, S>;
+
+/// Does what the command says, but for its output.
+pub fn work<So: Source, St: JournalStore, C: Clock>(
+    alloc: Global,
+    command: Command,
+    source: &mut So,
+    store: St,
+    clock: &mut C,
+) -> Came<St>
+    ensures works { Works (result.store ≡ store) (Some command) result.came (outside (span (So.told source.old) (So.told source.new))
+        (span (St.told store) (St.told result.store)) (span (C.answers clock.old) (C.answers clock.new))) }
+    ensures keeps { Keeps (result.store ≡ store) (Some command) (outside (span (So.told source.old) (So.told source.new))
+        (span (St.told store) (St.told result.store)) (span (C.answers clock.old) (C.answers clock.new))) }
+    ensures few { TakesFew (span (So.told source.old) (So.told source.new)) }
+    ensures asks { asks_clock (Some command) ≡ false → clock.new ≡ clock.old }
+{
+    match command {
+        Command::Run(options) => run(alloc, options, source, store, clock),
+        Command::Digest { tip } => digest(alloc, tip, store),
+        Command::Prove {
+            sequence,
+            index,
+            tip,
+        } => prove(alloc, sequence, index, tip, store),
+        Command::Verify => Returned {
+            came: verify_input(alloc, source),
+            store,
+        },
+        Command::Audit => audit(alloc, store),
+    }
+}
+
+/// Runs the script that the source gives, with these options, and answers its report.
+fn run<So: Source, St: JournalStore, C: Clock>(
+    alloc: Global,
+    options: RunOptions,
+    source: &mut So,
+    store: St,
+    clock: &mut C,
+) -> Came<St>
+    ensures works { Works (result.store ≡ store) (Some (asked.Run options)) result.came
+        (outside (span (So.told source.old) (So.told source.new)) (span (St.told store) (St.told result.store))
+        (span (C.answers clock.old) (C.answers clock.new))) }
+    ensures keeps { Keeps (result.store ≡ store) (Some (asked.Run options))
+        (outside (span (So.told source.old) (So.told source.new)) (span (St.told store) (St.told result.store))
+        (span (C.answers clock.old) (C.answers clock.new))) }
+    ensures few { TakesFew (span (So.told source.old) (So.told source.new)) }
+    ensures asks { asks_clock (Some (asked.Run options)) ≡ false → clock.new ≡ clock.old }
+{
+    match read_script(alloc, source) {
+        Ok(script) => {
+            let mask = mask_by(options.ids, clock);
+            let times = time_source(options.time);
+            run_script(alloc, &script, mask, &times, clock, store)
+        }
+        Err(stop) => Returned {
+            came: Err(stop),
+            store,
+        },
+    }
+}
+
+/// Reads the input and the script that it spells.
+fn read_script<So: Source>(alloc: Global, source: &mut So) -> Result<Script, Stop>
+    ensures reads { ReadsScript result (span (So.told source.old) (So.told source.new)) }
+    ensures few { TakesFew (span (So.told source.old) (So.told source.new)) }
+{
+    let input = read_all(alloc, source)?;
+    judge(alloc, &input)
+}
+
+/// Reads the journal and answers the text of its digest.
+fn digest<St: JournalStore>(alloc: Global, tip: Option<u64>, store: St) -> Came<St>
+    ensures { Tells (asks.digest tip) result.came (span (St.told store) (St.told result.store)) }
+{
+    let Returned { came, store } = read_blocks(alloc, store);
+    match came {
+        Ok(blocks) => Returned {
+            came: digest_text(alloc, &blocks, tip),
+            store,
+        },
+        Err(stop) => Returned {
+            came: Err(stop),
+            store,
+        },
+    }
+}
+
+/// Reads the journal and answers the text of the proof of one of its revisions.
+fn prove<St: JournalStore>(
+    alloc: Global,
+    sequence: u64,
+    index: u32,
+    tip: Option<u64>,
+    store: St,
+) -> Came<St>
+    ensures { Tells (asks.proof sequence index tip) result.came (span (St.told store) (St.told result.store)) }
+{
+    let Returned { came, store } = read_blocks(alloc, store);
+    match came {
+        Ok(blocks) => Returned {
+            came: proof_text(alloc, &blocks, sequence, index, tip),
+            store,
+        },
+        Err(stop) => Returned {
+            came: Err(stop),
+            store,
+        },
+    }
+}
+
+/// Reads the journal and answers the text of how much it holds.
+fn audit<St: JournalStore>(alloc: Global, store: St) -> Came<St>
+    ensures { Tells asks.counts result.came (span (St.told store) (St.told result.store)) }
+{
+    let Returned { came, store } = read_blocks(alloc, store);
+    match came {
+        Ok(blocks) => Returned {
+            came: counts_text(alloc, &blocks),
+            store,
+        },
+        Err(stop) => Returned {
+            came: Err(stop),
+            store,
+        },
+    }
+}
