@@ -1,26 +1,33 @@
 #!/usr/bin/env python3
-"""Runs each script of examples/ by the program on a new journal, and compares its report with the one beside it. Ends with
+"""Runs each example of examples/ by the program on a new journal, and compares its reports with those beside it. Ends with
 status 1 where they differ.
 
     tests/examples.py [PROGRAM]
 
-The program is crates/ledger/out/ledger, where `rt ci` leaves it, or another path.
+The program is crates/ledger/out/ledger, where `rt ci` leaves it, or another path. An example is a script NAME.ion, or several
+scripts NAME.1.ion, NAME.2.ion .. that run one after another on one journal. A first line `// at TIME` tells when a script runs.
 """
 import subprocess
 import sys
 import tempfile
+from itertools import groupby
 from pathlib import Path
 
 ROOT = Path(__file__).resolve().parent.parent
 PROGRAM = ROOT / "crates" / "ledger" / "out" / "ledger"
-WORDS = ["run", "--plain-ids", "--at", "2020-01-01T00:00:00.000Z"]
+AT = "// at "
 
 
-def report(program, script):
-    """What the program writes for the script on a new journal."""
-    with tempfile.TemporaryDirectory() as folder:
-        command = [program, str(Path(folder) / "journal")] + WORDS
-        ended = subprocess.run(command, input=script.read_bytes(), capture_output=True)
+def time_of(script):
+    """When the script runs."""
+    first = script.read_text().split("\n", 1)[0]
+    return first.removeprefix(AT) if first.startswith(AT) else "2020-01-01T00:00:00.000Z"
+
+
+def report(program, journal, script):
+    """What the program writes for the script on this journal."""
+    command = [program, str(journal), "run", "--plain-ids", "--at", time_of(script)]
+    ended = subprocess.run(command, input=script.read_bytes(), capture_output=True)
     if ended.returncode != 0:
         sys.exit(f"{script.name}: status {ended.returncode}: {ended.stdout!r} {ended.stderr!r}")
     return ended.stdout
@@ -29,9 +36,11 @@ def report(program, script):
 def main():
     program = str(Path(sys.argv[1] if len(sys.argv) > 1 else PROGRAM).resolve())
     scripts = sorted((ROOT / "examples").glob("*.ion"))
-    for script in scripts:
-        if report(program, script) != script.with_suffix(".report").read_bytes():
-            sys.exit(f"{script.name}: another report than {script.stem}.report")
+    for name, parts in groupby(scripts, lambda it: it.name.split(".")[0]):
+        with tempfile.TemporaryDirectory() as folder:
+            for script in parts:
+                if report(program, Path(folder) / "journal", script) != script.with_suffix(".report").read_bytes():
+                    sys.exit(f"{script.name}: another report than {script.stem}.report")
     print(f"{len(scripts)} scripts: all reports as they should be")
 
 

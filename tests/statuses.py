@@ -1,7 +1,7 @@
 #!/usr/bin/env python3
 """Runs the program to each of its statuses: the output, what stands on standard error, and what is left at the journal's path.
-Ends with status 1 where something isn't as it should be. (No command that can end with status 7 is served so far. A program
-built with a sanitizer doesn't run in the memory that status 8 is tried with.)
+Ends with status 1 where something isn't as it should be. (A program built with a sanitizer doesn't run in the memory that status
+8 is tried with.)
 
     tests/statuses.py [PROGRAM]
 
@@ -51,16 +51,20 @@ def words(program, journal):
     """Status 1: the words name no journal or no command. Nothing is touched."""
     named = [(1, b"", b"ledger: no journal\n")] * 2
     check([run(program, []), run(program, [journal, b"\xff"])] == named, "no journal is named")
-    for wrong in [[], ["frobnicate"], RUN[:-1] + ["2020-01-01"], RUN + ["--plain-ids"]]:
+    for wrong in [[], ["frobnicate"], RUN[:-1] + ["2020"], ["digest", "--tip", "01"], RUN + ["--plain-ids"]]:
         check(run(program, [journal] + wrong, CREATE) == (1, b"{status:1}\n", b""), f"{wrong} is no command")
     check(left(journal) is None, "no journal is made")
 
 
 def inputs(program, journal):
-    """Statuses 0, 2 and 4 before anything is committed. No journal is made."""
+    """Statuses 0, 2, 4 and 7 before anything is committed. No journal is made."""
     check(run(program, [journal] + RUN) == (0, b"", b""), "an empty script is done")
     fault = b"{status:2,fault:{session:1,transaction:0,kind:NotASession}}\n"
     check(run(program, [journal] + RUN, b"5") == (2, fault, b""), "5 is no script")
+    bundle = b"{status:7,fault:{code:1,field:\"count\"}}\n"
+    check(run(program, [journal, "verify"], b"5") == (7, bundle, b""), "5 is no bundle")
+    none = b"{status:2,fault:{kind:NoSuchBlock,sequence:0,blocks:0}}\n"
+    check(run(program, [journal, "digest"]) == (2, none, b""), "there is no block")
     with open_folder(os.path.dirname(journal)) as folder:
         check(run(program, [journal] + RUN, stdin=folder) == (4, b"{status:4,faults:1}\n", b""), "a folder can't be read")
     check(left(journal) is None, "no journal is made")
@@ -135,7 +139,7 @@ def main():
         journal = os.path.join(folder, "journal")
         for part in [words, inputs, journals, torn_first_lines, outputs, memory]:
             part(program, journal)
-    print("statuses 0 to 6 and 8: all as they should be")
+    print("statuses 0 to 8: all as they should be")
 
 
 main()
