@@ -13,8 +13,7 @@ TOP = Path(__file__).resolve().parent.parent
 sys.path.insert(0, str(TOP / "bench"))
 import verify
 
-LENGTHS = [1_000, 10_000, 100_000]
-RUNS = 3
+RUNS = {1_000: 5, 10_000: 3, 100_000: 1}
 TIME = "2020-01-01T00:00:00.000Z"
 STRAND = "0" * 22
 
@@ -70,10 +69,10 @@ def make(journal, blocks):
             file.write(line)
 
 
-def run(command, text=b""):
-    """The least seconds of a command that reads the text, and what it wrote."""
+def run(runs, command, text=b""):
+    """The least seconds of a command that reads the text, run so often, and what it wrote."""
     best = None
-    for _ in range(RUNS):
+    for _ in range(runs):
         begun = time.monotonic()
         ran = subprocess.run(command, input=text, capture_output=True)
         seconds = time.monotonic() - begun
@@ -91,21 +90,23 @@ def hashes_a_second():
 
 def main():
     program = os.path.abspath(sys.argv[1] if len(sys.argv) > 1 else TOP / "crates" / "ledger" / "out" / "ledger")
-    for blocks in LENGTHS:
+    for blocks in RUNS:
         with tempfile.TemporaryDirectory() as folder:
             journal = Path(folder) / "journal"
             make(journal, blocks)
             rate = hashes_a_second()
-            loading, audited = run([program, journal, "audit"])
-            digest, _ = run([program, journal, "digest"])
-            proving, bundle = run([program, journal, "prove", str(blocks // 2), "0"])
-            verifying, told = run([program, journal, "verify"], bundle)
+            runs = RUNS[blocks]
+            loading, audited = run(runs, [program, journal, "audit"])
+            digest, _ = run(runs, [program, journal, "digest"])
+            proving, bundle = run(runs, [program, journal, "prove", str(blocks // 2), "0"])
+            verifying, told = run(5, [program, journal, "verify"], bundle)
             assert audited == b"{blocks:%d,revisions:%d}\n" % (blocks, blocks - 1) and told == b"{verified:true}\n"
             path = bundle.count(b"{{") - 2
             print(
                 f"{blocks} blocks: loaded in {loading:.3f} s; behind that digest {1000 * (digest - loading):.1f} ms, prove "
                 f"{1000 * (proving - loading):.1f} ms, openssl {1000 * blocks / rate:.1f} ms for {blocks} hashes; verify "
-                f"{1000 * verifying:.1f} ms with its start, for {path} hashes, openssl {1000 * path / rate:.3f} ms"
+                f"{1000 * verifying:.1f} ms with its start, for {path} hashes, openssl {1000 * path / rate:.3f} ms",
+                flush=True,
             )
     return 0
 

@@ -1,8 +1,9 @@
-//! The longest input, and a source that wants memory.
+//! The longest input and document, and a source that wants memory.
 ghost use Rattle.std.specs.Prelude.{None};
 
 use crate::commands::{run, unfailing};
 use crate::rows::is_told;
+use crate::runs::RUN;
 use ledger_cli::ledger_top;
 use outside::{FreeGate, MemorySink, OutFault, SetClock, Source, SureStore};
 use std::alloc::Global;
@@ -44,6 +45,46 @@ fn the_longest_input(rt: HostRuntime) {
         assert!(rt;
             is_long(&rt, rt.alloc(), line, length, wanted) == Some(true),
             "{line} {length}"
+        );
+    }
+}
+
+/// A text of so many letters.
+fn letters(alloc: Global, length: usize) -> Option<String> {
+    let bytes = vec![in alloc; b'x'; length].ok()?;
+    String::from_utf8(bytes).ok()
+}
+
+/// Whether a run that inserts a document with a text of so many letters tells this.
+fn is_stored<R: Threads + Wait + Sync>(
+    rt: &R,
+    alloc: Global,
+    length: usize,
+    wanted: &str,
+) -> Option<bool> {
+    let text = letters(alloc, length)?;
+    let script = format!(in alloc;
+        "[{{statements:[\"CREATE TABLE t\",{{text:\"INSERT INTO t ?\",params:[{{a:\"{text}\"}}]}}]}}]"
+    ).ok()?;
+    let left = run(rt, alloc, &unfailing(RUN, script.as_str(), b""))?;
+    Some(left.told.as_str().strip_suffix(wanted).is_some())
+}
+
+#[test]
+fn the_longest_document(rt: HostRuntime) {
+    for (length, wanted) in [
+        (
+            131_066,
+            "answers:[[{tableId:\"0000000000000000018OWH\"}],[{documentId:\"0000000000000000018OWI\"}]]}\n",
+        ),
+        (
+            131_067,
+            "since:0,statement:2,cause:{code:9,bytes:131073}}\n",
+        ),
+    ] {
+        assert!(rt;
+            is_stored(&rt, rt.alloc(), length, wanted) == Some(true),
+            "{length}"
         );
     }
 }

@@ -18,6 +18,24 @@ const REFUSED: &str = "\"SELECT * FORM t\" = 1 = code:1,at:9,kind:Unexpected\n\
     \"CREATE TABLE t\",\"INSERT INTO t ?\" = 2 = code:11,wanted:1,given:0\n\
     {text:\"DROP TABLE t\",params:[1]} = 1 = code:11,wanted:0,given:1";
 
+/// The limits of statements, in the same way: each that stands in front of the refused one is done.
+const LIMITS: &str =
+    "\"CREATE TABLE t\",\"CREATE INDEX ON t (a)\",\"CREATE INDEX ON t (a)\" = 3 = code:5,name:\"t\",\
+    field:\"a\"\n\
+    \"CREATE TABLE a\",\"CREATE TABLE b\",\"CREATE TABLE c\",\"CREATE TABLE d\",\"CREATE TABLE e\",\
+    \"CREATE TABLE f\",\"CREATE TABLE g\",\"CREATE TABLE h\",\"CREATE TABLE i\",\"CREATE TABLE j\",\
+    \"CREATE TABLE k\",\"CREATE TABLE l\",\"CREATE TABLE m\",\"CREATE TABLE n\",\"CREATE TABLE o\",\
+    \"CREATE TABLE p\",\"CREATE TABLE q\",\"CREATE TABLE r\",\"CREATE TABLE s\",\"CREATE TABLE t\",\
+    \"CREATE TABLE u\" = 21 = code:6,count:20\n\
+    \"CREATE TABLE t\",\"CREATE INDEX ON t (a)\",\"CREATE INDEX ON t (b)\",\"CREATE INDEX ON t (c)\",\
+    \"CREATE INDEX ON t (d)\",\"CREATE INDEX ON t (e)\",\"CREATE INDEX ON t (f)\" = 7 = code:7,count:5\n\
+    \"CREATE TABLE t\",{text:\"INSERT INTO t ?\",params:[[{},{},{},{},{},{},{},{},{},{},{},{},{},{},{},{},{},\
+    {},{},{},{},{},{},{},{},{},{},{},{},{},{},{},{},{},{},{},{},{},{},{}]]},{text:\"INSERT INTO t ?\",\
+    params:[{}]} = 3 = code:8,count:41\n\
+    \"CREATE TABLE t\",{text:\"INSERT INTO t ?\",\
+    params:[[[[[[[[[[[[[[[[[[[[[[[[[[[[[[[[[[[[[[[[[[[[[[[[[[[[[[[[[[[[[[[[[[]]]]]]]]]]]]]]]]]]]]]]]]]]]]]]]]]]]]]]]]]]]]]]]]]]]]]]]]]]]]]]]]]]} = 2 = code:12,\
+    depth:65";
+
 /// What comes of a transaction of these statements, with the status.
 fn told<R: Threads + Wait + Sync>(rt: &R, alloc: Global, statements: &str) -> Option<String> {
     let script = format!(in alloc; "[{{statements:[{statements}]}}]").ok()?;
@@ -39,6 +57,9 @@ fn is_refused<R: Threads + Wait + Sync>(rt: &R, alloc: Global, row: &str) -> Opt
 #[test]
 fn refused_statements(rt: HostRuntime) {
     for row in REFUSED.lines() {
+        assert!(rt; is_refused(&rt, rt.alloc(), row) == Some(true), "{row}");
+    }
+    for row in LIMITS.lines() {
         assert!(rt; is_refused(&rt, rt.alloc(), row) == Some(true), "{row}");
     }
 }
