@@ -13,7 +13,7 @@ TOP = Path(__file__).resolve().parent.parent
 sys.path.insert(0, str(TOP / "bench"))
 import verify
 
-RUNS = {1_000: 5, 10_000: 3, 100_000: 1}
+RUNS = {1_000: 5, 10_000: 3, 100_000: 3}
 TIME = "2020-01-01T00:00:00.000Z"
 STRAND = "0" * 22
 
