@@ -5,7 +5,7 @@ use Rattle.std.specs.Prelude.{nat_lt}
 use Rattle.ledger_model.specs.declared.block.Block.{Block}
 use Rattle.ledger_model.specs.declared.outcome.Named.{Named}
 use Rattle.ledger_model.specs.Damages.{same_hash}
-use Rattle.ledger_model.specs.Run.{Progress, Ran, ran, refused, unserved}
+use Rattle.ledger_model.specs.Run.{Progress, Ran, ran, refused}
 use Rattle.frame_laws.specs.Conflicts.{IsFirst, Tells}
 use Rattle.frame_laws.specs.Touches.{conflict}
 use Rattle.frame_laws.proofs.Conflicts.{conflict_is_first}
@@ -86,7 +86,6 @@ module _ (m : Machine) (number : ℕ) (t : Transaction) (r : Reached m number t)
       → IsInConflict m t c since f
   by_done c (ran p) since f done h = by_digest c p (same_hash (own_digest m t) c.digest) since f done refl h
   by_done c (refused statement cause) since f done h = cc h
-  by_done c unserved since f done h = cc h
 
   only : (c : Commit) (since : ℕ) (f : Named) → (happens m (commit number c)).answer ≡ ends (conflicts since f)
       → IsInConflict m t c since f

@@ -6,7 +6,7 @@ use Rattle.ql_types.specs.declared.Hash32.{Hash32}
 use Rattle.ledger_model.specs.declared.block.Block.{Block}
 use Rattle.ledger_model.specs.declared.outcome.Named.{Named}
 use Rattle.ledger_model.specs.Damages.{same_hash}
-use Rattle.ledger_model.specs.Run.{Progress, Ran, ran, refused, unserved}
+use Rattle.ledger_model.specs.Run.{Progress, Ran, ran, refused}
 use Rattle.core_machine.specs.Entries.{count_in}
 use Rattle.core_machine.specs.History.{block_in}
 use Rattle.core_machine.specs.Machine.{Commit, Ending, Machine, Service, Transaction, conflict_of, differs, ending, ends_by, fails, full, no_memory, own_block, own_digest, served, store_failed, store_wants, unless_conflict}
@@ -58,7 +58,6 @@ came m c t block (ran p) done h =
       block_is = past_service c.service (own_block m t c p) block room.1;
     }
 came m c t block (refused statement cause) done h = cc h
-came m c t block unserved done h = cc h
 
 pub comes : (m : Machine) (c : Commit) (t : Transaction) (block : Block) → block_in (ending m c t t.done) ≡ Some block
     → Comes m c t block
@@ -97,4 +96,3 @@ count_told m c t count block (ran p) h =
     (fails_conflict (conflict_of m t p) t.since _ count block
     (fails_digest (same_hash (own_digest m t) c.digest) (own_digest m t) c.digest _ count block h)))
 count_told m c t count block (refused statement cause) h = cc h
-count_told m c t count block unserved h = cc h

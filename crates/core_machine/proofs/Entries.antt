@@ -8,7 +8,7 @@ use Rattle.ql_types.specs.declared.Place.{Place}
 use Rattle.ledger_model.specs.declared.block.Block.{Block}
 use Rattle.ledger_model.specs.declared.script.Request.{Request}
 use Rattle.ledger_model.specs.Making.{IsMadeOf}
-use Rattle.ledger_model.specs.Run.{Ran, ran, refused, step, unserved}
+use Rattle.ledger_model.specs.Run.{Ran, ran, refused, step}
 use Rattle.made_blocks.proofs.Lists.{all_like}
 use Rattle.core_machine.specs.Entries.{EntriesAreRun, Entry, IsAmong, IsRisen, IsRunFrom, MayMake, Reach, Rise, Unused, comes, count_in, entries, entry_of, reached, told_count, used}
 use Rattle.core_machine.specs.History.{block_in}
@@ -141,8 +141,6 @@ module _ (before : List Block) (m : Machine) (g : Good before m) (on : AllOnBase
       (all_replaced (IsIn us) (asked_more t r (step (begun_as m t) (base m t) p r)) m.underway k among) (omega arith)
   executed_leads n r t (refused statement cause) k =
       stays m (execute n r) (executes_on m r t (refused statement cause)) count us refl refl among (omega arith)
-  executed_leads n r t unserved k = stays m (execute n r) (executes_on m r t unserved) count us refl refl among
-      (omega arith)
 
   others_in : (n : ℕ) → AllByRecursion (IsIn us) (without n m.underway)
   others_in n = all_without (IsIn us) (IsIn us) n (λ t other k. k) m.underway among

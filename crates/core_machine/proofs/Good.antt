@@ -12,7 +12,7 @@ use Rattle.ledger_model.specs.declared.script.Request.{Request}
 use Rattle.ledger_model.specs.Damages.{Undamaged}
 use Rattle.ledger_model.specs.Legal.{LegalFrom, Means}
 use Rattle.ledger_model.specs.Making.{IsMadeOf}
-use Rattle.ledger_model.specs.Run.{Begun, Progress, Ran, ran, refused, run, step, unserved}
+use Rattle.ledger_model.specs.Run.{Begun, Progress, Ran, ran, refused, run, step}
 use Rattle.ledger_model.specs.State.{empty, state, state_from}
 use Rattle.ledger_model.specs.Whole.{place_fits}
 use Rattle.frame_laws.specs.RunIsOwn.{IsJournalOf}
@@ -216,7 +216,6 @@ module _ (before : List Block) (m : Machine) (g : Good before m) (on : AllOnBase
         g.numbered;
   }
   executed_good r t (refused statement cause) n = g
-  executed_good r t unserved n = g
 
   closed_good : (c : Commit) (t : Transaction) (e : Ending) → ending m c t t.done ≡ e → IsTrue (is_time c.time)
       → DidWithin t.done → Numbered m.mask m.blocks m.last t → OnBase m.mask m.blocks t

@@ -3,7 +3,7 @@ use Rattle.std.proofs.Common.{◌≡◌, ◌∙◌, ◌-◌, ◌^◌, Bool, true
 use Rattle.std.specs.Prelude.{nat_lt}
 use Rattle.ql_types.specs.declared.Place.{Place}
 use Rattle.ledger_model.specs.declared.script.Request.{Request}
-use Rattle.ledger_model.specs.Run.{Ran, ran, refused, unserved}
+use Rattle.ledger_model.specs.Run.{Ran, ran, refused}
 use Rattle.core_machine.specs.Machine.{Event, Machine, Step, Transaction, abort, aborts, begin, behind, commit, commits, draws, execute, executes, executes_on, happens, if_open, named, spent}
 
 begun_mask : (m : Machine) (place : Place) (b : Bool)
@@ -14,7 +14,6 @@ begun_mask m place false = refl
 executed_mask : (m : Machine) (r : Request) (t : Transaction) (x : Ran) → (executes_on m r t x).now.mask ≡ m.mask
 executed_mask m r t (ran p) = refl
 executed_mask m r t (refused statement cause) = refl
-executed_mask m r t unserved = refl
 
 open_mask : (m : Machine) (f : Transaction → Step) (o : Option Transaction)
     → ((t : Transaction) → (f t).now.mask ≡ m.mask)

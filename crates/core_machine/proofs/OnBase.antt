@@ -6,7 +6,7 @@ use Rattle.std.proofs.lemmas.List.{take-append-le}
 use Rattle.ql_types.specs.declared.Place.{Place}
 use Rattle.ledger_model.specs.declared.block.Block.{Block}
 use Rattle.ledger_model.specs.declared.script.Request.{Request}
-use Rattle.ledger_model.specs.Run.{Progress, Ran, ran, refused, run, step, unserved}
+use Rattle.ledger_model.specs.Run.{Progress, Ran, ran, refused, run, step}
 use Rattle.ledger_model.specs.State.{state}
 use Rattle.core_machine.specs.History.{ExecuteIsRun, IsRunOnBase}
 use Rattle.core_machine.specs.Machine.{Ending, Event, Machine, Step, Transaction, abort, aborts, asked_more, base, begin, begun_as, behind, closes, commit, commits, conflicts, differs, draws, ended, ending, execute, executes, executes_on, fails, full, happens, if_open, named, new_transaction, opened, seals, spent, wants, without}
@@ -61,7 +61,6 @@ executed_on_base m r t (ran p) done o k =
     all_replaced (OnBase m.mask m.blocks) (asked_more t r (step (begun_as m t) (base m t) p r)) m.underway
     (asked_on_base m t r p done o) k
 executed_on_base m r t (refused statement cause) done o k = k
-executed_on_base m r t unserved done o k = k
 
 closed_on_base : (m : Machine) (n : ℕ) (e : Ending) → AllOnBase m → AllOnBase (closes m n e).now
 closed_on_base m n ended k = kept_on_base m n k

@@ -10,7 +10,7 @@ use Rattle.ledger_model.specs.declared.block.Block.{Block}
 use Rattle.ledger_model.specs.declared.script.Request.{Request}
 use Rattle.ledger_model.specs.Damages.{UndamagedBehind, has_id, strand_of}
 use Rattle.ledger_model.specs.Follows.{all_differ}
-use Rattle.ledger_model.specs.Run.{Ran, ran, refused, unserved}
+use Rattle.ledger_model.specs.Run.{Ran, ran, refused}
 use Rattle.made_blocks.proofs.Journals.{passes_all}
 use Rattle.made_blocks.proofs.Lists.{all_append, differ_push, other_way}
 use Rattle.core_machine.specs.History.{Accepted, CommitsStandOnce, HasOwnId, accepted, accepted_by, block_ids, block_in}
@@ -76,7 +76,6 @@ executed_adds : (m : Machine) (n : ℕ) (r : Request) (t : Transaction) (x : Ran
 executed_adds m n r t (ran p) = none_added m (execute n r) (executes_on m r t (ran p)) refl refl
 executed_adds m n r t (refused statement cause) =
     none_added m (execute n r) (executes_on m r t (refused statement cause)) refl refl
-executed_adds m n r t unserved = none_added m (execute n r) (executes_on m r t unserved) refl refl
 
 closed_adds : (m : Machine) (n : ℕ) (c : Commit) (t : Transaction) (e : Ending) → t.number ≡ n
     → ending m c t t.done ≡ e

@@ -1,5 +1,5 @@
 -- A run with one statement more is one step behind the run without it.
-use Rattle.std.proofs.Common.{◌≡◌, ◌∙◌, ℕ, ◌+◌, List, [], ◌∷◌, ◌++◌, length, ap, arith, Option, Some, None, Result, Ok, Err}
+use Rattle.std.proofs.Common.{◌≡◌, ◌∙◌, ℕ, ◌+◌, List, [], ◌∷◌, ◌++◌, length, ap, arith, Result, Ok, Err}
 use Rattle.ledger_model.specs.declared.outcome.Refusal.{Refusal}
 use Rattle.ledger_model.specs.declared.script.Request.{Request}
 use Rattle.ledger_model.specs.Run.{Begun, Progress, Ran, ran, run, run_from, start, step, then_run}
@@ -10,14 +10,13 @@ module _ (b : Begun) (s : State) where
   abbrev next : ℕ → Progress → Request → Ran
   next j q r = then_run j (step b s q r) ran
 
-  then_more : (j : ℕ) (r : Request) (rs : List Request) (q : Progress) (x : Option (Result Progress Refusal))
+  then_more : (j : ℕ) (r : Request) (rs : List Request) (q : Progress) (x : Result Progress Refusal)
       → ((y : Progress) → run_from b s (j + 1) y rs ≡ ran q
       → run_from b s (j + 1) y (rs ++ r ∷ []) ≡ next (j + 1 + length rs) q r)
       → then_run j x (λ y. run_from b s (j + 1) y rs) ≡ ran q
       → then_run j x (λ y. run_from b s (j + 1) y (rs ++ r ∷ [])) ≡ next (j + 1 + length rs) q r
-  then_more j r rs q None ih h = cc h
-  then_more j r rs q (Some (Err cause)) ih h = cc h
-  then_more j r rs q (Some (Ok y)) ih h = ih y h
+  then_more j r rs q (Err cause) ih h = cc h
+  then_more j r rs q (Ok y) ih h = ih y h
 
   more_from : (j : ℕ) (p : Progress) (r : Request) (rs : List Request) (q : Progress) → run_from b s j p rs ≡ ran q
       → run_from b s j p (rs ++ r ∷ []) ≡ next (j + length rs) q r

@@ -19,15 +19,14 @@ use Rattle.ledger_model.specs.declared.script.Request.{Request}
 use Rattle.ledger_model.specs.CommitDigest.{commit_digest}
 use Rattle.ledger_model.specs.Damages.{same_hash}
 use Rattle.ledger_model.specs.Making.{block_of}
-use Rattle.ledger_model.specs.Run.{Begun, Progress, Ran, ran, refused, start, step, then_run, unserved}
+use Rattle.ledger_model.specs.Run.{Begun, Progress, Ran, ran, refused, start, step, then_run}
 use Rattle.ledger_model.specs.State.{State, state}
 use Rattle.frame_laws.specs.Touches.{conflict}
 
 -- ---- the machine
 
 -- A transaction that is open: its number, its place in the script, how many blocks stood at its begin, the
--- statements that it was asked, and what they came to. Behind a refused statement, or one that isn't served so far,
--- it is ended and takes no more.
+-- statements that it was asked, and what they came to. Behind a refused statement it is ended and takes no more.
 pub record Transaction : Type 0 where
   pub number : ℕ
   pub place : Place
@@ -89,13 +88,12 @@ pub data Ending : Type 0 where
   seals : Block → Ending
 
 -- A begin gives the transaction's number and how many blocks stood before, or no number is left behind the last one.
--- A statement is answered by its rows, refused, or not served so far. Unknown is what names no open transaction.
+-- A statement is answered by its rows, or refused. Unknown is what names no open transaction.
 pub data Answer : Type 0 where
   begun : (number since : ℕ) → Answer
   spent : (last : ℕ) → Answer
   rows : List Value → Answer
   refuses : Refusal → Answer
-  unbuilt : Answer
   ends : Ending → Answer
   aborted : Answer
   unknown : Answer
@@ -172,13 +170,12 @@ begins m place = if nat_lt m.last (2 ^ 64 - 1) then draws m place else record { 
 abbrev pub last_rows : List Said → List Value
 last_rows said = option_map_or (λ (x : Said). x.answer.rows) (last_or None said) []
 
-abbrev pub told : Option (Result Progress Refusal) → Answer
-told None = unbuilt
-told (Some (Err cause)) = refuses cause
-told (Some (Ok p)) = rows (last_rows p.said)
+abbrev pub told : Result Progress Refusal → Answer
+told (Err cause) = refuses cause
+told (Ok p) = rows (last_rows p.said)
 
 -- the transaction with one statement more, which comes to this
-abbrev pub asked_more : Transaction → Request → Option (Result Progress Refusal) → Transaction
+abbrev pub asked_more : Transaction → Request → Result Progress Refusal → Transaction
 asked_more t r x = record t { asked = t.asked ++ r ∷ []; done = then_run (length t.asked + 1) x ran }
 
 -- one step of the run on the blocks at the transaction's begin, behind what its statements did
@@ -187,7 +184,6 @@ executes_on m r t (ran p) =
     let x = step (begun_as m t) (base m t) p r in
     record { answer = told x; now = record m { underway = replaced (asked_more t r x) m.underway } }
 executes_on m r t (refused statement cause) = record { answer = refuses Ended; now = m }
-executes_on m r t unserved = record { answer = unbuilt; now = m }
 
 abbrev pub executes : Machine → Request → Transaction → Step
 executes m r t = executes_on m r t t.done
@@ -232,7 +228,6 @@ ending_of m c t p =
 abbrev pub ending : Machine → Commit → Transaction → Ran → Ending
 ending m c t (ran p) = ending_of m c t p
 ending m c t (refused statement cause) = ended
-ending m c t unserved = ended
 
 -- the blocks behind the commit
 abbrev pub blocks_behind : List Block → Ending → List Block

@@ -4,7 +4,7 @@ use Rattle.std.specs.Prelude.{ℕ, ◌^◌, ◌<◌, List, [], ◌∷◌, Option
 use Rattle.ion_values.specs.Time.{is_time}
 use Rattle.ledger_model.specs.declared.block.Block.{Block}
 use Rattle.ledger_model.specs.Damages.{Undamaged}
-use Rattle.ledger_model.specs.Run.{Ran, ran, refused, unserved}
+use Rattle.ledger_model.specs.Run.{Ran, ran, refused}
 use Rattle.ledger_model.specs.Whole.{place_fits}
 use Rattle.made_blocks.specs.Before.{HasStrand}
 use Rattle.made_blocks.specs.Makes.{IsWithinAll}
@@ -20,7 +20,6 @@ pub record IsOpening (mask : ℕ) (blocks : List Block) : Type 0 where
 abbrev pub DidWithin : Ran → Type 0
 DidWithin (ran p) = IsWithinAll p
 DidWithin (refused statement cause) = Unit {0}
-DidWithin unserved = Unit {0}
 
 abbrev pub IfOpenWithin : Option Transaction → Type 0
 IfOpenWithin None = Unit {0}

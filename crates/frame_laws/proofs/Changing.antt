@@ -10,7 +10,6 @@ use Rattle.ql_types.specs.declared.DocId.{DocId}
 use Rattle.ql_types.specs.declared.TableId.{TableId}
 use Rattle.pql_model.specs.declared.statement.FromClause.{FromClause}
 use Rattle.pql_model.specs.declared.statement.Source.{Source}
-use Rattle.ledger_model.specs.Statements.{is_plain}
 use Rattle.pql_model.specs.declared.tables.Row.{Row}
 use Rattle.ledger_model.specs.declared.block.Block.{Block}
 use Rattle.ledger_model.specs.declared.block.Content.{Content}
@@ -29,7 +28,7 @@ use Rattle.frame_laws.proofs.Equality.{inside}
 use Rattle.frame_laws.proofs.Naming.{NamedDoc}
 use Rattle.frame_laws.proofs.Pending.{all_found, find_more, is_doc, latest_keeps, none_of, not_pending}
 use Rattle.frame_laws.proofs.Revised.{latest_behind}
-use Rattle.frame_laws.proofs.Rows.{table_same}
+use Rattle.frame_laws.proofs.Rows.{is_plain, table_same}
 use Rattle.frame_laws.proofs.Schemas.{Untouched}
 
 -- ---- which tables are active

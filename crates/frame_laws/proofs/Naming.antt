@@ -31,7 +31,7 @@ use Rattle.ledger_model.specs.Follows.{latest_of}
 use Rattle.ledger_model.specs.Footprints.{Schemas, all_asked, equations_of, read_by_sources, read_from}
 use Rattle.ledger_model.specs.Run.{Progress, rows_in, schemas_now, table_now, views_of}
 use Rattle.ledger_model.specs.State.{Recorded, State, active_table, draft_of, empty, state}
-use Rattle.ledger_model.specs.Statements.{is_plain, table_in}
+use Rattle.ledger_model.specs.Statements.{table_in}
 use Rattle.ledger_model.specs.Views.{latest, latest_from, live, put, row_of}
 use Rattle.frame_laws.specs.Covered.{document_shown, is_known, is_met_by, is_no_history, is_read, reads_of, table_of}
 use Rattle.frame_laws.specs.Framed.{names_read}
@@ -48,7 +48,7 @@ use Rattle.frame_laws.proofs.Equality.{inside}
 use Rattle.frame_laws.proofs.Pending.{Agrees, is_doc, pending_agree}
 use Rattle.frame_laws.proofs.Revised.{unrevised}
 use Rattle.frame_laws.proofs.Restricts.{combined_is, given_at, one_start}
-use Rattle.frame_laws.proofs.Rows.{Named, all_joined, all_left, all_named, all_untouched, here_at, known_user, latest_fit, next_at, user_shown}
+use Rattle.frame_laws.proofs.Rows.{Named, all_joined, all_left, all_named, all_untouched, here_at, is_plain, known_user, latest_fit, next_at, user_shown}
 use Rattle.frame_laws.proofs.Sources.{committed_rows, committed_shown, history_rows, ids_fit, known_showing, latest_fits}
 use Rattle.frame_laws.proofs.Committed.{row_is}
 use Rattle.frame_laws.proofs.Histories.{HasTable, Steady, historic_unrevised, steady_behind}

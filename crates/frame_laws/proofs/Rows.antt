@@ -1,5 +1,5 @@
 -- Untouched items, the ids of rows, and the tables of names that aren't touched.
-use Rattle.std.proofs.Common.{◌≡◌, ◌∙◌, ℕ, suc, ◌+◌, ◌^◌, Bool, true, false, cond, ◌==◌, nat_lt, List, [], ◌∷◌, ◌++◌, map, refl, sym, ap, subst, arith, slice_get, Option, Some, None, option_map}
+use Rattle.std.proofs.Common.{◌≡◌, ◌∙◌, ℕ, suc, ◌+◌, ◌^◌, Bool, true, false, not, cond, ◌==◌, nat_lt, List, [], ◌∷◌, ◌++◌, map, refl, sym, ap, subst, arith, slice_get, Option, Some, None, option_map}
 use Rattle.std.specs.Prelude.{if◌then◌else◌}
 use Rattle.std.specs.List.{AllByRecursion, cons_option, filter_map, find}
 use Rattle.std.proofs.lemmas.Bool.{and_from, false≢true, not-true}
@@ -20,7 +20,7 @@ use Rattle.ledger_model.specs.declared.outcome.Item.TheVariants as item
 use Rattle.ledger_model.specs.Footprints.{first_of, shows_metadata}
 use Rattle.ledger_model.specs.Run.{Progress, table_now, tables_now}
 use Rattle.ledger_model.specs.State.{State, Table, after, draft_of, state_from}
-use Rattle.ledger_model.specs.Statements.{is_plain, table_in}
+use Rattle.ledger_model.specs.Statements.{table_in}
 use Rattle.ledger_model.specs.Views.{latest_from, live, put, row_of}
 use Rattle.frame_laws.specs.Covered.{data_in, document_shown, is_known, shows_own_id}
 use Rattle.frame_laws.specs.Framed.{names_read}
@@ -108,6 +108,12 @@ latest_fit docs (d ∷ ds) h k =
 
 pub user_named : (name : List ℕ) → is_committed name ≡ false → view_named name ≡ view.User
 user_named name plain = ap (λ b. if b then view.Committed else view.User) plain
+
+-- the user view of a table, or a path
+abbrev pub is_plain : SourceKind → Bool
+is_plain (source.Table name) = not (is_committed name)
+is_plain (source.History table start end) = false
+is_plain (source.Path path) = true
 
 plain_shows : (kind : SourceKind) → is_plain kind ≡ true → shows_metadata kind ≡ false
 plain_shows (source.Table name) plain = not-true (is_committed name) plain

@@ -26,7 +26,7 @@ use Rattle.ledger_model.specs.Follows.{latest_of}
 use Rattle.ledger_model.specs.Footprints.{Schemas, shows_metadata}
 use Rattle.ledger_model.specs.Run.{Progress, rows_in, schemas_now, table_now, views_of}
 use Rattle.ledger_model.specs.State.{Recorded, State, draft_of, state_from}
-use Rattle.ledger_model.specs.Statements.{is_plain, table_in}
+use Rattle.ledger_model.specs.Statements.{table_in}
 use Rattle.ledger_model.specs.Views.{latest, row_of, user_view}
 use Rattle.frame_laws.specs.Covered.{data_in, document_shown, is_known, is_met_by, is_read, known_of, reads_of, shows_own_id, table_of}
 use Rattle.frame_laws.specs.Meets.{meets_one}
@@ -38,7 +38,7 @@ use Rattle.frame_laws.proofs.Committed.{committed_still, document, own_id, showi
 use Rattle.frame_laws.proofs.Documents.{IsLatest, all_latest}
 use Rattle.frame_laws.proofs.Histories.{history_still, latest_holds}
 use Rattle.frame_laws.proofs.Restricts.{frame_of_rows}
-use Rattle.frame_laws.proofs.Rows.{Named, all_joined, fits_before, here_at, known_user, latest_fit, next_at, rows_fit, table_same, user_shown}
+use Rattle.frame_laws.proofs.Rows.{Named, all_joined, fits_before, here_at, is_plain, known_user, latest_fit, next_at, rows_fit, table_same, user_shown}
 use Rattle.frame_laws.proofs.Still.{still}
 
 -- ---- the rows of a committed view and of a history, revision by revision

@@ -11,11 +11,12 @@ use Rattle.pql_model.specs.Tables.{is_committed}
 use Rattle.ledger_model.specs.declared.outcome.Refusal.{Refusal}
 use Rattle.ledger_model.specs.declared.outcome.Refusal.TheVariants.{ReservedName}
 use Rattle.ledger_model.specs.Progress.{or_else}
-use Rattle.ledger_model.specs.Statements.{is_plain, is_reserved}
+use Rattle.ledger_model.specs.Statements.{is_reserved}
 use Rattle.ledger_model.specs.Writing.{first_own, own_table}
 use Rattle.frame_laws.specs.Covered.{is_no_history}
 use Rattle.frame_laws.specs.Framed.{no_history_of}
 use Rattle.frame_laws.proofs.Equality.{inside}
+use Rattle.frame_laws.proofs.Rows.{is_plain}
 
 prefix : (front more xs : List ℕ) → pointwise nat_eq (front ++ more) (take (length (front ++ more)) xs) ≡ true
     → pointwise nat_eq front (take (length front) xs) ≡ true

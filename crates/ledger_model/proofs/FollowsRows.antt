@@ -8,13 +8,18 @@ abbrev table : ℕ → TableId
 table raw = record { raw = raw }
 
 -- a name is free again once its table is dropped
-again : schema_follows [] [] (Create (codes "t") (table 1) ∷ Index (codes "a") (table 1) ∷ Drop (codes "t") (table 1) ∷ Create (codes "t") (table 2) ∷ []) ≡ true
+again :
+    schema_follows [] [] (Create (codes "t") (table 1) ∷ Index (codes "a") (table 1) ∷ Drop (codes "t") (table 1)
+    ∷ Create (codes "t") (table 2) ∷ [])
+    ≡ true
 again = refl
 
 twice : schema_follows [] [] (Create (codes "t") (table 1) ∷ Create (codes "t") (table 2) ∷ []) ≡ false
 twice = refl
 
-second_index : schema_follows [] [] (Create (codes "t") (table 1) ∷ Index (codes "a") (table 1) ∷ Index (codes "a") (table 1) ∷ []) ≡ false
+second_index :
+    schema_follows [] [] (Create (codes "t") (table 1) ∷ Index (codes "a") (table 1) ∷ Index (codes "a") (table 1) ∷ [])
+    ≡ false
 second_index = refl
 
 of_no_table : schema_follows [] [] (Index (codes "a") (table 1) ∷ []) ≡ false
@@ -23,7 +28,9 @@ of_no_table = refl
 other_id : schema_follows [] [] (Create (codes "t") (table 1) ∷ Drop (codes "t") (table 2) ∷ []) ≡ false
 other_id = refl
 
-created : created_ids (Create (codes "t") (table 5) ∷ Index (codes "a") (table 5) ∷ Create (codes "u") (table 6) ∷ []) ≡ 5 ∷ 6 ∷ []
+created :
+    created_ids (Create (codes "t") (table 5) ∷ Index (codes "a") (table 5) ∷ Create (codes "u") (table 6) ∷ [])
+    ≡ 5 ∷ 6 ∷ []
 created = refl
 
 -- the transaction 1 of the mask 0 has the number 2^24, and what it makes the numbers behind it

@@ -25,7 +25,9 @@ table raw = record { raw = raw }
 -- the tables t and u, and indexes on the fields `a` and `b` of t
 abbrev now : Schemas
 now = record {
-  tables = record { name = codes "t"; id = table 5; active = true } ∷ record { name = codes "u"; id = table 6; active = true } ∷ [];
+  tables =
+      record { name = codes "t"; id = table 5; active = true }
+      ∷ record { name = codes "u"; id = table 6; active = true } ∷ [];
   indexes = record { table = table 5; field = codes "a" } ∷ record { table = table 5; field = codes "b" } ∷ [];
 }
 
@@ -53,18 +55,23 @@ equal left right = record { left = left; right = right }
 parts :
     (condition_of (text (codes "x") ∷ []) (expr.Binary op.And
     (expr.Binary op.Equal (path (codes "t") (step.Field (codes "a") ∷ [])) (expr.Parameter 0))
-    (expr.Binary op.And (expr.Binary op.Equal (literal (codes "y")) (path (codes "b") [])) (expr.Binary op.Less (path (codes "x") []) (literal (codes "z")))))).equations
-    ≡ equal (names (codes "t") (codes "a" ∷ [])) (constant (text (codes "x"))) ∷ equal (constant (text (codes "y"))) (names (codes "b") []) ∷ []
+    (expr.Binary op.And (expr.Binary op.Equal (literal (codes "y")) (path (codes "b") []))
+    (expr.Binary op.Less (path (codes "x") []) (literal (codes "z")))))).equations
+    ≡ equal (names (codes "t") (codes "a" ∷ [])) (constant (text (codes "x")))
+    ∷ equal (constant (text (codes "y"))) (names (codes "b") []) ∷ []
 parts = search (rules, the_lemmas)
 
 -- a = 'x' OR a = 'y'
 no_parts :
-    (condition_of [] (expr.Binary op.Or (expr.Binary op.Equal (path (codes "a") []) (literal (codes "x"))) (expr.Binary op.Equal (path (codes "a") []) (literal (codes "y"))))).equations ≡ []
+    (condition_of [] (expr.Binary op.Or (expr.Binary op.Equal (path (codes "a") []) (literal (codes "x")))
+    (expr.Binary op.Equal (path (codes "a") []) (literal (codes "y"))))).equations
+    ≡ []
 no_parts = search (rules, the_lemmas)
 
 -- t['a'] = 'x'
 by_index :
-    (condition_of [] (expr.Binary op.Equal (path (codes "t") (step.Index (literal (codes "a")) ∷ [])) (literal (codes "x")))).equations
+    (condition_of [] (expr.Binary op.Equal (path (codes "t") (step.Index (literal (codes "a")) ∷ []))
+    (literal (codes "x")))).equations
     ≡ equal other (constant (text (codes "x"))) ∷ []
 by_index = search (rules, the_lemmas)
 
@@ -77,14 +84,17 @@ abbrev t : Source
 t = of (source.Table (codes "t")) (codes "t") None
 
 -- FROM t, FROM t.a
-no_condition : read_by_sources now [] (t ∷ of (source.Path (record { first = codes "t"; steps = step.Field (codes "a") ∷ [] })) (codes "a") None ∷ [])
+no_condition :
+    read_by_sources now [] (t ∷ of (source.Path (record { first = codes "t"; steps = step.Field (codes "a") ∷ [] }))
+    (codes "a") None ∷ [])
     ≡ item.TableName (codes "t") ∷ item.Table (table 5) ∷ []
 no_condition = refl
 
 -- WHERE c = 'x' AND b = 'y' AND t.a = 'z': the first with an index counts, and the only source may be left out
 by_key :
     read_by_sources now (
-    equal (names (codes "c") []) (constant (text (codes "x"))) ∷ equal (constant (text (codes "y"))) (names (codes "b") [])
+    equal (names (codes "c") []) (constant (text (codes "x")))
+    ∷ equal (constant (text (codes "y"))) (names (codes "b") [])
     ∷ equal (names (codes "t") (codes "a" ∷ [])) (constant (text (codes "z"))) ∷ []) (t ∷ [])
     ≡ item.TableName (codes "t") ∷ item.IndexValue (table 5) (codes "b") (key.Text (codes "y")) ∷ []
 unfolding out-Body denote.Hole.Carrier.out
@@ -94,6 +104,7 @@ by_key = refl
 by_source :
     read_by_sources now (equal (names (codes "y") (codes "a" ∷ [])) (constant (text (codes "z"))) ∷ [])
     (of (source.Table (codes "u")) (codes "x") None ∷ of (source.Table (codes "t")) (codes "y") None ∷ [])
-    ≡ item.TableName (codes "u") ∷ item.TableName (codes "t") ∷ item.Table (table 6) ∷ item.IndexValue (table 5) (codes "a") (key.Text (codes "z")) ∷ []
+    ≡ item.TableName (codes "u") ∷ item.TableName (codes "t") ∷ item.Table (table 6)
+    ∷ item.IndexValue (table 5) (codes "a") (key.Text (codes "z")) ∷ []
 unfolding out-Body denote.Hole.Carrier.out
 by_source = refl

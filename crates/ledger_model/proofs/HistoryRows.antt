@@ -1,5 +1,5 @@
 -- Rows of committed views and histories.
-use Rattle.std.proofs.Common.{◌≡◌, ℕ, ℤ, pos, true, false, List, [], ◌∷◌, map, refl, rules, arith, Option, Some, None}
+use Rattle.std.proofs.Common.{◌≡◌, ℕ, pos, [], ◌∷◌, refl, rules, arith, Option, Some, None}
 use Rattle.ion_values.specs.declared.time.Precision.TheVariants.{Second}
 use Rattle.ion_values.specs.declared.time.TimeParts.{TimeParts}
 use Rattle.ion_values.specs.declared.value.Body.TheFolds.{the_lemmas}
@@ -10,12 +10,10 @@ use Rattle.jiff_core.specs.Calendar.{days_from_civil}
 use Rattle.jiff_core.proofs.CalendarLemmas.{days_from_civil-day_count}
 use Rattle.jiff_core.proofs.MarchLemmas.{day_count-early, day_count-late}
 use Rattle.jiff_core.proofs.SignedLemmas.{signed_arith}
-use Rattle.ql_types.specs.declared.Hash32.{Hash32}
 use Rattle.ql_types.specs.declared.TableId.{TableId}
-use Rattle.pql_model.specs.declared.tables.Row.{Row}
 use Rattle.ledger_model.specs.declared.block.Content.{Content}
 use Rattle.ledger_model.specs.declared.block.Content.TheVariants.{Deleted, Kept}
-use Rattle.ledger_model.specs.CommittedViews.{committed_view, ended, history_view, is_between, row_showing}
+use Rattle.ledger_model.specs.CommittedViews.{committed_view, history_view, row_showing}
 use Rattle.ledger_model.specs.State.{Recorded}
 
 abbrev table : ℕ → TableId
@@ -67,23 +65,48 @@ deleted = revision 2 (first_day 2020 3) Deleted
 
 in_june : days_from_civil (pos 2019) 6 1 ≡ pos 18_048
 in_june =
-    omega (arith, signed_arith, days_from_civil-day_count (pos 2019) 6 1, day_count-late (pos 2019) 12_019 6 1 refl (omega arith) (omega arith) (omega arith))
+    omega (
+      arith,
+      signed_arith,
+      days_from_civil-day_count (pos 2019) 6 1,
+      day_count-late (pos 2019) 12_019 6 1 refl (omega arith) (omega arith) (omega arith),
+    )
 
 in_january : days_from_civil (pos 2020) 1 1 ≡ pos 18_262
 in_january =
-    omega (arith, signed_arith, days_from_civil-day_count (pos 2020) 1 1, day_count-early (pos 2020) 12_019 1 1 refl (omega arith) (omega arith) (omega arith))
+    omega (
+      arith,
+      signed_arith,
+      days_from_civil-day_count (pos 2020) 1 1,
+      day_count-early (pos 2020) 12_019 1 1 refl (omega arith) (omega arith) (omega arith),
+    )
 
 in_february : days_from_civil (pos 2020) 2 1 ≡ pos 18_293
 in_february =
-    omega (arith, signed_arith, days_from_civil-day_count (pos 2020) 2 1, day_count-early (pos 2020) 12_019 2 1 refl (omega arith) (omega arith) (omega arith))
+    omega (
+      arith,
+      signed_arith,
+      days_from_civil-day_count (pos 2020) 2 1,
+      day_count-early (pos 2020) 12_019 2 1 refl (omega arith) (omega arith) (omega arith),
+    )
 
 in_march : days_from_civil (pos 2020) 3 1 ≡ pos 18_322
 in_march =
-    omega (arith, signed_arith, days_from_civil-day_count (pos 2020) 3 1, day_count-late (pos 2020) 12_020 3 1 refl (omega arith) (omega arith) (omega arith))
+    omega (
+      arith,
+      signed_arith,
+      days_from_civil-day_count (pos 2020) 3 1,
+      day_count-late (pos 2020) 12_020 3 1 refl (omega arith) (omega arith) (omega arith),
+    )
 
 in_april : days_from_civil (pos 2020) 4 1 ≡ pos 18_353
 in_april =
-    omega (arith, signed_arith, days_from_civil-day_count (pos 2020) 4 1, day_count-late (pos 2020) 12_020 4 1 refl (omega arith) (omega arith) (omega arith))
+    omega (
+      arith,
+      signed_arith,
+      days_from_civil-day_count (pos 2020) 4 1,
+      day_count-late (pos 2020) 12_020 4 1 refl (omega arith) (omega arith) (omega arith),
+    )
 
 -- ---- history
 
@@ -101,13 +124,16 @@ whole_history : history_view (table 5) None None (inserted ∷ updated ∷ delet
 whole_history = refl
 
 -- a delete was active at its own moment alone
-at_delete : history_view (table 5) (bound 2020 3) (bound 2020 3) (inserted ∷ updated ∷ deleted ∷ []) ≡ row_showing deleted ∷ []
+at_delete :
+    history_view (table 5) (bound 2020 3) (bound 2020 3) (inserted ∷ updated ∷ deleted ∷ []) ≡ row_showing deleted ∷ []
 at_delete = search (rules, the_lemmas, in_june, in_january, in_february, in_march, in_april)
 
 behind_delete : history_view (table 5) (bound 2020 4) None (inserted ∷ updated ∷ deleted ∷ []) ≡ []
 behind_delete = search (rules, the_lemmas, in_june, in_january, in_february, in_march, in_april)
 
-up_to_update : history_view (table 5) None (bound 2020 1) (inserted ∷ updated ∷ deleted ∷ []) ≡ row_showing inserted ∷ row_showing updated ∷ []
+up_to_update :
+    history_view (table 5) None (bound 2020 1) (inserted ∷ updated ∷ deleted ∷ [])
+    ≡ row_showing inserted ∷ row_showing updated ∷ []
 up_to_update = search (rules, the_lemmas, in_june, in_january, in_february, in_march, in_april)
 
 -- bounds the wrong way round show nothing, nor does one that is no timestamp
@@ -117,7 +143,10 @@ turned = search (rules, the_lemmas, in_june, in_january, in_february, in_march, 
 no_moment : history_view (table 5) (Some (value 5)) None (inserted ∷ updated ∷ []) ≡ []
 no_moment = search (rules, the_lemmas)
 
-null_moment : history_view (table 5) None (Some (roll-Value (record { annotations = []; body = body.Null kind.Timestamp }))) (inserted ∷ []) ≡ []
+null_moment :
+    history_view (table 5) None (Some (roll-Value (record { annotations = []; body = body.Null kind.Timestamp })))
+    (inserted ∷ [])
+    ≡ []
 null_moment = search (rules, the_lemmas)
 
 other_table : history_view (table 6) None None (inserted ∷ updated ∷ []) ≡ []

@@ -1,5 +1,4 @@
 pub mod SaidLemmas
-pub mod UnreadLemmas
 mod ScriptRows
 mod ReportRows
 mod JournalRows

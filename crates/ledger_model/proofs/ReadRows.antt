@@ -32,7 +32,9 @@ table raw = record { raw = raw }
 -- the tables t and u, and indexes on the fields `a` and `b` of t
 abbrev now : Schemas
 now = record {
-  tables = record { name = codes "t"; id = table 5; active = true } ∷ record { name = codes "u"; id = table 6; active = true } ∷ [];
+  tables =
+      record { name = codes "t"; id = table 5; active = true }
+      ∷ record { name = codes "u"; id = table 6; active = true } ∷ [];
   indexes = record { table = table 5; field = codes "a" } ∷ record { table = table 5; field = codes "b" } ∷ [];
 }
 
@@ -65,37 +67,48 @@ abbrev key_a : ℕ → Item
 key_a n = item.IndexValue (table 5) (codes "a") (key.Number (pos n) (pos 0))
 
 -- FROM t BY i WHERE i = '..'
-by_name : read_by_sources now (equal (names (codes "i") []) (constant one)) (source_of (source.Table (codes "t")) (codes "t") (Some (codes "i"))) ≡ reads document
+by_name :
+    read_by_sources now (equal (names (codes "i") []) (constant one))
+    (source_of (source.Table (codes "t")) (codes "t") (Some (codes "i")))
+    ≡ reads document
 unfolding spelled values_of
 by_name = search (rules, values.the_lemmas)
 
 -- in a part behind a key it counts first
 by_name_first :
-    read_by_sources now (record { left = names (codes "a") []; right = constant (int 7) } ∷ equal (constant one) (names (codes "i") []))
+    read_by_sources now (record { left = names (codes "a") []; right = constant (int 7) }
+    ∷ equal (constant one) (names (codes "i") []))
     (source_of (source.Table (codes "t")) (codes "t") (Some (codes "i"))) ≡ reads document
 unfolding spelled values_of
 by_name_first = search (rules, values.the_lemmas)
 
 -- a text that reads as no id
-no_id : read_by_sources now (equal (names (codes "i") []) (constant (text (codes "1")))) (source_of (source.Table (codes "t")) (codes "t") (Some (codes "i"))) ≡ reads (item.Table (table 5))
+no_id :
+    read_by_sources now (equal (names (codes "i") []) (constant (text (codes "1"))))
+    (source_of (source.Table (codes "t")) (codes "t") (Some (codes "i")))
+    ≡ reads (item.Table (table 5))
 no_id = search (rules, values.the_lemmas)
 
 -- FROM _ql_committed_t AS x WHERE metadata.id = '..': its table's name, and the root left out
 by_metadata :
-    read_by_sources now (equal (names (codes "metadata") (codes "id" ∷ [])) (constant one)) (source_of (source.Table (codes "_ql_committed_t")) (codes "x") None)
+    read_by_sources now (equal (names (codes "metadata") (codes "id" ∷ [])) (constant one))
+    (source_of (source.Table (codes "_ql_committed_t")) (codes "x") None)
     ≡ reads document
 unfolding spelled values_of
 by_metadata = search (rules, values.the_lemmas)
 
 -- FROM history(t) AS h WHERE h.metadata.id = '..'
 by_history :
-    read_by_sources now (equal (names (codes "h") (codes "metadata" ∷ codes "id" ∷ [])) (constant one)) (source_of (source.History (codes "t") None None) (codes "h") None)
+    read_by_sources now (equal (names (codes "h") (codes "metadata" ∷ codes "id" ∷ [])) (constant one))
+    (source_of (source.History (codes "t") None None) (codes "h") None)
     ≡ reads document
 unfolding spelled values_of
 by_history = search (rules, values.the_lemmas)
 
 -- a user view shows no metadata
-no_metadata : read_by_sources now (equal (names (codes "metadata") (codes "id" ∷ [])) (constant one)) t ≡ reads (item.Table (table 5))
+no_metadata :
+    read_by_sources now (equal (names (codes "metadata") (codes "id" ∷ [])) (constant one)) t
+    ≡ reads (item.Table (table 5))
 no_metadata = search (rules, values.the_lemmas)
 
 -- a = 7, and 7 = t.a
@@ -109,13 +122,17 @@ reversed = search (rules, values.the_lemmas)
 
 -- a = NULL AND a = 7: a const without a key doesn't count
 without_key :
-    read_by_sources now (record { left = names (codes "a") []; right = constant (made (body.Null kind.Null)) } ∷ equal (names (codes "a") []) (constant (int 7))) t ≡ reads (key_a 7)
+    read_by_sources now (record { left = names (codes "a") []; right = constant (made (body.Null kind.Null)) }
+    ∷ equal (names (codes "a") []) (constant (int 7))) t
+    ≡ reads (key_a 7)
 unfolding key_of_number zeros_in
 without_key = search (rules, values.the_lemmas)
 
 -- of two that count the first
 first_counts :
-    read_by_sources now (record { left = names (codes "a") []; right = constant (int 7) } ∷ equal (names (codes "b") []) (constant (int 8))) t ≡ reads (key_a 7)
+    read_by_sources now (record { left = names (codes "a") []; right = constant (int 7) }
+    ∷ equal (names (codes "b") []) (constant (int 8))) t
+    ≡ reads (key_a 7)
 unfolding key_of_number zeros_in
 first_counts = search (rules, values.the_lemmas)
 
@@ -123,21 +140,31 @@ no_index : read_by_sources now (equal (names (codes "c") []) (constant (int 7)))
 no_index = search (rules, values.the_lemmas)
 
 -- FROM _ql_committed_t AS x WHERE x.data.a = 7, and x.a = 7
-committed_key : read_by_sources now (equal (names (codes "x") (codes "data" ∷ codes "a" ∷ [])) (constant (int 7))) (source_of (source.Table (codes "_ql_committed_t")) (codes "x") None) ≡ reads (key_a 7)
+committed_key :
+    read_by_sources now (equal (names (codes "x") (codes "data" ∷ codes "a" ∷ [])) (constant (int 7)))
+    (source_of (source.Table (codes "_ql_committed_t")) (codes "x") None)
+    ≡ reads (key_a 7)
 unfolding key_of_number zeros_in
 committed_key = search (rules, values.the_lemmas)
 
-committed_field : read_by_sources now (equal (names (codes "x") (codes "a" ∷ [])) (constant (int 7))) (source_of (source.Table (codes "_ql_committed_t")) (codes "x") None) ≡ reads (item.Table (table 5))
+committed_field :
+    read_by_sources now (equal (names (codes "x") (codes "a" ∷ [])) (constant (int 7)))
+    (source_of (source.Table (codes "_ql_committed_t")) (codes "x") None)
+    ≡ reads (item.Table (table 5))
 committed_field = search (rules, values.the_lemmas)
 
 -- history is read by no key
-history_key : read_by_sources now (equal (names (codes "h") (codes "data" ∷ codes "a" ∷ [])) (constant (int 7))) (source_of (source.History (codes "t") None None) (codes "h") None) ≡ reads (item.Table (table 5))
+history_key :
+    read_by_sources now (equal (names (codes "h") (codes "data" ∷ codes "a" ∷ [])) (constant (int 7)))
+    (source_of (source.History (codes "t") None None) (codes "h") None)
+    ≡ reads (item.Table (table 5))
 history_key = search (rules, values.the_lemmas)
 
 -- FROM t AS x, t AS y WHERE y.a = 7: the table that is named twice is read twice
 twice :
     read_by_sources now (equal (names (codes "y") (codes "a" ∷ [])) (constant (int 7)))
-    (record { from = source.Table (codes "t"); variable = codes "x"; id_name = None; on = None } ∷ source_of (source.Table (codes "t")) (codes "y") None)
+    (record { from = source.Table (codes "t"); variable = codes "x"; id_name = None; on = None }
+    ∷ source_of (source.Table (codes "t")) (codes "y") None)
     ≡ item.TableName (codes "t") ∷ item.TableName (codes "t") ∷ item.Table (table 5) ∷ key_a 7 ∷ []
 unfolding key_of_number zeros_in
 twice = search (rules, values.the_lemmas)
@@ -145,18 +172,25 @@ twice = search (rules, values.the_lemmas)
 -- ---- what a name means
 
 -- FROM t AS i BY i WHERE i = '..': the BY name counts after the variable
-by_counts_last : read_by_sources now (equal (names (codes "i") []) (constant one)) (source_of (source.Table (codes "t")) (codes "i") (Some (codes "i"))) ≡ reads document
+by_counts_last :
+    read_by_sources now (equal (names (codes "i") []) (constant one))
+    (source_of (source.Table (codes "t")) (codes "i") (Some (codes "i")))
+    ≡ reads document
 unfolding spelled values_of
 by_counts_last = search (rules, values.the_lemmas)
 
 -- and a step behind it is no field of the source
-by_has_no_field : read_by_sources now (equal (names (codes "i") (codes "a" ∷ [])) (constant (int 7))) (source_of (source.Table (codes "t")) (codes "i") (Some (codes "i"))) ≡ reads (item.Table (table 5))
+by_has_no_field :
+    read_by_sources now (equal (names (codes "i") (codes "a" ∷ [])) (constant (int 7)))
+    (source_of (source.Table (codes "t")) (codes "i") (Some (codes "i")))
+    ≡ reads (item.Table (table 5))
 by_has_no_field = search (rules, values.the_lemmas)
 
 -- FROM u AS x, t AS x WHERE x.a = 7: the last of those that are spelt alike
 spelt_alike :
     read_by_sources now (equal (names (codes "x") (codes "a" ∷ [])) (constant (int 7)))
-    (record { from = source.Table (codes "u"); variable = codes "x"; id_name = None; on = None } ∷ source_of (source.Table (codes "t")) (codes "x") None)
+    (record { from = source.Table (codes "u"); variable = codes "x"; id_name = None; on = None }
+    ∷ source_of (source.Table (codes "t")) (codes "x") None)
     ≡ item.TableName (codes "u") ∷ item.TableName (codes "t") ∷ item.Table (table 6) ∷ key_a 7 ∷ []
 unfolding key_of_number zeros_in
 spelt_alike = search (rules, values.the_lemmas)
@@ -164,16 +198,20 @@ spelt_alike = search (rules, values.the_lemmas)
 -- FROM t AS x, u AS y WHERE a = 7: with two sources a left-out root counts for neither
 no_root :
     read_by_sources now (equal (names (codes "a") []) (constant (int 7)))
-    (record { from = source.Table (codes "t"); variable = codes "x"; id_name = None; on = None } ∷ source_of (source.Table (codes "u")) (codes "y") None)
+    (record { from = source.Table (codes "t"); variable = codes "x"; id_name = None; on = None }
+    ∷ source_of (source.Table (codes "u")) (codes "y") None)
     ≡ item.TableName (codes "t") ∷ item.TableName (codes "u") ∷ item.Table (table 5) ∷ item.Table (table 6) ∷ []
 no_root = search (rules, values.the_lemmas)
 
 -- of a name without an active table the name alone
-no_table : read_by_sources now [] (source_of (source.Table (codes "v")) (codes "v") None) ≡ item.TableName (codes "v") ∷ []
+no_table :
+    read_by_sources now [] (source_of (source.Table (codes "v")) (codes "v") None) ≡ item.TableName (codes "v") ∷ []
 no_table = refl
 
 -- of a history the table's name too
-of_history : read_by_sources now [] (source_of (source.History (codes "t") None None) (codes "h") None) ≡ reads (item.Table (table 5))
+of_history :
+    read_by_sources now [] (source_of (source.History (codes "t") None None) (codes "h") None)
+    ≡ reads (item.Table (table 5))
 of_history = refl
 
 -- ---- parts of conditions
@@ -187,9 +225,11 @@ path first = expr.Path (roll-Path (record { first = first; steps = [] }))
 -- (a = 5 AND b = 6) AND a = -5: brackets don't count, and -5 is no const
 in_brackets :
     (condition_of [] (expr.Binary op.And
-    (expr.Binary op.And (expr.Binary op.Equal (path (codes "a")) (literal 5)) (expr.Binary op.Equal (path (codes "b")) (literal 6)))
+    (expr.Binary op.And (expr.Binary op.Equal (path (codes "a")) (literal 5))
+    (expr.Binary op.Equal (path (codes "b")) (literal 6)))
     (expr.Binary op.Equal (path (codes "a")) (expr.Negate (literal 5))))).equations
-    ≡ record { left = names (codes "a") []; right = constant (int 5) } ∷ record { left = names (codes "b") []; right = constant (int 6) }
+    ≡ record { left = names (codes "a") []; right = constant (int 5) }
+    ∷ record { left = names (codes "b") []; right = constant (int 6) }
     ∷ record { left = names (codes "a") []; right = other } ∷ []
 in_brackets = search (rules, the_lemmas)
 
@@ -214,17 +254,28 @@ abbrev joined : FromClause
 joined = record {
   sources =
       record { from = source.Table (codes "t"); variable = codes "x"; id_name = None; on = None }
-      ∷ record { from = source.Table (codes "u"); variable = codes "u"; id_name = None; on = Some (equals (step_of (codes "x") (codes "a")) 7) } ∷ [];
+      ∷ record {
+        from = source.Table (codes "u");
+        variable = codes "u";
+        id_name = None;
+        on = Some (equals (step_of (codes "x") (codes "a")) 7);
+      } ∷ [];
   filter = Some (equals (step_of (codes "x") (codes "b")) 8);
 }
 
 abbrev on_and_where : List Equation
-on_and_where = record { left = names (codes "x") (codes "a" ∷ []); right = constant (int 7) } ∷ equal (names (codes "x") (codes "b" ∷ [])) (constant (int 8))
+on_and_where =
+    record { left = names (codes "x") (codes "a" ∷ []); right = constant (int 7) }
+    ∷ equal (names (codes "x") (codes "b" ∷ [])) (constant (int 8))
 
-on_equation : (condition_of [] (expr.Binary op.Equal (step_of (codes "x") (codes "a")) (literal 7))).equations ≡ equal (names (codes "x") (codes "a" ∷ [])) (constant (int 7))
+on_equation :
+    (condition_of [] (expr.Binary op.Equal (step_of (codes "x") (codes "a")) (literal 7))).equations
+    ≡ equal (names (codes "x") (codes "a" ∷ [])) (constant (int 7))
 on_equation = search (rules, the_lemmas)
 
-where_equation : (condition_of [] (expr.Binary op.Equal (step_of (codes "x") (codes "b")) (literal 8))).equations ≡ equal (names (codes "x") (codes "b" ∷ [])) (constant (int 8))
+where_equation :
+    (condition_of [] (expr.Binary op.Equal (step_of (codes "x") (codes "b")) (literal 8))).equations
+    ≡ equal (names (codes "x") (codes "b" ∷ [])) (constant (int 8))
 where_equation = search (rules, the_lemmas)
 
 joined_equations : equations_of [] joined ≡ on_and_where
@@ -232,15 +283,21 @@ joined_equations =
     ap (λ es. (es ++ []) ++ (condition_of [] (equals (step_of (codes "x") (codes "b")) 8)).equations) on_equation
     ∙ ap (λ es. equal (names (codes "x") (codes "a" ∷ [])) (constant (int 7)) ++ es) where_equation
 
-joined_reads : read_by_sources now on_and_where joined.sources ≡ item.TableName (codes "t") ∷ item.TableName (codes "u") ∷ key_a 7 ∷ item.Table (table 6) ∷ []
+joined_reads :
+    read_by_sources now on_and_where joined.sources
+    ≡ item.TableName (codes "t") ∷ item.TableName (codes "u") ∷ key_a 7 ∷ item.Table (table 6) ∷ []
 unfolding key_of_number zeros_in
 joined_reads = search (rules, values.the_lemmas)
 
 -- the ON conditions count before the WHERE
-on_first : footprint_of now [] (statement.Select select.Star joined) ≡ item.TableName (codes "t") ∷ item.TableName (codes "u") ∷ key_a 7 ∷ item.Table (table 6) ∷ []
+on_first :
+    footprint_of now [] (statement.Select select.Star joined)
+    ≡ item.TableName (codes "t") ∷ item.TableName (codes "u") ∷ key_a 7 ∷ item.Table (table 6) ∷ []
 on_first = ap (λ es. read_by_sources now es joined.sources) joined_equations ∙ joined_reads
 
-where_equations : (condition_of [] (expr.Binary op.Equal (path (codes "a")) (literal 7))).equations ≡ equal (names (codes "a") []) (constant (int 7))
+where_equations :
+    (condition_of [] (expr.Binary op.Equal (path (codes "a")) (literal 7))).equations
+    ≡ equal (names (codes "a") []) (constant (int 7))
 where_equations = search (rules, the_lemmas)
 
 where_reads : read_by_sources now (equations_of [] where_a) t ≡ reads (key_a 7)

@@ -15,11 +15,14 @@ use Rattle.ledger_model.specs.Report.{report}
 abbrev ended : Outcome → PlacedOutcome
 ended o = record { place = record { session = 3; transaction = 2 }; outcome = o }
 
-spent : report [] (ended (outcome.IdsSpent 18446744073709551615) ∷ []) ≡ codes "{session:3,transaction:2,outcome:ids_spent,last:18446744073709551615}" ++ 10 ∷ []
+spent :
+    report [] (ended (outcome.IdsSpent 18446744073709551615) ∷ [])
+    ≡ codes "{session:3,transaction:2,outcome:ids_spent,last:18446744073709551615}" ++ 10 ∷ []
 unfolding digits
 spent = refl
 
-no_memory : report [] (ended outcome.OutOfMemory ∷ []) ≡ codes "{session:3,transaction:2,outcome:out_of_memory}" ++ 10 ∷ []
+no_memory :
+    report [] (ended outcome.OutOfMemory ∷ []) ≡ codes "{session:3,transaction:2,outcome:out_of_memory}" ++ 10 ∷ []
 unfolding digits
 no_memory = refl
 
@@ -31,13 +34,20 @@ given_up = refl
 
 -- the key's exponent is outside the limits of a decimal
 touched :
-    report [] (ended (outcome.Conflict (record { raw = 16777216 }) 4 (record { block = 5; item = item.IndexValue (record { raw = 16777217 }) (codes "a") (key.Number (negsuc 4) (pos 32768)) })) ∷ [])
-    ≡ codes "{session:3,transaction:2,outcome:conflict,tx:\"0000000000000000018OWG\",since:4,block:5,item:{kind:index_value,table:\"0000000000000000018OWH\",field:\"a\",value:-5d32768}}" ++ 10 ∷ []
+    report [] (ended (outcome.Conflict (record { raw = 16777216 }) 4
+    (record {
+      block = 5;
+      item = item.IndexValue (record { raw = 16777217 }) (codes "a")
+          (key.Number (negsuc 4) (pos 32768));
+    })) ∷ [])
+    ≡ codes "{session:3,transaction:2,outcome:conflict,tx:\"0000000000000000018OWG\",since:4,block:5,item:"
+    ++ codes "{kind:index_value,table:\"0000000000000000018OWH\",field:\"a\",value:-5d32768}}" ++ 10 ∷ []
 unfolding digits digits_of
 touched = refl
 
 refused_text :
     report [] (ended (outcome.Refused (record { raw = 16777216 }) 0 1 (refusal.ParseFault 9 ParseKind.Unexpected)) ∷ [])
-    ≡ codes "{session:3,transaction:2,outcome:refused,tx:\"0000000000000000018OWG\",since:0,statement:1,cause:{code:1,at:9,kind:Unexpected}}" ++ 10 ∷ []
+    ≡ codes "{session:3,transaction:2,outcome:refused,tx:\"0000000000000000018OWG\",since:0,statement:1,"
+    ++ codes "cause:{code:1,at:9,kind:Unexpected}}" ++ 10 ∷ []
 unfolding digits digits_of
 refused_text = refl

@@ -29,8 +29,7 @@ use Rattle.ledger_model.specs.declared.script.Request.{Request}
 use Rattle.ql_types.specs.declared.TableId.{TableId}
 use Rattle.ledger_model.specs.Values.{named_id}
 use Rattle.ledger_model.specs.State.{State, empty}
-use Rattle.ledger_model.specs.Statements.{if_wanted, is_built, served_of, with_parameters}
-use Rattle.ledger_model.specs.Unbuilt.{is_served}
+use Rattle.ledger_model.specs.Statements.{statement_of, with_parameters}
 use Rattle.ledger_model.specs.Run.{Begun, created, documents_in, first_deep, has_room, inserted, new_table, no_table_more, nothing, selected, start, stored}
 
 -- ---- texts
@@ -44,7 +43,7 @@ plain b = roll-Value (record { annotations = []; body = b })
 abbrev int : ℕ → Value
 int n = plain (body.Int (pos n))
 
-creates : served_of (asks (codes "CREATE TABLE t") []) ≡ Some (Ok (statement.Create (codes "t")))
+creates : statement_of (asks (codes "CREATE TABLE t") []) ≡ Ok (statement.Create (codes "t"))
 unfolding parsed lex is_reserved layers expression free_path
 creates = refl
 
@@ -54,7 +53,9 @@ table_as name variable = record {
   filter = None;
 }
 
-selects : served_of (asks (codes "SELECT * FROM t AS x") []) ≡ Some (Ok (statement.Select select.Star (table_as (codes "t") (codes "x"))))
+selects :
+    statement_of (asks (codes "SELECT * FROM t AS x") [])
+    ≡ Ok (statement.Select select.Star (table_as (codes "t") (codes "x")))
 unfolding parsed lex is_reserved layers expression free_path
 selects = refl
 
@@ -62,36 +63,31 @@ insert_read : parsed (codes "INSERT INTO t ?") ≡ Ok (statement.Insert (codes "
 unfolding parsed lex is_reserved layers expression free_path
 insert_read = refl
 
-inserts : served_of (asks (codes "INSERT INTO t ?") (int 5 ∷ [])) ≡ Some (Ok (statement.Insert (codes "t") (expr.Parameter 0)))
-inserts = ap (λ x. if_wanted (with_parameters x (int 5 ∷ []))) insert_read ∙ search (rules, expressions.the_lemmas)
+inserts :
+    statement_of (asks (codes "INSERT INTO t ?") (int 5 ∷ [])) ≡ Ok (statement.Insert (codes "t") (expr.Parameter 0))
+inserts = ap (λ x. with_parameters x (int 5 ∷ [])) insert_read ∙ search (rules, expressions.the_lemmas)
 
-no_parameter : served_of (asks (codes "INSERT INTO t ?") []) ≡ Some (Err (ParameterCount 1 0))
-no_parameter = ap (λ x. if_wanted (with_parameters x [])) insert_read ∙ search (rules, expressions.the_lemmas)
+no_parameter : statement_of (asks (codes "INSERT INTO t ?") []) ≡ Err (ParameterCount 1 0)
+no_parameter = ap (λ x. with_parameters x []) insert_read ∙ search (rules, expressions.the_lemmas)
 
-no_statement : served_of (asks (codes "SELECT * FORM t") []) ≡ Some (Err (ParseFault 9 Unexpected))
+no_statement : statement_of (asks (codes "SELECT * FORM t") []) ≡ Err (ParseFault 9 Unexpected)
 unfolding parsed lex is_reserved layers expression free_path
 no_statement = refl
 
--- ---- which statements are served
-
-committed : is_built (statement.Select select.Star (table_as (codes "_ql_committed_t") (codes "x"))) ≡ true
-committed = refl
-
-of_value : is_built (statement.Select (select.Value (expr.Parameter 0)) (table_as (codes "t") (codes "x"))) ≡ true
-of_value = refl
-
-dropped : is_served (asks (codes "DROP TABLE t") []) ≡ true
+drops : statement_of (asks (codes "DROP TABLE t") []) ≡ Ok (statement.Drop (codes "t"))
 unfolding parsed lex is_reserved layers expression free_path
-dropped = refl
+drops = refl
 
-deletes_by : is_served (asks (codes "DELETE FROM t BY x") []) ≡ true
+abbrev table_by : List ℕ → List ℕ → FromClause
+table_by name id_name = record {
+  sources = record { from = source.Table name; variable = name; id_name = Some id_name; on = None } ∷ [];
+  filter = None;
+}
+
+deletes_by :
+    statement_of (asks (codes "DELETE FROM t BY x") []) ≡ Ok (statement.Delete (table_by (codes "t") (codes "x")))
 unfolding parsed lex is_reserved layers expression free_path
 deletes_by = refl
-
--- its transaction is told of the fault
-faulty : is_served (asks (codes "SELECT * FORM t") []) ≡ true
-unfolding parsed lex is_reserved layers expression free_path
-faulty = refl
 
 -- ---- tables
 
@@ -127,10 +123,16 @@ none_read = refl
 
 -- four changes in front of these
 abbrev four_more : List Schema → List Schema
-four_more cs = Create (codes "t") (table 1) ∷ Create (codes "u") (table 2) ∷ Create (codes "v") (table 3) ∷ Create (codes "w") (table 4) ∷ cs
+four_more cs =
+    Create (codes "t") (table 1) ∷ Create (codes "u") (table 2) ∷ Create (codes "v") (table 3)
+    ∷ Create (codes "w") (table 4) ∷ cs
 
 -- a transaction creates 20 tables
-nineteen : no_table_more [] (four_more (four_more (four_more (four_more (Create (codes "a") (table 1) ∷ Create (codes "b") (table 2) ∷ Create (codes "c") (table 3) ∷ []))))) ≡ None
+nineteen :
+    no_table_more [] (four_more (four_more
+    (four_more (four_more (Create (codes "a") (table 1) ∷ Create (codes "b") (table 2) ∷ Create (codes "c") (table 3)
+    ∷ [])))))
+    ≡ None
 nineteen = refl
 
 twenty : no_table_more [] (four_more (four_more (four_more (four_more (four_more []))))) ≡ Some (TooManyTables 20)

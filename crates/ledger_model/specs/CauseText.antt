@@ -1,4 +1,5 @@
--- The text of a refusal, by the ledger's own rule: its code and its fields in order, names as strings and kinds as symbols.
+-- The text of a refusal, by the ledger's own rule: its code and its fields in order, names as strings and kinds as
+-- symbols.
 use Rattle.std.specs.Prelude.{ℕ, List, ◌++◌, codes}
 use Rattle.std.specs.Fmt.{decimal}
 use Rattle.ion_values.specs.declared.value.Kind.{Kind}
@@ -48,7 +49,8 @@ cause_text (refusal.ParseFault at k) = codes "code:1,at:" ++ decimal at ++ codes
 cause_text (refusal.NoSuchTable name) = codes "code:2,name:" ++ string_text name
 cause_text (refusal.TableExists name) = codes "code:3,name:" ++ string_text name
 cause_text (refusal.ReservedName name) = codes "code:4,name:" ++ string_text name
-cause_text (refusal.IndexExists name field) = codes "code:5,name:" ++ string_text name ++ codes ",field:" ++ string_text field
+cause_text (refusal.IndexExists name field) =
+    codes "code:5,name:" ++ string_text name ++ codes ",field:" ++ string_text field
 cause_text (refusal.TooManyTables count) = codes "code:6,count:" ++ decimal count
 cause_text (refusal.TooManyIndexes count) = codes "code:7,count:" ++ decimal count
 cause_text (refusal.TooManyRevisions count) = codes "code:8,count:" ++ decimal count

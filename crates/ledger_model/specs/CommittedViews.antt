@@ -1,6 +1,7 @@
--- The rows of a table's committed view, which shows the latest revision of each document that isn't deleted, and of its history,
--- which shows all revisions that were active between two moments (the views of Amazon QLDB's Developer Guide; how bounds and deletes
--- count is the ledger's own). Both show committed revisions only, each as the journal has it, with the id of its document.
+-- The rows of a table's committed view, which shows the latest revision of each document that isn't deleted, and of its
+-- history, which shows all revisions that were active between two moments (the views of Amazon QLDB's Developer Guide;
+-- how bounds and deletes count is the ledger's own). Both show committed revisions only, each as the journal has it,
+-- with the id of its document.
 use Rattle.std.specs.Prelude.{ℕ, ℤ, ◌==◌, ◌&&◌, ◌||◌, Bool, true, false, int_le, int_lt, List, [], ◌∷◌, map, Option, Some, None, option_map, option_and_then, if◌then◌else◌}
 use Rattle.std.specs.List.{filter_map}
 use Rattle.std.specs.Option.{option_map_or}

@@ -1,5 +1,5 @@
--- The checks of a block behind the blocks of a journal before it, and the first one that it fails. A journal is undamaged
--- where each of its blocks is whole and fails none.
+-- The checks of a block behind the blocks of a journal before it, and the first one that it fails. A journal is
+-- undamaged where each of its blocks is whole and fails none.
 use Rattle.std.specs.Prelude.{◌≡◌, ℕ, ◌-◌, ◌^◌, ◌==◌, ◌&&◌, not, Bool, true, false, nat_le, nat_lt, int_le, List, [], ◌∷◌, ◌++◌, length, Option, Some, None, if◌then◌else◌}
 use Rattle.std.specs.List.{list_all, list_any}
 use Rattle.std.specs.Option.{option_map_or}
@@ -33,7 +33,8 @@ last_block (b ∷ c ∷ bs) = last_block (c ∷ bs)
 -- the address is the line's place in the strand, of at most 2^32 - 1 places
 abbrev pub has_address : ℕ → List Block → Block → Bool
 has_address strand before b =
-    (b.header.address.sequence == length before) && nat_le (length before) (2 ^ 32 - 2) && (b.header.address.strand.raw == strand)
+    (b.header.address.sequence == length before) && nat_le (length before) (2 ^ 32 - 2)
+    && (b.header.address.strand.raw == strand)
 
 -- the id is that of a transaction of the strand, from 1 on, and no earlier block has it
 abbrev pub has_id : ℕ → List Block → Block → Bool
@@ -44,7 +45,8 @@ has_id strand before b =
 
 -- the block isn't older than the one before
 abbrev pub has_time : List Block → Block → Bool
-has_time before b = option_map_or (λ last. int_le (instant_of last.header.time) (instant_of b.header.time)) (last_block before) true
+has_time before b =
+    option_map_or (λ last. int_le (instant_of last.header.time) (instant_of b.header.time)) (last_block before) true
 
 abbrev pub same_hash : Hash32 → Hash32 → Bool
 same_hash a b = bytes_eq a.bytes b.bytes
@@ -65,7 +67,8 @@ has_revision_hash r = same_hash r.hash (revision_hash r.content r.metadata)
 abbrev pub has_hashes : Block → Bool
 has_hashes b =
     let computed = sealed b.previous b.header b.info b.revisions in
-    list_all has_revision_hash b.revisions && pointwise same_entry b.list computed.list && same_hash b.entries computed.entries
+    list_all has_revision_hash b.revisions && pointwise same_entry b.list computed.list
+    && same_hash b.entries computed.entries
     && same_hash b.hash computed.hash
 
 -- the first check that a whole block fails behind these blocks

@@ -30,8 +30,8 @@ has_index indexes id field = list_any (λ i. (i.table.raw == id.raw) && bytes_eq
 abbrev pub is_named : List Table → List ℕ → TableId → Bool
 is_named tables name id = option_map_or (λ t. t.raw == id.raw) (active_table tables name) false
 
--- a new table has a name that isn't active, an index is on an active table's field without one, and a table is dropped by
--- its name and id; nothing is redacted so far
+-- a new table has a name that isn't active, an index is on an active table's field without one, and a table is dropped
+-- by its name and id; nothing is redacted so far
 abbrev pub change_follows : List Table → List Indexed → Schema → Bool
 change_follows tables indexes (Create name id) = is_none (active_table tables name)
 change_follows tables indexes (Index field id) = is_active tables id && not (has_index indexes id field)
@@ -40,7 +40,8 @@ change_follows tables indexes (Redact address id document) = false
 
 abbrev pub schema_follows : List Table → List Indexed → List Schema → Bool
 schema_follows tables indexes [] = true
-schema_follows tables indexes (c ∷ cs) = change_follows tables indexes c && schema_follows (changed tables c) (indexed indexes c) cs
+schema_follows tables indexes (c ∷ cs) =
+    change_follows tables indexes c && schema_follows (changed tables c) (indexed indexes c) cs
 
 -- ---- new ids
 
@@ -102,7 +103,8 @@ is_kept (Redacted hash) = true
 abbrev pub continues : Recorded → Option Recorded → Bool
 continues r None = (r.revision.metadata.version == 0) && is_kept r.revision.content
 continues r (Some last) =
-    (r.table.raw == last.table.raw) && (r.revision.metadata.version == last.revision.metadata.version + 1) && is_kept last.revision.content
+    (r.table.raw == last.table.raw) && (r.revision.metadata.version == last.revision.metadata.version + 1)
+    && is_kept last.revision.content
 
 abbrev pub revision_follows : State → Block → Recorded → Bool
 revision_follows s b r =

@@ -1,5 +1,5 @@
--- What a statement reads (the ledger's own rule): names of tables, and of each table that it selects from a document, a key of an
--- index, or the whole table. Later blocks that touch any of it are in conflict with the transaction.
+-- What a statement reads (the ledger's own rule): names of tables, and of each table that it selects from a document, a
+-- key of an index, or the whole table. Later blocks that touch any of it are in conflict with the transaction.
 use Rattle.std.specs.Prelude.{ℕ, ◌+◌, ◌==◌, ◌&&◌, Bool, true, false, List, [], ◌∷◌, ◌++◌, codes, map, slice_get, Option, Some, None, option_map, option_and_then, if◌then◌else◌}
 use Rattle.std.specs.List.{filter_map, flat_map}
 use Rattle.std.specs.Option.{option_map_or}
@@ -91,7 +91,8 @@ one_level params (Expr-F.Binary o left right) = operated o left right
 one_level params _ = alone other
 
 abbrev pub condition_of : List Value → Expr → Condition
-condition_of params = fold-Expr Condition (Option (List ℕ)) (Unit {0}) Side (one_level params) step_name no_side path_side
+condition_of params =
+    fold-Expr Condition (Option (List ℕ)) (Unit {0}) Side (one_level params) step_name no_side path_side
 
 abbrev pub equations_in : List Value → Option Expr → List Equation
 equations_in params None = []
@@ -99,7 +100,8 @@ equations_in params (Some e) = (condition_of params e).equations
 
 -- of the ON conditions from the left, and then of the WHERE
 abbrev pub equations_of : List Value → FromClause → List Equation
-equations_of params from = flat_map (λ (s : Source). equations_in params s.on) from.sources ++ equations_in params from.filter
+equations_of params from =
+    flat_map (λ (s : Source). equations_in params s.on) from.sources ++ equations_in params from.filter
 
 -- ---- what an equation asks for
 
@@ -183,7 +185,8 @@ asked_document n kind a = if is_id n kind a.of then document_in a.value else Non
 
 abbrev pub with_index : Schemas → TableId → List ℕ → Option Key → Option Item
 with_index now table field None = None
-with_index now table field (Some key) = if has_index now.indexes table field then Some (item.IndexValue table field key) else None
+with_index now table field (Some key) =
+    if has_index now.indexes table field then Some (item.IndexValue table field key) else None
 
 abbrev pub key_of_field : Schemas → TableId → Value → Option (List ℕ) → Option Item
 key_of_field now table v None = None
@@ -207,7 +210,8 @@ or_key now table n kind asked None = or_table table (first_of (filter_map (asked
 
 -- the first document that is asked for; else the first key of an index; else the table
 abbrev pub read_of_table : Schemas → TableId → ℕ → SourceKind → List Asked → Item
-read_of_table now table n kind asked = or_key now table n kind asked (first_of (filter_map (asked_document n kind) asked))
+read_of_table now table n kind asked =
+    or_key now table n kind asked (first_of (filter_map (asked_document n kind) asked))
 
 -- of a source that names an active table
 abbrev pub read_of_source : Schemas → ℕ → SourceKind → List Asked → Option (List ℕ) → List Item

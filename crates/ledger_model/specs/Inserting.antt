@@ -1,5 +1,6 @@
--- What INSERT INTO a table does to a transaction (Amazon QLDB's PartiQL; refusals and their order are the ledger's own).
-use Rattle.std.specs.Prelude.{ℕ, List, [], ◌∷◌, codes, Option, Result, Ok, Err}
+-- What INSERT INTO a table does to a transaction (Amazon QLDB's PartiQL; refusals and their order are the ledger's
+-- own).
+use Rattle.std.specs.Prelude.{ℕ, List, [], ◌∷◌, codes, Result, Ok, Err}
 use Rattle.ion_values.specs.declared.value.Value.{Value}
 use Rattle.ion_values.specs.declared.value.Body.{Body, out-Body}
 use Rattle.ion_values.specs.declared.value.Body.TheOpen.{Body-F}
@@ -49,4 +50,5 @@ if_documents (Ok vs) f = f vs
 -- an insert's expression has no sources
 abbrev pub inserted : Begun → State → Progress → List Value → List ℕ → Expr → Result Effect Refusal
 inserted b s p params name e =
-    unless (reserved name) (on_table name (table_now s p name) (λ table. if_documents (documents_in (meaning e (under [] params))) (stored b table p)))
+    unless (reserved name) (on_table name (table_now s p name)
+    (λ table. if_documents (documents_in (meaning e (under [] params))) (stored b table p)))

@@ -34,7 +34,8 @@ doc_text table id = codes "kind:doc,table:" ++ quoted_id table.raw ++ codes ",id
 
 abbrev pub index_value_text : TableId → List ℕ → Key → List ℕ
 index_value_text table field k =
-    codes "kind:index_value,table:" ++ quoted_id table.raw ++ codes ",field:" ++ string_text field ++ codes ",value:" ++ key_text k
+    codes "kind:index_value,table:" ++ quoted_id table.raw ++ codes ",field:" ++ string_text field ++ codes ",value:"
+    ++ key_text k
 
 -- the fields of an item
 abbrev pub item_text : Item → List ℕ

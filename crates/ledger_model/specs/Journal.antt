@@ -57,7 +57,8 @@ hash_bytes Empty = []
 hash_bytes (Full h) = h.bytes
 
 abbrev pub address_value : BlockAddress → Value
-address_value a = structure (field (codes "strandId") (id_value a.strand.raw) ∷ field (codes "sequenceNo") (number a.sequence) ∷ [])
+address_value a =
+    structure (field (codes "strandId") (id_value a.strand.raw) ∷ field (codes "sequenceNo") (number a.sequence) ∷ [])
 
 -- ---- revisions
 
@@ -80,7 +81,8 @@ revision_value r = structure (
 -- ---- what a transaction said and did
 
 abbrev pub place_value : Place → Value
-place_value p = structure (field (codes "session") (number p.session) ∷ field (codes "transaction") (number p.transaction) ∷ [])
+place_value p =
+    structure (field (codes "session") (number p.session) ∷ field (codes "transaction") (number p.transaction) ∷ [])
 
 -- the statements that are told; none where their hash alone is
 abbrev pub said_in : Told → List Said
@@ -93,7 +95,8 @@ said_value s = structure (
     ∷ field (codes "answer") (list s.answer.rows) ∷ [])
 
 abbrev pub change_value : List ℕ → List ℕ → TableId → Value
-change_value change name table = structure (field change (string name) ∷ field (codes "tableId") (id_value table.raw) ∷ [])
+change_value change name table =
+    structure (field change (string name) ∷ field (codes "tableId") (id_value table.raw) ∷ [])
 
 -- the revision of a document that is redacted, by the address of its block
 abbrev pub redact_value : BlockAddress → TableId → DocId → Value
@@ -108,7 +111,8 @@ schema_value (Drop name table) = change_value (codes "drop") name table
 schema_value (Redact address table document) = redact_value address table document
 
 abbrev pub document_value : TableId → Revision → Value
-document_value t r = structure (field (codes "documentId") (id_value r.metadata.id.raw) ∷ field (codes "tableId") (id_value t.raw) ∷ [])
+document_value t r =
+    structure (field (codes "documentId") (id_value r.metadata.id.raw) ∷ field (codes "tableId") (id_value t.raw) ∷ [])
 
 -- each revision's document and table, in order
 abbrev pub document_values : List TableId → List Revision → List Value
@@ -147,7 +151,8 @@ hash_fields b =
 abbrev pub block_value : Block → Value
 block_value b = structure (
     front_fields b.header ++ hash_fields b
-    ++ field (codes "transactionInfo") (info_value b.info b.revisions) ∷ field (codes "revisions") (list (map revision_value b.revisions)) ∷ [])
+    ++ field (codes "transactionInfo") (info_value b.info b.revisions)
+    ∷ field (codes "revisions") (list (map revision_value b.revisions)) ∷ [])
 
 -- a block's line
 abbrev pub line : Block → List ℕ

@@ -1,5 +1,5 @@
--- When a list of blocks is a history: each block is what its transaction's statements mean on the blocks before it. That it is
--- sealed and chained to the block before is told by undamaged blocks.
+-- When a list of blocks is a history: each block is what its transaction's statements mean on the blocks before it.
+-- That it is sealed and chained to the block before is told by undamaged blocks.
 use Rattle.std.specs.Prelude.{◌≡◌, ℕ, List, [], ◌∷◌, map, take, drop}
 use Rattle.ql_types.specs.Ids.{raw_id}
 use Rattle.ql_types.specs.declared.Hash32.{Hash32}

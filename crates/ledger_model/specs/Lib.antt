@@ -16,7 +16,7 @@ pub mod Seals
 pub mod CommitDigest
 pub mod Legal
 pub mod Script
-pub mod Unbuilt
+pub mod Judging
 pub mod ReadScript
 pub mod Moment
 pub mod ItemText

@@ -53,7 +53,12 @@ header_of b before time drafts = record {
 }
 
 abbrev pub info_of : Place → Progress → List Draft → Info
-info_of place p drafts = record { place = place; said = told.Said p.said; schema = p.schema; tables = map (λ d. d.table) drafts }
+info_of place p drafts = record {
+  place = place;
+  said = told.Said p.said;
+  schema = p.schema;
+  tables = map (λ d. d.table) drafts;
+}
 
 -- the sealed block of what a transaction did
 abbrev pub block_of : Begun → List Block → Place → TimeParts → Progress → Block
@@ -63,7 +68,8 @@ block_of b before place time p =
     sealed (last_hash b.mask before) header (info_of place p drafts) (map (revision_of header) drafts)
 
 -- the block is that of these statements behind these blocks
-pub record IsMadeOf (b : Begun) (before : List Block) (place : Place) (time : TimeParts) (asked : List Request) (made : Block) : Type 0 where
+pub record IsMadeOf (b : Begun) (before : List Block) (place : Place) (time : TimeParts) (asked : List Request)
+    (made : Block) : Type 0 where
   pub progress : Progress
   pub runs : run b (state before) asked ≡ ran progress
   pub block_is : made ≡ block_of b before place time progress

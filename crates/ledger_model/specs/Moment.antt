@@ -44,7 +44,8 @@ time_at year month day nanos = record {
 abbrev pub time_on : ℤ → ℕ → TimeParts
 time_on day = time_at (year_of day) (month_of day) (day_of day)
 
--- of a moment, in billionths of a second since 1970: the number of its day, and how far it is behind the beginning of that day
+-- of a moment, in billionths of a second since 1970: the number of its day, and how far it is behind the beginning of
+-- that day
 abbrev pub day_number : ℤ → ℤ
 day_number moment = int_div_euclid moment (pos 86_400_000_000_000)
 
@@ -62,4 +63,5 @@ minutes_of moment = int_div_euclid moment (pos 60_000_000_000)
 -- outside the years 1 to 9999, where there are no timestamps, the annotated number
 abbrev pub moment_text : ℤ → List ℕ
 moment_text moment =
-    if is_in_years (minutes_of moment) then timestamp_text (utc_time moment) else codes "moment::" ++ signed_decimal moment
+    if is_in_years (minutes_of moment) then timestamp_text (utc_time moment)
+    else codes "moment::" ++ signed_decimal moment

@@ -1,4 +1,5 @@
--- What a transaction's statements have done so far, what one of them does, and the limits that they keep (the ledger's own).
+-- What a transaction's statements have done so far, what one of them does, and the limits that they keep (the ledger's
+-- own).
 use Rattle.std.specs.Prelude.{ℕ, ◌+◌, ◌-◌, ◌^◌, min, not, Bool, nat_le, nat_lt, List, [], ◌∷◌, ◌++◌, length, Option, Some, None, Result, Ok, Err, if◌then◌else◌}
 use Rattle.ion_values.specs.declared.value.Value.{Value}
 use Rattle.ion_values.specs.declared.value.Body.{out-Body}

@@ -1,5 +1,5 @@
--- Scripts read from values, by the ledger's own rule: the script, or its first fault. Sessions come in order, and in a session its
--- transactions. Of one transaction the fault is the first that it shows of the kinds, tried in their order.
+-- Scripts read from values, by the ledger's own rule: the script, or its first fault. Sessions come in order, and in a
+-- session its transactions. Of one transaction the fault is the first that it shows of the kinds, tried in their order.
 use Rattle.std.specs.Prelude.{ℕ, ◌+◌, ◌==◌, ◌&&◌, ◌||◌, not, Bool, true, false, nat_le, List, [], ◌∷◌, length, take, codes, ℤ, pos, int_le, unsigned_abs, Option, Some, None, Result, Ok, Err, if◌then◌else◌}
 use Rattle.std.specs.List.{list_any}
 use Rattle.std.specs.Option.{ok_or}
@@ -43,7 +43,9 @@ blob_in v = blob_at (bare v)
 -- ---- the fields of a transaction
 
 abbrev pub is_known : List ℕ → Bool
-is_known name = bytes_eq name (codes "statements") || bytes_eq name (codes "retries") || bytes_eq name (codes "digest") || bytes_eq name (codes "end")
+is_known name =
+    bytes_eq name (codes "statements") || bytes_eq name (codes "retries") || bytes_eq name (codes "digest")
+    || bytes_eq name (codes "end")
 
 abbrev pub is_unknown : Field → Bool
 is_unknown f = not (is_known f.name)
@@ -100,7 +102,8 @@ if_read (Err e) f = Err e
 
 abbrev pub statements_said : List Field → Result (List Request) ScriptKind
 statements_said fields =
-    if_read (ok_or (named (codes "statements") fields) kind.MissingField) (λ v. ok_or (statements_in v) kind.NotAStatement)
+    if_read (ok_or (named (codes "statements") fields) kind.MissingField)
+    (λ v. ok_or (statements_in v) kind.NotAStatement)
 
 abbrev pub retries_said : List Field → Result ℕ ScriptKind
 retries_said fields = ok_or (said_or 4 retries_in (named (codes "retries") fields)) kind.BadRetries
@@ -141,14 +144,16 @@ placed_at session transaction (Err k) = Err (fault_at session transaction k)
 -- the first one has this number; all that they are read as, or the first fault
 abbrev pub read_each : {A B E : Type 0} → (ℕ → A → Result B E) → ℕ → List A → Result (List B) E
 read_each read number [] = Ok []
-read_each read number (v ∷ vs) = if_read (read number v) (λ x. if_read (read_each read (number + 1) vs) (λ xs. Ok (x ∷ xs)))
+read_each read number (v ∷ vs) =
+    if_read (read number v) (λ x. if_read (read_each read (number + 1) vs) (λ xs. Ok (x ∷ xs)))
 
 abbrev pub read_placed : ℕ → ℕ → Value → Result Job ScriptFault
 read_placed session transaction v = placed_at session transaction (read_job v)
 
 abbrev pub read_session : ℕ → Value → Result (List Job) ScriptFault
 read_session session v =
-    if_read (placed_at session 0 (ok_or (list_in v) kind.NotASession)) (λ members. read_each (read_placed session) 1 members)
+    if_read (placed_at session 0 (ok_or (list_in v) kind.NotASession))
+    (λ members. read_each (read_placed session) 1 members)
 
 -- at most 1,024 sessions are read; that there are more is found behind their faults
 abbrev pub read_script : List Value → Result (List (List Job)) ScriptFault

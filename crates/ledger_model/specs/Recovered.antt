@@ -1,5 +1,5 @@
--- What the bytes of a journal hold: the blocks of all whole lines and the rest behind the last line feed, or the first line
--- that is damaged. A whole line ends in a line feed (Ion 1.0 text: a value can be written on one line).
+-- What the bytes of a journal hold: the blocks of all whole lines and the rest behind the last line feed, or the first
+-- line that is damaged. A whole line ends in a line feed (Ion 1.0 text: a value can be written on one line).
 use Rattle.std.specs.Prelude.{◌≡◌, ◌==◌, ℕ, Bool, true, not, List, [], ◌∷◌, ◌++◌, length, Some}
 use Rattle.std.specs.List.{list_all}
 use Rattle.ledger_model.specs.declared.block.Block.{Block}

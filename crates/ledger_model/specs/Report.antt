@@ -26,7 +26,8 @@ answers_text (Some b) = joined (map answer_text (said_in b.info.said))
 
 abbrev pub committed_text : List Block → TxId → ℕ → List ℕ
 committed_text blocks tx block =
-    codes "committed,tx:" ++ quoted_id tx.raw ++ codes ",block:" ++ decimal block ++ codes ",answers:[" ++ answers_text (slice_get blocks block) ++ codes "]"
+    codes "committed,tx:" ++ quoted_id tx.raw ++ codes ",block:" ++ decimal block ++ codes ",answers:["
+    ++ answers_text (slice_get blocks block) ++ codes "]"
 
 -- the blocks on which the transaction ran
 abbrev pub since_text : TxId → ℕ → List ℕ
@@ -34,15 +35,18 @@ since_text tx since = codes ",tx:" ++ quoted_id tx.raw ++ codes ",since:" ++ dec
 
 abbrev pub conflict_text : TxId → ℕ → Named → List ℕ
 conflict_text tx since named =
-    codes "conflict" ++ since_text tx since ++ codes ",block:" ++ decimal named.block ++ codes ",item:{" ++ item_text named.item ++ codes "}"
+    codes "conflict" ++ since_text tx since ++ codes ",block:" ++ decimal named.block ++ codes ",item:{"
+    ++ item_text named.item ++ codes "}"
 
 abbrev pub refused_text : TxId → ℕ → ℕ → Refusal → List ℕ
 refused_text tx since statement cause =
-    codes "refused" ++ since_text tx since ++ codes ",statement:" ++ decimal statement ++ codes ",cause:{" ++ cause_text cause ++ codes "}"
+    codes "refused" ++ since_text tx since ++ codes ",statement:" ++ decimal statement ++ codes ",cause:{"
+    ++ cause_text cause ++ codes "}"
 
 abbrev pub digest_differs_text : TxId → ℕ → Hash32 → Hash32 → List ℕ
 digest_differs_text tx since mine given =
-    codes "digest_differs" ++ since_text tx since ++ codes ",mine:" ++ blob_text mine.bytes ++ codes ",given:" ++ blob_text given.bytes
+    codes "digest_differs" ++ since_text tx since ++ codes ",mine:" ++ blob_text mine.bytes ++ codes ",given:"
+    ++ blob_text given.bytes
 
 abbrev pub store_fault_text : ℕ → ℕ → List ℕ
 store_fault_text tx count = codes "store_fault,tx:" ++ quoted_id tx ++ codes ",count:" ++ decimal count
@@ -70,7 +74,8 @@ outcome_text blocks outcome.OutOfMemory = codes "out_of_memory"
 
 abbrev pub outcome_line : List Block → PlacedOutcome → List ℕ
 outcome_line blocks o =
-    codes "{session:" ++ decimal o.place.session ++ codes ",transaction:" ++ decimal o.place.transaction ++ codes ",outcome:" ++ outcome_text blocks o.outcome ++ codes "}" ++ 10 ∷ []
+    codes "{session:" ++ decimal o.place.session ++ codes ",transaction:" ++ decimal o.place.transaction
+    ++ codes ",outcome:" ++ outcome_text blocks o.outcome ++ codes "}" ++ 10 ∷ []
 
 -- the whole report
 abbrev pub report : List Block → List PlacedOutcome → List ℕ

@@ -1,5 +1,5 @@
 -- What a transaction's statements mean, one after another, on a state and the changes that pend so far.
-use Rattle.std.specs.Prelude.{ℕ, ◌+◌, ◌==◌, ◌&&◌, not, Bool, List, [], ◌∷◌, ◌++◌, Option, Some, None, option_map, Result, Ok, Err}
+use Rattle.std.specs.Prelude.{ℕ, ◌+◌, ◌==◌, ◌&&◌, not, Bool, List, [], ◌∷◌, ◌++◌, Option, Some, None, Result, Ok, Err}
 use Rattle.std.specs.List.{filter}
 use Rattle.ion_values.specs.declared.value.Value.{Value}
 use Rattle.pql_model.specs.declared.statement.Statement.{Statement}
@@ -12,7 +12,7 @@ use Rattle.ledger_model.specs.declared.outcome.Refusal.TheVariants.{TooDeep}
 use Rattle.ledger_model.specs.Follows.{is_kept}
 use Rattle.ledger_model.specs.Footprints.{Schemas, footprint_of}
 use Rattle.ledger_model.specs.State.{State, all_indexed}
-use Rattle.ledger_model.specs.Statements.{served_of}
+use Rattle.ledger_model.specs.Statements.{statement_of}
 use Rattle.ledger_model.specs.Views.{latest}
 use Rattle.ledger_model.specs.Writing.{changed, deleted}
 pub use Rattle.ledger_model.specs.Inserting.{documents_in, if_documents, inserted, members_or, new_document, stored}
@@ -59,26 +59,24 @@ if_shallow (Some depth) effect = Err (TooDeep depth)
 abbrev pub recorded : Progress → Request → Result Effect Refusal → Result Progress Refusal
 recorded p r (Err cause) = Err cause
 recorded p r (Ok e) =
-    Ok (record (changed_by p e) { said = p.said ++ record { text = r.text; params = r.params; answer = record { rows = e.rows } } ∷ [] })
+    Ok (record (changed_by p e) {
+      said = p.said
+          ++ record { text = r.text; params = r.params; answer = record { rows = e.rows } } ∷ [];
+    })
 
--- what a statement that is served does, or why it is refused
-abbrev pub done_by : Begun → State → Progress → Request → Result Statement Refusal → Result Progress Refusal
-done_by b s p r served = recorded p r (if_read (λ st. if_shallow (first_deep r.params) (effect_of b s p r.params st)) served)
+-- one statement: what it does, or why it is refused
+abbrev pub step : Begun → State → Progress → Request → Result Progress Refusal
+step b s p r =
+    recorded p r (if_read (λ st. if_shallow (first_deep r.params) (effect_of b s p r.params st)) (statement_of r))
 
--- one statement, where it is served
-abbrev pub step : Begun → State → Progress → Request → Option (Result Progress Refusal)
-step b s p r = option_map (done_by b s p r) (served_of r)
-
--- how a transaction's statements end: all were done, or this one was refused, counted from 1, or one came that isn't served so far
+-- how a transaction's statements end: all were done, or this one was refused, counted from 1
 pub data Ran : Type 0 where
   ran : Progress → Ran
   refused : (statement : ℕ) (cause : Refusal) → Ran
-  unserved : Ran
 
-abbrev pub then_run : ℕ → Option (Result Progress Refusal) → (Progress → Ran) → Ran
-then_run j None rest = unserved
-then_run j (Some (Err cause)) rest = refused j cause
-then_run j (Some (Ok p)) rest = rest p
+abbrev pub then_run : ℕ → Result Progress Refusal → (Progress → Ran) → Ran
+then_run j (Err cause) rest = refused j cause
+then_run j (Ok p) rest = rest p
 
 abbrev pub run_from : Begun → State → ℕ → Progress → List Request → Ran
 run_from b s j p [] = ran p
@@ -87,19 +85,6 @@ run_from b s j p (r ∷ rs) = then_run j (step b s p r) (λ q. run_from b s (j +
 -- the whole transaction
 abbrev pub run : Begun → State → List Request → Ran
 run b s asked = run_from b s 1 start asked
-
--- the same but for what was read, which a running transaction keeps once conflicts are found
-abbrev pub unread : Progress → Progress
-unread p = record p { footprint = [] }
-
-abbrev pub unread_result : Result Progress Refusal → Result Progress Refusal
-unread_result (Ok p) = Ok (unread p)
-unread_result (Err cause) = Err cause
-
-abbrev pub unread_ran : Ran → Ran
-unread_ran (ran p) = ran (unread p)
-unread_ran (refused statement cause) = refused statement cause
-unread_ran unserved = unserved
 
 -- a revision is left of each document that was touched but of a new one that was deleted again
 abbrev pub is_left : Draft → Bool

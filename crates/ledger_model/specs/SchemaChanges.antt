@@ -1,5 +1,5 @@
--- What CREATE TABLE, CREATE INDEX and DROP TABLE do to a transaction (Amazon QLDB's PartiQL; refusals and their order are the
--- ledger's own). Each is answered by the table's id.
+-- What CREATE TABLE, CREATE INDEX and DROP TABLE do to a transaction (Amazon QLDB's PartiQL; refusals and their order
+-- are the ledger's own). Each is answered by the table's id.
 use Rattle.std.specs.Prelude.{ℕ, ◌+◌, ◌==◌, nat_le, List, [], ◌∷◌, length, codes, Option, Some, None, Result, Ok, if◌then◌else◌}
 use Rattle.std.specs.List.{filter}
 use Rattle.ql_types.specs.declared.TableId.{TableId}
@@ -37,11 +37,18 @@ existing name None = None
 existing name (Some there) = Some (TableExists name)
 
 abbrev pub new_table : ℕ → List ℕ → Effect
-new_table id name = record { rows = named_id (codes "tableId") id ∷ []; schema = Create name (record { raw = id }) ∷ []; log = []; made = 1; footprint = [] }
+new_table id name = record {
+  rows = named_id (codes "tableId") id ∷ [];
+  schema = Create name (record { raw = id }) ∷ [];
+  log = [];
+  made = 1;
+  footprint = [];
+}
 
 abbrev pub created : Begun → State → Progress → List ℕ → Result Effect Refusal
 created b s p name =
-    unless (reserved name) (unless (existing name (table_now s p name)) (unless (no_table_more (tables_now s p) p.schema) (Ok (new_table (next_id b p) name))))
+    unless (reserved name) (unless (existing name (table_now s p name))
+    (unless (no_table_more (tables_now s p) p.schema) (Ok (new_table (next_id b p) name))))
 
 -- ---- of a table that is there
 

@@ -29,7 +29,8 @@ text_alone text = record { text = text; params = [] }
 abbrev pub in_fields : Field → Field → Option Request
 in_fields f g =
     if bytes_eq f.name (codes "text") && bytes_eq g.name (codes "params")
-    then and_then (string_in f.value) (λ text. option_map (λ params. record { text = text; params = params }) (list_in g.value))
+    then and_then (string_in f.value)
+    (λ text. option_map (λ params. record { text = text; params = params }) (list_in g.value))
     else None
 
 -- the two fields in either order
@@ -51,7 +52,8 @@ pub record Placed : Type 0 where
 abbrev pub placed_from : ℕ → ℕ → List Job → List Placed
 placed_from session transaction [] = []
 placed_from session transaction (job ∷ jobs) =
-    record { place = record { session = session; transaction = transaction }; job = job } ∷ placed_from session (transaction + 1) jobs
+    record { place = record { session = session; transaction = transaction }; job = job }
+    ∷ placed_from session (transaction + 1) jobs
 
 -- the jobs of the sessions, of which the first one has this number
 abbrev pub all_placed_from : ℕ → List (List Job) → List Placed

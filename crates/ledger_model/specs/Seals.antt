@@ -1,4 +1,5 @@
--- The hashes of revisions and blocks. A hash of two hashes is that of the pair (FIPS 180-4 for SHA-256, Ion Hash for values).
+-- The hashes of revisions and blocks. A hash of two hashes is that of the pair (FIPS 180-4 for SHA-256, Ion Hash for
+-- values).
 use Rattle.std.specs.Prelude.{◌≡◌, ℕ, List, [], ◌∷◌, map}
 use Rattle.hash_forms.specs.Serialize.{hash_of}
 use Rattle.hash_forms.specs.PairHash.{dot32}

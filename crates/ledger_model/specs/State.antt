@@ -59,7 +59,12 @@ recorded_in _ _ = []
 
 -- the revision without what its block gave it
 abbrev pub draft_of : Recorded → Draft
-draft_of r = record { table = r.table; id = r.revision.metadata.id; version = r.revision.metadata.version; content = r.revision.content }
+draft_of r = record {
+  table = r.table;
+  id = r.revision.metadata.id;
+  version = r.revision.metadata.version;
+  content = r.revision.content;
+}
 
 -- the state after one block more
 abbrev pub after : State → Block → State

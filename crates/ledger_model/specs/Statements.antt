@@ -1,6 +1,6 @@
--- The statement that a request asks for: its text by the grammar, with as many parameters as it has question marks (PartiQL); and
--- that every statement is served.
-use Rattle.std.specs.Prelude.{ℕ, ◌==◌, ◌-◌, ◌^◌, min, not, Bool, true, false, List, length, codes, Option, Some, None, Result, Ok, Err, if◌then◌else◌}
+-- The statement that a request asks for: its text by the grammar, with as many parameters as it has question marks
+-- (PartiQL).
+use Rattle.std.specs.Prelude.{ℕ, ◌==◌, ◌-◌, ◌^◌, min, Bool, List, length, codes, Option, Some, None, Result, Ok, Err, if◌then◌else◌}
 use Rattle.ion_values.specs.declared.value.Value.{Value}
 use Rattle.ion_grammar.specs.Blanks.{begins}
 use Rattle.pql_model.specs.declared.statement.SourceKind.{SourceKind}
@@ -9,7 +9,7 @@ use Rattle.pql_model.specs.declared.statement.Statement.{Statement}
 use Rattle.pql_model.specs.Parameters.{in_statement}
 use Rattle.pql_model.specs.Parse.{parsed}
 use Rattle.pql_model.specs.Productions.{Fault}
-use Rattle.pql_model.specs.Tables.{is_committed, table_named}
+use Rattle.pql_model.specs.Tables.{table_named}
 use Rattle.ledger_model.specs.declared.script.Request.{Request}
 use Rattle.ledger_model.specs.declared.outcome.Refusal.{Refusal}
 use Rattle.ledger_model.specs.declared.outcome.Refusal.TheVariants.{ParseFault, ParameterCount}
@@ -42,26 +42,3 @@ with_parameters (Err fault) params = Err (ParseFault fault.at fault.kind)
 
 abbrev pub statement_of : Request → Result Statement Refusal
 statement_of r = with_parameters (parsed r.text) r.params
-
--- ---- what is served
-
--- the user view of a table, or a path
-abbrev pub is_plain : SourceKind → Bool
-is_plain (source.Table name) = not (is_committed name)
-is_plain (source.History table _ _) = false
-is_plain (source.Path path) = true
-
--- every statement
-abbrev pub is_built : Statement → Bool
-is_built s = true
-
-abbrev pub if_built : Statement → Option (Result Statement Refusal)
-if_built s = if is_built s then Some (Ok s) else None
-
--- the statement, or why it is refused; None where it isn't served so far
-abbrev pub if_wanted : Result Statement Refusal → Option (Result Statement Refusal)
-if_wanted (Ok s) = if_built s
-if_wanted (Err cause) = Some (Err cause)
-
-abbrev pub served_of : Request → Option (Result Statement Refusal)
-served_of r = if_wanted (statement_of r)

@@ -1,4 +1,5 @@
--- The rows of a table's user view: the latest content of its documents that aren't deleted, in order of first insertion.
+-- The rows of a table's user view: the latest content of its documents that aren't deleted, in order of first
+-- insertion.
 use Rattle.std.specs.Prelude.{◌==◌, List, [], ◌∷◌, ◌++◌, Option, Some, None, if◌then◌else◌}
 use Rattle.std.specs.List.{filter_map}
 use Rattle.ql_types.specs.declared.DocId.{DocId}

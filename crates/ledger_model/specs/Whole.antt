@@ -1,5 +1,5 @@
--- When a block is whole, so that it has a line in a journal: its lists agree, no document and not the block nests too deep,
--- and each number, id and hash is within its type.
+-- When a block is whole, so that it has a line in a journal: its lists agree, no document and not the block nests too
+-- deep, and each number, id and hash is within its type.
 use Rattle.std.specs.Prelude.{◌≡◌, ℕ, ◌≤◌, ◌^◌, ◌==◌, ◌&&◌, not, Bool, true, false, nat_lt, nat_le, length, IsTrue}
 use Rattle.std.specs.List.{list_all}
 use Rattle.ion_values.specs.Depth.{depth_of}
@@ -72,7 +72,9 @@ abbrev pub header_fits : Header → Bool
 header_fits h = address_fits h.address && id_fits h.tx.raw && nat_lt h.revisions (2 ^ 32)
 
 abbrev pub hashes_fit : Block → Bool
-hashes_fit b = hash_fits b.hash && hash_fits b.entries && hash_fits b.previous && (length b.list == 3) && list_all entry_fits b.list
+hashes_fit b =
+    hash_fits b.hash && hash_fits b.entries && hash_fits b.previous && (length b.list == 3)
+    && list_all entry_fits b.list
 
 abbrev pub block_fits : Block → Bool
 block_fits b = header_fits b.header && hashes_fit b && info_fits b.info && list_all revision_fits b.revisions
@@ -109,7 +111,8 @@ is_plain_change c = schema_fits c && not (is_redact c)
 -- the statements are told, nothing is redacted, and no revision was
 abbrev pub is_unredacted : Block → Bool
 is_unredacted b =
-    is_said b.info.said && list_all (λ c. not (is_redact c)) b.info.schema && list_all (λ r. not (is_redacted r.content)) b.revisions
+    is_said b.info.said && list_all (λ c. not (is_redact c)) b.info.schema
+    && list_all (λ r. not (is_redacted r.content)) b.revisions
 
 pub record IsWhole (b : Block) : Type 0 where
   pub count : b.header.revisions ≡ length b.revisions

@@ -1,5 +1,6 @@
--- What UPDATE, FROM with a change, and DELETE do to a transaction (Amazon QLDB's PartiQL; which refusals there are, and their order, is
--- the ledger's own). The rows stand as they were before the statement; each document that they name is touched once.
+-- What UPDATE, FROM with a change, and DELETE do to a transaction (Amazon QLDB's PartiQL; which refusals there are, and
+-- their order, is the ledger's own). The rows stand as they were before the statement; each document that they name is
+-- touched once.
 use Rattle.std.specs.Prelude.{ℕ, ◌+◌, ◌==◌, ◌||◌, Bool, true, false, List, [], ◌∷◌, map, codes, Option, Some, None, is_some, Result, Ok, if◌then◌else◌}
 use Rattle.std.specs.List.{find, list_any}
 use Rattle.ion_values.specs.declared.value.Value.{Value}

@@ -36,7 +36,8 @@ select_shallow : (text : List ℕ) (select : Select) (from : FromClause)
 select_shallow text select from e = let whole =
     parsed_is_shallow text (statement.Select select from) e in omega (arith, whole)
 
--- what a SELECT of a text answers of rows of at most 65 deep, as views of documents have them, and parameters of at most 64
+-- what a SELECT of a text answers of rows of at most 65 deep, as views of documents have them, and parameters of at
+-- most 64
 pub answer_shallow : (views : Viewed) (params : List Value) (text : List ℕ) (select : Select) (from : FromClause)
     → ((name : List ℕ) (v : View) → AllByRecursion (λ r. Shallow 65 r.value) (views name v))
     → AllByRecursion (Shallow 64) params

@@ -1,8 +1,8 @@
 -- Rows on what pends and on ids, and a first block: what is asked of its making can be met, at each time.
-use Rattle.std.proofs.Common.{◌≡◌, ◌∙◌, ◌+◌, ℕ, true, false, List, [], ◌∷◌, map, length, Some, None, codes, refl, inl, sym, ap, arith}
+use Rattle.std.proofs.Common.{◌≡◌, ◌∙◌, ℕ, true, false, List, [], ◌∷◌, map, length, Some, None, codes, refl, inl, sym, ap, arith}
 use Rattle.std.specs.Prelude.{nat_lt}
 use Rattle.std.specs.List.{list_all}
-use Rattle.std.proofs.lemmas.Bool.{and_from, or_left, eq-eqb, ne_eqb}
+use Rattle.std.proofs.lemmas.Bool.{and_from, or_left, eq-eqb}
 use Rattle.ion_values.specs.Time.{is_time}
 use Rattle.ion_values.specs.Within.{within}
 use Rattle.ion_values.specs.declared.time.TimeParts.{TimeParts}
@@ -33,7 +33,7 @@ use Rattle.ledger_model.specs.Follows.{latest_of, is_kept, is_new, is_active, is
 use Rattle.ledger_model.specs.Damages.{Undamaged}
 use Rattle.made_blocks.specs.Before.{CanFollow, IsUnused}
 use Rattle.made_blocks.specs.Makes.{CanMake, IsWithinAll}
-use Rattle.made_blocks.specs.Pending.{goes_on, is_left, left_of, draft_for}
+use Rattle.made_blocks.specs.Pending.{goes_on, left_of, draft_for}
 use Rattle.made_blocks.proofs.Parts.{ascii_text, fine_field, fine_string, fine_structure, id_text_within}
 use Rattle.made_blocks.proofs.Shapes.{Shallow}
 use Rattle.made_blocks.proofs.Progress.{IsPending, Made, none_made}

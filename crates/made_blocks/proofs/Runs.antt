@@ -1,6 +1,5 @@
 -- A transaction's statements keep what holds of it so far: one more kind of statement is one more case.
 use Rattle.std.proofs.Common.{◌≡◌, ◌+◌, ℕ, Bool, true, false, List, [], ◌∷◌, Option, Some, None, Result, Ok, Err, refl, subst, if◌then◌else◌}
-use Rattle.std.specs.Prelude.{option_map}
 use Rattle.std.specs.List.{AllByRecursion}
 use Rattle.std.proofs.lemmas.Bool.{leb-true}
 use Rattle.ion_values.specs.Depth.{depth_of}
@@ -12,8 +11,8 @@ use Rattle.ledger_model.specs.declared.script.Request.{Request}
 use Rattle.ledger_model.specs.declared.outcome.Refusal.{Refusal}
 use Rattle.ledger_model.specs.State.{State}
 use Rattle.ledger_model.specs.Footprints.{footprint_of}
-use Rattle.ledger_model.specs.Statements.{served_of}
-use Rattle.ledger_model.specs.Run.{Begun, Progress, Effect, Ran, ran, refused, unserved, is_shallow, told_depth, first_deep, done_by_statement, schemas_now, effect_of, if_shallow, recorded, done_by, step, then_run, run_from, run, start}
+use Rattle.ledger_model.specs.Statements.{statement_of}
+use Rattle.ledger_model.specs.Run.{Begun, Progress, Effect, Ran, ran, refused, is_shallow, told_depth, first_deep, done_by_statement, schemas_now, effect_of, if_read, if_shallow, recorded, step, then_run, run_from, run, start}
 use Rattle.made_blocks.proofs.Lists.{all_push}
 use Rattle.made_blocks.proofs.Shapes.{Shallow}
 use Rattle.made_blocks.proofs.Statements.{Reads, request_reads}
@@ -63,14 +62,13 @@ module _ (b : Begun) (s : State) (ready : IsReady b s) where
   leaves_effect p params text st m given e =
       reading_leaves b s p (footprint_of (schemas_now s p) params st) _ (leaves_statement p params text st m given e)
 
-  abbrev Keeps : Option (Result Progress Refusal) → Type 0
-  Keeps (Some (Ok q)) = FineProgress b s q
-  Keeps (Some (Err cause)) = Unit {0}
-  Keeps None = Unit {0}
+  abbrev Keeps : Result Progress Refusal → Type 0
+  Keeps (Ok q) = FineProgress b s q
+  Keeps (Err cause) = Unit {0}
 
   recorded_keeps : (p : Progress) (r : Request) → FineProgress b s p → first_deep r.params ≡ None
       → (x : Result Effect Refusal) → Leaves b s p x
-      → Keeps (Some (recorded p r x))
+      → Keeps (recorded p r x)
   recorded_keeps p r so e (Err cause) h = tt
   recorded_keeps p r so e (Ok effect) h = record {
     said = all_push ShallowSaid p.said _ so.said (record { params = params_shallow r.params e; rows = h.rows });
@@ -79,35 +77,30 @@ module _ (b : Begun) (s : State) (ready : IsReady b s) where
 
   shallow_keeps : (p : Progress) (r : Request) → FineProgress b s p → (o : Option ℕ) → first_deep r.params ≡ o
       → (x : Result Effect Refusal)
-      → (AllByRecursion (Shallow 64) r.params → Leaves b s p x) → Keeps (Some (recorded p r (if_shallow o x)))
+      → (AllByRecursion (Shallow 64) r.params → Leaves b s p x) → Keeps (recorded p r (if_shallow o x))
   shallow_keeps p r so (Some depth) e x h = tt
   shallow_keeps p r so None e x h = recorded_keeps p r so e x (h (params_shallow r.params e))
 
-  read_keeps : (p : Progress) (r : Request) → FineProgress b s p → (x : Option (Result Statement Refusal))
-      → Reads r.text x
-      → Keeps (option_map (done_by b s p r) x)
-  read_keeps p r so None h = tt
-  read_keeps p r so (Some (Err cause)) h = tt
-  read_keeps p r so (Some (Ok st)) h =
+  read_keeps : (p : Progress) (r : Request) → FineProgress b s p → (x : Result Statement Refusal) → Reads r.text x
+      → Keeps (recorded p r (if_read (λ st. if_shallow (first_deep r.params) (effect_of b s p r.params st)) x))
+  read_keeps p r so (Err cause) h = tt
+  read_keeps p r so (Ok st) h =
       shallow_keeps p r so (first_deep r.params) refl (effect_of b s p r.params st)
       (λ given. leaves_effect p r.params r.text st so.made given h)
 
   step_keeps : (p : Progress) (r : Request) → FineProgress b s p → Keeps (step b s p r)
-  step_keeps p r so = read_keeps p r so (served_of r) (request_reads r)
+  step_keeps p r so = read_keeps p r so (statement_of r) (request_reads r)
 
   -- ---- all statements
 
   abbrev Ends : Ran → Type 0
   Ends (ran q) = FineProgress b s q
   Ends (refused j cause) = Unit {0}
-  Ends unserved = Unit {0}
 
   then_keeps : (j : ℕ) (rest : Progress → Ran) → ((q : Progress) → FineProgress b s q → Ends (rest q))
-      → (x : Option (Result Progress Refusal))
-      → Keeps x → Ends (then_run j x rest)
-  then_keeps j rest f (Some (Ok q)) h = f q h
-  then_keeps j rest f (Some (Err cause)) h = tt
-  then_keeps j rest f None h = tt
+      → (x : Result Progress Refusal) → Keeps x → Ends (then_run j x rest)
+  then_keeps j rest f (Ok q) h = f q h
+  then_keeps j rest f (Err cause) h = tt
 
   run_from-keeps : (rs : List Request) (j : ℕ) (p : Progress) → FineProgress b s p → Ends (run_from b s j p rs)
   run_from-keeps [] j p so = so

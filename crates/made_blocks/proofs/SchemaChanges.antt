@@ -1,17 +1,16 @@
 -- CREATE INDEX and DROP TABLE keep what holds of a transaction so far.
-use Rattle.std.proofs.Common.{◌≡◌, ◌∙◌, ◌==◌, ℕ, Bool, true, false, List, [], ◌∷◌, Option, Some, None, refl, sym, append-nil, if◌then◌else◌, arith}
+use Rattle.std.proofs.Common.{◌≡◌, ℕ, Bool, true, false, List, [], ◌∷◌, Some, None, refl, sym, append-nil, if◌then◌else◌, arith}
 use Rattle.std.specs.Prelude.{codes}
-use Rattle.std.specs.Option.{option_map_or}
 use Rattle.std.proofs.lemmas.Bool.{and_from, eq-eqb, not_from_false}
 use Rattle.ql_types.specs.declared.TableId.{TableId}
 use Rattle.ledger_model.specs.declared.block.Schema.{Schema}
 use Rattle.ledger_model.specs.declared.block.Schema.TheVariants.{Drop, Index}
 use Rattle.ledger_model.specs.declared.outcome.Refusal.TheVariants.{IndexExists}
-use Rattle.ledger_model.specs.Follows.{created_id, change_follows, has_index, is_active, is_named}
+use Rattle.ledger_model.specs.Follows.{created_id, change_follows, has_index, is_named}
 use Rattle.ledger_model.specs.Run.{Begun, Progress, created_count, reserved, table_now, tables_now}
 use Rattle.ledger_model.specs.SchemaChanges.{dropped, existing_index, indexed, indexes_now, no_index_more, schema_change}
 use Rattle.ledger_model.specs.State.{Indexed, State, Table, active_table, all_changed, all_indexed}
-use Rattle.ledger_model.specs.Whole.{id_fits, schema_fits}
+use Rattle.ledger_model.specs.Whole.{schema_fits}
 use Rattle.made_blocks.proofs.Changes.{change_more}
 use Rattle.made_blocks.proofs.Effects.{FineEffect, Leaves, MadeBy, on_table_leaves, same_made, table_there, unless_leaves}
 use Rattle.made_blocks.proofs.Parts.{shallow_id}

@@ -7,23 +7,19 @@ use Rattle.ledger_model.specs.declared.block.Draft.{Draft}
 use Rattle.ledger_model.specs.declared.block.Header.{Header}
 use Rattle.ledger_model.specs.declared.script.Request.{Request}
 use Rattle.ledger_model.specs.State.{state}
-use Rattle.ledger_model.specs.Run.{Begun, Progress, run, ran, final_revisions}
+use Rattle.ledger_model.specs.Run.{Begun, Progress, run, ran}
 use Rattle.ledger_model.specs.Legal.{last_hash}
 use Rattle.ledger_model.specs.Seals.{sealed}
 use Rattle.ledger_model.specs.Making.{IsMadeOf, revision_of, header_of, info_of, block_of}
-use Rattle.ledger_model.specs.Views.{latest}
 use Rattle.ledger_model.specs.Follows.{follows}
 use Rattle.ledger_model.specs.Damages.{Undamaged, strand_of, last_block, has_address, has_id, has_previous}
 use Rattle.made_blocks.specs.Before.{CanFollow}
 use Rattle.made_blocks.specs.Makes.{CanMake, IsWithinAll}
-use Rattle.made_blocks.specs.Pending.{is_left, left_of}
-use Rattle.made_blocks.proofs.Thinned.{all_kept}
-use Rattle.made_blocks.proofs.Latest.{all_latest}
+use Rattle.made_blocks.specs.Pending.{left_of}
 use Rattle.made_blocks.proofs.Hashes.{sealed_hashes, same_own}
 use Rattle.made_blocks.proofs.Journals.{Passes, no_damage, undamaged_push, strand_next}
 use Rattle.made_blocks.proofs.Headers.{address_ok, id_ok, later_ok}
 use Rattle.made_blocks.proofs.Ready.{ready_of}
-use Rattle.made_blocks.proofs.Progress.{Made}
 use Rattle.made_blocks.proofs.Effects.{FineProgress}
 use Rattle.made_blocks.proofs.Runs.{so_far_of}
 use Rattle.made_blocks.proofs.Follows.{follows_made}

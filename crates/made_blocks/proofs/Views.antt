@@ -77,7 +77,8 @@ view_shallow table committed pending h k =
 -- ---- the rows that show whole revisions
 
 string_shallow : (name text : List ℕ) → field_depth (field name (string text)) ≤ 0
-string_shallow name text = let e = depth_field (field name (string text)) in let d = depth_string text in omega (arith, e, d)
+string_shallow name text =
+    let e = depth_field (field name (string text)) in let d = depth_string text in omega (arith, e, d)
 
 number_shallow : (name : List ℕ) (n : ℕ) → field_depth (field name (number n)) ≤ 0
 number_shallow name n = let e = depth_field (field name (number n)) in let d = depth_number n in omega (arith, e, d)
@@ -87,7 +88,8 @@ moment_shallow name t = let e = depth_field (field name (moment t)) in let d = d
 
 address_shallow : (a : BlockAddress) → Shallow 1 (address_value a)
 address_shallow a =
-    let fields = field (codes "strandId") (id_value a.strand.raw) ∷ field (codes "sequenceNo") (number a.sequence) ∷ [] in
+    let fields = field (codes "strandId") (id_value a.strand.raw) ∷ field (codes "sequenceNo") (number a.sequence)
+    ∷ [] in
     let e = depth_structure fields in
     let strand = string_shallow (codes "strandId") (id_text a.strand.raw) in
     let sequence = number_shallow (codes "sequenceNo") a.sequence in
@@ -116,7 +118,8 @@ data_shallow (Redacted hash) behind h k =
 revision_shallow : (r : Revision) → ShallowContent r.content → Shallow 65 (revision_value r)
 revision_shallow r h =
     let behind = field (codes "metadata") (metadata_value r.metadata) ∷ [] in
-    let fields = (field (codes "blockAddress") (address_value r.address) ∷ field (codes "hash") (hash_value r.hash) ∷ [])
+    let fields = (field (codes "blockAddress") (address_value r.address) ∷ field (codes "hash") (hash_value r.hash)
+    ∷ [])
     ++ data_fields r.content ++ behind in
     let e = depth_structure fields in
     let front = depth_field (field (codes "blockAddress") (address_value r.address)) in

@@ -1,8 +1,8 @@
 -- UPDATE, FROM with a change, and DELETE keep what holds of a transaction so far.
-use Rattle.std.proofs.Common.{◌≡◌, ◌∙◌, ◌≤◌, ◌<◌, ◌+◌, ◌==◌, ◌&&◌, ◌||◌, ◌⊎◌, ℕ, Bool, true, false, List, [], ◌∷◌, ◌++◌, map, length, Option, Some, None, refl, sym, ap, subst, append-nil, arith, inl, inr, true≢false, if◌then◌else◌}
+use Rattle.std.proofs.Common.{◌≡◌, ◌≤◌, ◌==◌, ◌&&◌, ◌||◌, ◌⊎◌, ℕ, Bool, true, false, List, [], ◌∷◌, ◌++◌, length, Option, Some, None, refl, sym, subst, append-nil, arith, inl, inr, true≢false, if◌then◌else◌}
 use Rattle.std.specs.Prelude.{codes, is_some}
 use Rattle.std.specs.List.{AllByRecursion, find, list_any}
-use Rattle.std.proofs.lemmas.Bool.{and_parts, eqb-true, leb-true, ltb-true, or_cases, or_left, or_right}
+use Rattle.std.proofs.lemmas.Bool.{and_parts, eqb-true, leb-true, ltb-true, or_cases}
 use Rattle.ion_values.specs.Depth.{depth_of}
 use Rattle.ion_values.specs.declared.value.Value.{Value}
 use Rattle.ion_values.specs.declared.value.Body.{out-Body}
@@ -17,15 +17,15 @@ use Rattle.ledger_model.specs.declared.block.Content.{Content}
 use Rattle.ledger_model.specs.declared.block.Content.TheVariants.{Deleted, Kept}
 use Rattle.ledger_model.specs.declared.block.Draft.{Draft}
 use Rattle.ledger_model.specs.declared.outcome.Refusal.TheVariants.{DocumentTooLarge, NotADocument, TooDeep, TooManyRevisions}
-use Rattle.ledger_model.specs.Follows.{created_ids, has_table, is_active, is_kept, is_new, latest_of}
+use Rattle.ledger_model.specs.Follows.{created_ids, is_active, is_kept, is_new, latest_of}
 use Rattle.ledger_model.specs.Progress.{not_kept}
-use Rattle.ledger_model.specs.Run.{Begun, Effect, Progress, changed_by, first_absent, has_room, is_shallow, is_small, nothing, tables_now, told_depth}
+use Rattle.ledger_model.specs.Run.{Begun, Progress, changed_by, first_absent, has_room, is_shallow, is_small, tables_now, told_depth}
 use Rattle.ledger_model.specs.Script.{or_else}
 use Rattle.ledger_model.specs.State.{Recorded, State, Table}
 use Rattle.ledger_model.specs.Values.{is_struct, kind_of}
 use Rattle.ledger_model.specs.Views.{latest}
 use Rattle.ledger_model.specs.Whole.{id_fits}
-use Rattle.ledger_model.specs.Writing.{again_of, changed, deleted, first_own, has_room_for, if_active, is_root, next_of, no_room, pending_of, revised, revised_by, rows_now, stored_changes, stored_deletes, touch, touched, touching}
+use Rattle.ledger_model.specs.Writing.{again_of, changed, deleted, first_own, has_room_for, if_active, is_root, next_of, no_room, pending_of, revised, revised_by, rows_now, stored_changes, stored_deletes, touched, touching}
 use Rattle.made_blocks.specs.Pending.{draft_ids}
 use Rattle.made_blocks.proofs.Effects.{FineEffect, Leaves, MadeBy, same_made, same_progress, then_leaves, unless_leaves}
 use Rattle.made_blocks.proofs.Journals.{past}
@@ -59,7 +59,8 @@ found_among : (id : ℕ) (ds : List Draft) (d : Draft) → find (λ (x : Draft).
     → list_any (λ x. x == id) (draft_ids ds) ≡ true
 found_among id [] d e = cc
 found_among id (x ∷ xs) d e = by_test (λ k. found_among id xs d k) (x.id.raw == id) e where
-  by_test : (find (λ (y : Draft). y.id.raw == id) xs ≡ Some d → list_any (λ y. y == id) (draft_ids xs) ≡ true) → (b : Bool)
+  by_test : (find (λ (y : Draft). y.id.raw == id) xs ≡ Some d → list_any (λ y. y == id) (draft_ids xs) ≡ true)
+      → (b : Bool)
       → (if b then Some x else find (λ (y : Draft). y.id.raw == id) xs) ≡ Some d
       → (b || list_any (λ y. y == id) (draft_ids xs)) ≡ true
   by_test rest true k = refl
@@ -68,15 +69,16 @@ found_among id (x ∷ xs) d e = by_test (λ k. found_among id xs d k) (x.id.raw 
 latest_is_of : (rs : List Recorded) (id : ℕ) (last : Recorded) → latest_of rs id ≡ Some last
     → last.revision.metadata.id.raw ≡ id
 latest_is_of [] id last e = cc
-latest_is_of (r ∷ rs) id last e = by_rest (latest_of rs id) (λ k. latest_is_of rs id last k) (r.revision.metadata.id.raw == id) refl e where
-  by_rest : (o : Option Recorded) → (o ≡ Some last → last.revision.metadata.id.raw ≡ id) → (t : Bool)
-      → (r.revision.metadata.id.raw == id) ≡ t → or_else o (if t then Some r else None) ≡ Some last
-      → last.revision.metadata.id.raw ≡ id
-  by_rest (Some x) rest t f k = rest k
-  by_rest None rest true f k =
-      let same : r ≡ last = cc in
-      subst (λ (x : Recorded). x.revision.metadata.id.raw ≡ id) same (eqb-true r.revision.metadata.id.raw id f)
-  by_rest None rest false f k = cc
+latest_is_of (r ∷ rs) id last e =
+    by_rest (latest_of rs id) (λ k. latest_is_of rs id last k) (r.revision.metadata.id.raw == id) refl e where
+      by_rest : (o : Option Recorded) → (o ≡ Some last → last.revision.metadata.id.raw ≡ id) → (t : Bool)
+          → (r.revision.metadata.id.raw == id) ≡ t → or_else o (if t then Some r else None) ≡ Some last
+          → last.revision.metadata.id.raw ≡ id
+      by_rest (Some x) rest t f k = rest k
+      by_rest None rest true f k =
+          let same : r ≡ last = cc in
+          subst (λ (x : Recorded). x.revision.metadata.id.raw ≡ id) same (eqb-true r.revision.metadata.id.raw id f)
+      by_rest None rest false f k = cc
 
 -- an active table's id fits its type
 active_table_fits : (ts : List Table) (id : TableId) → AllByRecursion TableFits ts → is_active ts id ≡ true
@@ -95,7 +97,8 @@ module _ (b : Begun) (s : State) (ready : IsReady b s) where
   -- it may pend, and its document has a revision already; of one that was touched before there are no more documents
   record IsRevision (p : Progress) (d : Draft) (again : Bool) : Type 0 where
     pub pending : IsPending s (created_ids p.schema) d
-    pub known : (is_new s.revisions d.id.raw ≡ false) ⊎ (list_any (λ x. x == d.id.raw) (draft_ids (latest p.log)) ≡ true)
+    pub known :
+        (is_new s.revisions d.id.raw ≡ false) ⊎ (list_any (λ x. x == d.id.raw) (draft_ids (latest p.log)) ≡ true)
     pub as_many : again ≡ true → length (latest (p.log ++ d ∷ [])) ≡ length (latest p.log)
 
   again_is : (p : Progress) (id : DocId) (c : Content) (d : Draft) → MadeBy b s p → IsContent c
@@ -107,7 +110,8 @@ module _ (b : Begun) (s : State) (ready : IsReady b s) where
       (found_among id.raw (latest p.log) d e) in
       record {
         pending = again_pends s (created_ids p.schema) d c
-            (found_like (λ (x : Draft). x.id.raw == id.raw) (IsPending s (created_ids p.schema)) (latest p.log) d pends e)
+            (found_like (λ (x : Draft). x.id.raw == id.raw) (IsPending s (created_ids p.schema)) (latest p.log) d pends
+            e)
             content;
         known = inr among;
         as_many = λ _. as_many _ _ (ids_same p.log (again_of d c) among);
@@ -118,16 +122,19 @@ module _ (b : Begun) (s : State) (ready : IsReady b s) where
       → is_active (tables_now s p) last.table ≡ true → IsRevision p (next_of last c) false
   next_is p id c last m content e kept active = record {
     pending = next_pends s (created_ids p.schema) last c e kept (active_has p.schema s.tables last.table active)
-        (active_table_fits (tables_now s p) last.table (tables_fit p.schema s.tables ready.tables m.fits) active) content;
+        (active_table_fits (tables_now s p) last.table (tables_fit p.schema s.tables ready.tables m.fits) active)
+        content;
     known = inl (known_of s.revisions last.revision.metadata.id.raw last e);
     as_many = λ t. absurd (true≢false (sym t));
   }
 
   -- where its table is active
-  kept_active : (p : Progress) (x d : Draft) (again : Bool) → (is_active (tables_now s p) x.table ≡ true → IsRevision p x again)
+  kept_active : (p : Progress) (x d : Draft) (again : Bool)
+      → (is_active (tables_now s p) x.table ≡ true → IsRevision p x again)
       → if_active (tables_now s p) (Some x) ≡ Some d → IsRevision p d again
   kept_active p x d again h e = by_test (is_active (tables_now s p) x.table) refl e where
-    by_test : (t : Bool) → is_active (tables_now s p) x.table ≡ t → (if t then Some x else None) ≡ Some d → IsRevision p d again
+    by_test : (t : Bool) → is_active (tables_now s p) x.table ≡ t → (if t then Some x else None) ≡ Some d
+        → IsRevision p d again
     by_test true t k = let same : x ≡ d = cc in subst (λ y. IsRevision p y again) same (h t)
     by_test false t k = cc
 
@@ -136,7 +143,8 @@ module _ (b : Begun) (s : State) (ready : IsReady b s) where
       → (is_kept c ≡ true → is_active (tables_now s p) x.table ≡ true → IsRevision p x again)
       → if_active (tables_now s p) (if is_kept c then Some x else None) ≡ Some d → IsRevision p d again
   if_kept p c x d again h e = by_test (is_kept c) refl e where
-    by_test : (t : Bool) → is_kept c ≡ t → if_active (tables_now s p) (if t then Some x else None) ≡ Some d → IsRevision p d again
+    by_test : (t : Bool) → is_kept c ≡ t → if_active (tables_now s p) (if t then Some x else None) ≡ Some d
+        → IsRevision p d again
     by_test true t k = kept_active p x d again (h t) k
     by_test false t k = cc
 
@@ -149,7 +157,8 @@ module _ (b : Begun) (s : State) (ready : IsReady b s) where
   by_parts p id c d m content None e (Some last) f k =
       let own = latest_is_of s.revisions id.raw last f in
       let here = subst (λ n. latest_of s.revisions n ≡ Some last) (sym own) f in
-      if_kept p last.revision.content (next_of last c) d false (λ kept active. next_is p id c last m content here kept active) k
+      if_kept p last.revision.content (next_of last c) d false
+      (λ kept active. next_is p id c last m content here kept active) k
 
   revised_is : (p : Progress) (id : DocId) (c : Content) (d : Draft) → MadeBy b s p → IsContent c
       → revised s p id c ≡ Some d → IsRevision p d (is_some (pending_of p id))
@@ -224,7 +233,8 @@ module _ (b : Begun) (s : State) (ready : IsReady b s) where
   deletes_leave (id ∷ ids) p m =
       let e = touching s p id Deleted in
       unless_leaves b s p (no_room p id) _ (λ n.
-      let one = fine_touching p id Deleted m (record { shallow = tt; unredacted = refl }) (room_of (has_room_for p id) n) in
+      let one = fine_touching p id Deleted m (record { shallow = tt; unredacted = refl })
+      (room_of (has_room_for p id) n) in
       then_leaves b s p e one (stored_deletes s (changed_by p e) ids) (deletes_leave ids (changed_by p e) one.made))
 
   pub leaves_delete : (p : Progress) (params : List Value) (from : FromClause) → MadeBy b s p

@@ -7,7 +7,9 @@ returns c = λ mask blocks since b m beside none. record {
   number = m.number;
   progress = m.progress;
   id = m.id;
-  runs = c.transaction_is_framed.ensures (record { mask = mask; number = m.number }) blocks since (asked_in (said_in b.info.said)) m.progress m.runs beside none;
+  runs =
+      c.transaction_is_framed.ensures (record { mask = mask; number = m.number }) blocks since
+      (asked_in (said_in b.info.said)) m.progress m.runs beside none;
   said = m.said;
   schema = m.schema;
   revisions = m.revisions;
