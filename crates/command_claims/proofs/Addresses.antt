@@ -16,7 +16,8 @@ use Rattle.made_blocks.proofs.Journals.{passes_all}
 same_address-is : (a b : BlockAddress) → same_address a b ≡ true → a ≡ b
 same_address-is a b e =
     let both = and_parts _ _ e in
-    ap₂ (λ (s : ℕ) (n : ℕ). let address : BlockAddress = record { strand = record { raw = s }; sequence = n } in address)
+    ap₂
+    (λ (s : ℕ) (n : ℕ). let address : BlockAddress = record { strand = record { raw = s }; sequence = n } in address)
     (eqb-true _ _ both.0) (eqb-true _ _ both.1)
 
 -- what is so of each recorded revision is so of the one at a place
@@ -41,15 +42,18 @@ in_block front b whole sound k r e =
     let is = each_of (state front) b b.info.tables b.revisions whole.tables all.1 k r e in
     same_address-is r.address b.header.address (and_parts _ _ (and_parts _ _ is).0).0
 
-behind : (front bs : List Block) → UndamagedBehind front bs → (n : ℕ) (b : Block) → slice_get bs n ≡ Some b → (k : ℕ) (r : Revision)
+behind : (front bs : List Block) → UndamagedBehind front bs → (n : ℕ) (b : Block) → slice_get bs n ≡ Some b
+    → (k : ℕ) (r : Revision)
     → slice_get b.revisions k ≡ Some r → r.address ≡ b.header.address
 behind front [] u n b is k r e = cc
 behind front (c ∷ cs) u zero b is k r e =
     let same : c ≡ b = cc in
-    let there : slice_get c.revisions k ≡ Some r = subst (λ (x : Block). slice_get x.revisions k ≡ Some r) (sym same) e in
+    let there : slice_get c.revisions k ≡ Some r =
+    subst (λ (x : Block). slice_get x.revisions k ≡ Some r) (sym same) e in
     subst (λ (x : Block). r.address ≡ x.header.address) same (in_block front c u.0 u.1 k r there)
 behind front (c ∷ cs) u (suc n) b is k r e = behind (front ++ c ∷ []) cs u.2 n b is k r e
 
-pub addresses : (blocks : List Block) → Undamaged blocks → (n : ℕ) (b : Block) → slice_get blocks n ≡ Some b → (k : ℕ) (r : Revision)
+pub addresses : (blocks : List Block) → Undamaged blocks → (n : ℕ) (b : Block) → slice_get blocks n ≡ Some b
+    → (k : ℕ) (r : Revision)
     → slice_get b.revisions k ≡ Some r → r.address ≡ b.header.address
 addresses blocks u n b is k r e = behind [] blocks u n b is k r e

@@ -28,7 +28,8 @@ row_past_tip : no_such_line (none_such.PastTip 5 4) ≡ codes "{status:2,fault:{
 unfolding digits
 row_past_tip = refl
 
-row_no_revision : no_such_line (none_such.Revision 99 5) ≡ codes "{status:2,fault:{kind:NoSuchRevision,index:99,count:5}}\n"
+row_no_revision :
+    no_such_line (none_such.Revision 99 5) ≡ codes "{status:2,fault:{kind:NoSuchRevision,index:99,count:5}}\n"
 unfolding digits
 row_no_revision = refl
 
@@ -52,7 +53,8 @@ row_script : input_line (misspelt (record { session = 1; transaction = 0; kind =
 unfolding digits
 row_script = refl
 
-row_damaged : (number_of damaged ≡ 3) × (damaged_line 2 damage.WrongHash ≡ codes "{status:3,fault:{sequence:2,kind:WrongHash}}\n")
+row_damaged :
+    (number_of damaged ≡ 3) × (damaged_line 2 damage.WrongHash ≡ codes "{status:3,fault:{sequence:2,kind:WrongHash}}\n")
 unfolding digits
 row_damaged = (refl, refl)
 

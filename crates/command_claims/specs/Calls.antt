@@ -4,7 +4,8 @@ use Rattle.std.specs.declared.alloc.Global.{Global}
 use Rattle.outside.specs.Told.{SourceTold, SinkTold, StoreTold}
 use Rattle.ledger_claims.specs.Calls.{Span}
 
--- what the source and the store told at entry and at the end, and the answers that the clock had given, where it tells them
+-- what the source and the store told at entry and at the end, and the answers that the clock had given, where it tells
+-- them
 pub record Outside : Type 0 where
   pub source : Span SourceTold
   pub store : Span StoreTold

@@ -32,15 +32,15 @@ abbrev pub mask_between : Answers → Answers → Option ℕ
 mask_between (Some before) (Some after) = first_mask (drop (length before) after)
 mask_between _ _ = None
 
--- The mask that the words give the ids of an empty journal: 0, that of a seed, or that of the clock's first answer in this
--- call, where the clock tells it.
+-- The mask that the words give the ids of an empty journal: 0, that of a seed, or that of the clock's first answer in
+-- this call, where the clock tells it.
 abbrev pub given_by : IdSource → Span Answers → Option ℕ
 given_by ids.Plain clock = Some 0
 given_by (ids.Seed seed) clock = Some (mask_of seed)
 given_by ids.FirstAnswer clock = mask_between clock.before clock.after
 
--- The times of the blocks: the timestamp that begins at the milliseconds that the words give, taken to the nearest of the
--- years 0001 to 9999, or what the clock answers in this call.
+-- The times of the blocks: the timestamp that begins at the milliseconds that the words give, taken to the nearest of
+-- the years 0001 to 9999, or what the clock answers in this call.
 abbrev pub AreTimes : Option ℤ → Span Answers → Times → Type 0
 AreTimes (Some ms) clock times = (time : TimeParts) × BeginsAt (nearest ms) time × (times ≡ one_time time)
 AreTimes None clock times = times ≡ times_between clock.before clock.after

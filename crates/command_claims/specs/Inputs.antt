@@ -4,7 +4,7 @@ use Rattle.ion_grammar.specs.Read.{read_text}
 use Rattle.ion_values.specs.declared.fault.IonFault.{IonFault}
 use Rattle.ion_values.specs.declared.value.Value.{Value}
 use Rattle.ledger_model.specs.declared.script.Job.{Job}
-use Rattle.ledger_model.specs.Unbuilt.{Judged, faulty, misspelt, unbuilt, served, judged}
+use Rattle.ledger_model.specs.Judging.{Judged, faulty, misspelt, scripted, judged}
 use Rattle.outside.specs.Told.{SourceTold}
 use Rattle.ledger_claims.specs.Calls.{Span}
 use Rattle.ledger_claims.specs.Streams.{Taken, WasRead}
@@ -40,21 +40,20 @@ pub record IsJudged (source : Span SourceTold) (what : Judged) : Type 0 where
   pub read : WasRead source input
   pub judged_is : judged input ≡ what
 
--- the input spells this script, which is served
+-- the input spells this script
 abbrev pub HasScript : Span SourceTold → List (List Job) → Type 0
-HasScript source script = IsJudged source (served script)
+HasScript source script = IsJudged source (scripted script)
 
--- the whole input was read, and it is a script that is served
-pub record ServesScript (source : Span SourceTold) : Type 0 where
+-- the whole input was read, and it is a script
+pub record SpellsScript (source : Span SourceTold) : Type 0 where
   pub script : List (List Job)
   pub has : HasScript source script
 
--- why the input is no script that is served
+-- why the input is no script
 abbrev pub IsNoScript : BadInput → Span SourceTold → Type 0
 IsNoScript bad.too_long source = IsTooLong source
 IsNoScript (bad.faulty fault) source = IsJudged source (faulty fault)
 IsNoScript (bad.misspelt fault) source = IsJudged source (misspelt fault)
-IsNoScript bad.unbuilt source = IsJudged source unbuilt
 
 -- ---- values
 
@@ -77,4 +76,3 @@ abbrev pub IsNoText : BadInput → Span SourceTold → Type 0
 IsNoText bad.too_long source = IsTooLong source
 IsNoText (bad.faulty fault) source = HasNoValues source fault
 IsNoText (bad.misspelt fault) source = ⊥
-IsNoText bad.unbuilt source = ⊥

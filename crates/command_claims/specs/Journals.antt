@@ -65,8 +65,8 @@ pub record PublishesDigest (tip : ℕ) (blocks : List Block) (text : List ℕ) :
 
 -- ---- proofs
 
--- The text is that of the digest with this tip, the revision at this index of this block, and its proof, which shows that
--- the revision is in the journal.
+-- The text is that of the digest with this tip, the revision at this index of this block, and its proof, which shows
+-- that the revision is in the journal.
 pub record PublishesProof (sequence index tip : ℕ) (blocks : List Block) (text : List ℕ) : Type 0 where
   pub there : refusal blocks sequence index tip ≡ None
   pub digest : Digest

@@ -35,7 +35,6 @@ pub data BadInput : Type 0 where
   too_long : BadInput
   faulty : IonFault → BadInput
   misspelt : ScriptFault → BadInput
-  unbuilt : BadInput
 
 abbrev pub kind_name : IonKind → List ℕ
 kind_name kind.NotUtf8 = codes "NotUtf8"
@@ -70,7 +69,6 @@ abbrev pub fault_text : BadInput → List ℕ
 fault_text too_long = codes "kind:InputTooLong"
 fault_text (faulty f) = codes "at:" ++ decimal f.at ++ codes ",kind:" ++ kind_name f.kind
 fault_text (misspelt f) = script_fault_text f
-fault_text unbuilt = codes "kind:Unbuilt"
 
 abbrev pub input_line : BadInput → List ℕ
 input_line cause = fault_line (fault_text cause)
@@ -102,7 +100,8 @@ damage_name damage.WrongState = codes "WrongState"
 
 abbrev pub damaged_line : ℕ → Damage → List ℕ
 damaged_line sequence kind =
-    codes "{status:3,fault:{sequence:" ++ decimal sequence ++ codes ",kind:" ++ damage_name kind ++ codes "}}" ++ 10 ∷ []
+    codes "{status:3,fault:{sequence:" ++ decimal sequence ++ codes ",kind:" ++ damage_name kind ++ codes "}}"
+    ++ 10 ∷ []
 
 -- ---- failures
 

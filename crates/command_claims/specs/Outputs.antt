@@ -34,4 +34,5 @@ revision_count (b ∷ bs) = length b.revisions + revision_count bs
 -- how many blocks there are, and how many revisions they have
 abbrev pub counts_text : List Block → List ℕ
 counts_text blocks =
-    codes "{blocks:" ++ decimal (length blocks) ++ codes ",revisions:" ++ decimal (revision_count blocks) ++ codes "}" ++ 10 ∷ []
+    codes "{blocks:" ++ decimal (length blocks) ++ codes ",revisions:" ++ decimal (revision_count blocks) ++ codes "}"
+    ++ 10 ∷ []

@@ -1,13 +1,16 @@
 -- The run of a script, with its report and what it leaves in the store.
 use Rattle.std.specs.Prelude.{◌≡◌, ◌⊎◌, ℕ, List, Option}
+use Rattle.std.specs.List.{AllByRecursion}
 use Rattle.ledger_model.specs.declared.script.Job.{Job}
 use Rattle.ledger_model.specs.Script.{all_placed}
 use Rattle.ledger_model.specs.Report.{report}
 use Rattle.outside.specs.Told.{StoreTold, held}
 use Rattle.command_words.specs.declared.RunOptions.{RunOptions}
 use Rattle.ledger_claims.specs.Calls.{Span}
-use Rattle.ledger_claims.specs.Fits.{RunRecord, Times, Fits, FitsBlocks}
+use Rattle.ledger_claims.specs.Fits.{RunRecord, Times, FitsBlocks, made}
 use Rattle.ledger_claims.specs.Stores.{HasJournal, Holding, IsSynced, HoldingWithRest}
+use Rattle.entry_laws.specs.Alone.{RunsInOrder}
+use Rattle.entry_laws.specs.Claims.{FitsInterleaved, IsOfOwnDigest}
 use Rattle.command_claims.specs.Calls.{Outside}
 use Rattle.command_claims.specs.Clocks.{Answers, given_by, AreTimes}
 use Rattle.command_claims.specs.Inputs.{HasScript}
@@ -32,10 +35,12 @@ pub record IsOfRun (terms : Terms) (script : List (List Job)) (store : Span Stor
   pub opened : t.opened ≡ store.before.faults
   pub closed : t.closed ≡ store.after.faults
 
--- the script was run, and the store holds the journal that is left, synced where it was synced
+-- The script was run, by its one worker in the script's order, and the store holds the journal that is left, synced
+-- where it was synced.
 pub record IsDone (terms : Terms) (script : List (List Job)) (store : Span StoreTold) (t : RunRecord) : Type 0 where
   pub of_run : IsOfRun terms script store t
-  pub fits : Fits t
+  pub fits : FitsInterleaved t
+  pub in_order : RunsInOrder t
   pub holding : Holding t.after (held store.after)
   pub synced : IsSynced store.before → IsSynced store.after
 
@@ -45,16 +50,18 @@ pub record IsReportOf (terms : Terms) (script : List (List Job)) (store : Span S
   pub done : IsDone terms script store told
   pub text_is : text ≡ report told.after told.outcomes
 
--- the store holds the journal of a run of the script, and perhaps a rest that is no whole line
+-- the store holds the journal of a run of the script, whose blocks have the digests that their jobs give, and perhaps a
+-- rest that is no whole line
 pub record HoldsRun (terms : Terms) (script : List (List Job)) (store : Span StoreTold) : Type 0 where
   pub told : RunRecord
   pub of_run : IsOfRun terms script store told
   pub fits : FitsBlocks told
+  pub digests : AllByRecursion (IsOfOwnDigest told.jobs) (made told)
   pub holding : HoldingWithRest told.after (held store.after)
 
 -- ---- by the words
 
--- the whole input was read, it is a script that is served, and this is the report of its run with these options
+-- the whole input was read, it is a script, and this is the report of its run with these options
 pub record Reports (o : RunOptions) (x : Outside) (text : List ℕ) : Type 0 where
   pub script : List (List Job)
   pub has : HasScript x.source script

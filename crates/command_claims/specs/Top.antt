@@ -15,7 +15,7 @@ use Rattle.ledger_claims.specs.Calls.{Span}
 use Rattle.ledger_claims.specs.Streams.{TakesFew, Writes, WritesPart, BreaksOff, WritesLine}
 use Rattle.command_claims.specs.Bundles.{IsAccepted, IsNotAccepted}
 use Rattle.command_claims.specs.Calls.{Outside, Call}
-use Rattle.command_claims.specs.Inputs.{IsIdle, SourceFailed, ServesScript, IsNoScript, HasValues, IsNoText}
+use Rattle.command_claims.specs.Inputs.{IsIdle, SourceFailed, SpellsScript, IsNoScript, HasValues, IsNoText}
 use Rattle.command_claims.specs.Journals.{Question, Answers, HasNone, IsUncalled, IsUnchanged, HasFailed, Reads, ReadsDamage}
 use Rattle.command_claims.specs.Journals as asks
 use Rattle.command_claims.specs.Lines.{BadInput, words_line, input_line, no_such_line, damaged_line, faults_line, memory_line, proof_fault_line}
@@ -89,16 +89,15 @@ pub record ProofLine (x : Outside) (line : List ℕ) : Type 0 where
 
 -- ---- a run
 
--- At 2 the input is refused, and at 4 the source failed, before the store is called. At 3 the input is a script that is
--- served, and the journal is damaged. At 5 it is one, and the store failed when the journal was read or was to be cut at
--- the end.
+-- At 2 the input is refused, and at 4 the source failed, before the store is called. At 3 the input is a script, and
+-- the journal is damaged. At 5 it is one, and the store failed when the journal was read or was to be cut at the end.
 abbrev pub RunRefuses : Type 0 → Outside → Status → List ℕ → Type 0
 RunRefuses same x done line = ⊥
 RunRefuses same x bad_words line = ⊥
 RunRefuses same x bad_input line = BadInputLine (λ cause. IsNoScript cause x.source) line × IsUncalled same x.store
-RunRefuses same x damaged line = ServesScript x.source × DamagedLine x line
+RunRefuses same x damaged line = SpellsScript x.source × DamagedLine x line
 RunRefuses same x source_failed line = SourceLine x line × IsUncalled same x.store
-RunRefuses same x store_failed line = ServesScript x.source × StoreLine x line
+RunRefuses same x store_failed line = SpellsScript x.source × StoreLine x line
 RunRefuses same x sink_failed line = ⊥
 RunRefuses same x not_accepted line = ⊥
 RunRefuses same x out_of_memory line = ⊥
@@ -179,9 +178,9 @@ Refuses same (Some (command.Prove sequence index tip)) x status line =
 Refuses same (Some command.Verify) x status line = VerifyRefuses x status line
 Refuses same (Some command.Audit) x status line = JournalRefuses asks.counts x status line
 
--- What is so at every status. Words that ask for nothing, and a bundle, never touch the store; a question to the journal
--- leaves what it holds, and the source is not read; a run leaves what the store held or the journal of the run or a part
--- of it.
+-- What is so at every status. Words that ask for nothing, and a bundle, never touch the store; a question to the
+-- journal leaves what it holds, and the source is not read; a run leaves what the store held or the journal of the run
+-- or a part of it.
 abbrev pub Keeps : Type 0 → Option Command → Outside → Type 0
 Keeps same None x = IsUncalled same x.store × IsIdle x.source
 Keeps same (Some (command.Run options)) x = LeavesRun options x
@@ -192,8 +191,8 @@ Keeps same (Some command.Audit) x = IsUnchanged x.store × IsIdle x.source
 
 -- ---- the end
 
--- Want of memory hides no failure: the source failed only where the line that says so was begun, whose rest the sink had
--- no memory for, and the sink failed only at the line that says that memory was wanted.
+-- Want of memory hides no failure: the source failed only where the line that says so was begun, whose rest the sink
+-- had no memory for, and the sink failed only at the line that says that memory was wanted.
 pub record HidesNone (x : Outside) (sink : Span SinkTold) : Type 0 where
   pub of_source :
       (x.source.after.faults ≡ x.source.before.faults)

@@ -17,7 +17,8 @@ use Rattle.ledger_claims.proofs.Growing.{grown}
 -- ---- no block more
 
 -- the outcomes and the failures of the store don't matter
-pub FitsBlocks-same : (t : RunRecord) (outcomes : List PlacedOutcome) (closed : ℕ) → FitsBlocks t → FitsBlocks (grown t t.after outcomes closed)
+pub FitsBlocks-same : (t : RunRecord) (outcomes : List PlacedOutcome) (closed : ℕ) → FitsBlocks t
+    → FitsBlocks (grown t t.after outcomes closed)
 FitsBlocks-same t outcomes closed h = record {
   begins = h.begins;
   undamaged = h.undamaged;
@@ -29,14 +30,16 @@ FitsBlocks-same t outcomes closed h = record {
   once = h.once;
 }
 
-pub FitsBlocks-kept : (t : RunRecord) (blocks : List Block) (outcomes : List PlacedOutcome) (closed : ℕ) → blocks ≡ t.after → FitsBlocks t
+pub FitsBlocks-kept : (t : RunRecord) (blocks : List Block) (outcomes : List PlacedOutcome) (closed : ℕ)
+    → blocks ≡ t.after → FitsBlocks t
     → FitsBlocks (grown t blocks outcomes closed)
 FitsBlocks-kept t blocks outcomes closed same h =
     subst (λ (x : List Block). FitsBlocks (grown t x outcomes closed)) (sym same) (FitsBlocks-same t outcomes closed h)
 
 -- ---- one block more
 
-module _ (t : RunRecord) (time : TimeParts) (among : IsTimeIn t.times time) (p : Placed) (b : Block) (last : ℕ) (h : FitsBlocks t)
+module _ (t : RunRecord) (time : TimeParts) (among : IsTimeIn t.times time) (p : Placed) (b : Block) (last : ℕ)
+    (h : FitsBlocks t)
     (next : IsNextBlock (standing t last) time p b) where
   abbrev more : List Block
   more = t.after ++ b ∷ []
@@ -64,10 +67,12 @@ module _ (t : RunRecord) (time : TimeParts) (among : IsTimeIn t.times time) (p :
       let place : p.place ≡ b.info.place = sym (next-place (standing t last) time p b next) in
       let before : AllByRecursion (λ c. Before c.info.place b) (made t) =
       all_like (λ (c : Block). IsBehind c.info.place p) (λ c. Before c.info.place b)
-      (λ c is. subst (λ x. c.info.place.session ≡ x.session → c.info.place.transaction < x.transaction) place is) (made t) behind in
+      (λ c is. subst (λ x. c.info.place.session ≡ x.session → c.info.place.transaction < x.transaction) place is)
+      (made t) behind in
       subst (λ (x : List Block). InSessionOrder x) (sym made_more) (once_more (made t) b h.once before)
 
-  pub FitsBlocks-more : (outcomes : List PlacedOutcome) (closed : ℕ) → Contains t.jobs p → AllByRecursion (λ c. IsBehind c.info.place p) (made t)
+  pub FitsBlocks-more : (outcomes : List PlacedOutcome) (closed : ℕ) → Contains t.jobs p
+      → AllByRecursion (λ c. IsBehind c.info.place p) (made t)
       → FitsBlocks (grown t more outcomes closed)
   FitsBlocks-more outcomes closed among behind = record {
     begins = begins_on t.before t.after (b ∷ []) h.begins;
@@ -82,18 +87,27 @@ module _ (t : RunRecord) (time : TimeParts) (among : IsTimeIn t.times time) (p :
 
 -- ---- of the job that comes next
 
-pub job_among : (t : RunRecord) (done : List Placed) (p : Placed) (rest : List Placed) → t.jobs ≡ done ++ p ∷ rest → Contains t.jobs p
+pub job_among : (t : RunRecord) (done : List Placed) (p : Placed) (rest : List Placed) → t.jobs ≡ done ++ p ∷ rest
+    → Contains t.jobs p
 job_among t done p rest jobs = subst (λ (x : List Placed). Contains x p) (sym jobs) (Contains_seam done p rest)
 
-pub each_behind : (p : Placed) (rest : List Placed) (bs : List Block) → AreBehind bs (p ∷ rest) → AllByRecursion (λ c. IsBehind c.info.place p) bs
-each_behind p rest bs behind = all_like (λ (c : Block). AllByRecursion (IsBehind c.info.place) (p ∷ rest)) (λ c. IsBehind c.info.place p) (λ c h. h.0) bs behind
+pub each_behind : (p : Placed) (rest : List Placed) (bs : List Block) → AreBehind bs (p ∷ rest)
+    → AllByRecursion (λ c. IsBehind c.info.place p) bs
+each_behind p rest bs behind =
+    all_like (λ (c : Block). AllByRecursion (IsBehind c.info.place) (p ∷ rest)) (λ c. IsBehind c.info.place p)
+    (λ c h. h.0) bs behind
 
 pub others_behind : (p : Placed) (rest : List Placed) (bs : List Block) → AreBehind bs (p ∷ rest) → AreBehind bs rest
-others_behind p rest bs behind = all_like (λ (c : Block). AllByRecursion (IsBehind c.info.place) (p ∷ rest)) (λ c. AllByRecursion (IsBehind c.info.place) rest) (λ c h. h.1) bs behind
+others_behind p rest bs behind =
+    all_like (λ (c : Block). AllByRecursion (IsBehind c.info.place) (p ∷ rest))
+    (λ c. AllByRecursion (IsBehind c.info.place) rest) (λ c h. h.1) bs behind
 
 -- with the block that the next job becomes, whatever is told
-pub FitsBlocks-next : (t : RunRecord) (time : TimeParts) → IsTimeIn t.times time → (done : List Placed) (p : Placed) (rest : List Placed) (last : ℕ)
-    (b : Block) (outcomes : List PlacedOutcome) (closed : ℕ) → SoFar t done (p ∷ rest) last → IsNextBlock (standing t last) time p b
+pub FitsBlocks-next : (t : RunRecord) (time : TimeParts) → IsTimeIn t.times time
+    → (done : List Placed) (p : Placed) (rest : List Placed) (last : ℕ)
+    (b : Block) (outcomes : List PlacedOutcome) (closed : ℕ) → SoFar t done (p ∷ rest) last
+    → IsNextBlock (standing t last) time p b
     → FitsBlocks (grown t (t.after ++ b ∷ []) outcomes closed)
 FitsBlocks-next t time among done p rest last b outcomes closed so next =
-    FitsBlocks-more t time among p b last so.blocks next outcomes closed (job_among t done p rest so.jobs) (each_behind p rest (made t) so.behind)
+    FitsBlocks-more t time among p b last so.blocks next outcomes closed (job_among t done p rest so.jobs)
+    (each_behind p rest (made t) so.behind)

@@ -1,4 +1,5 @@
--- What an outcome says stays true when the run goes on: when a later job's block is appended or the store fails more often.
+-- What an outcome says stays true when the run goes on: when a later job's block is appended or the store fails more
+-- often.
 use Rattle.std.proofs.Common.{◌≡◌, ℕ, suc, ◌-◌, ◌^◌, ◌<◌, ◌≤◌, List, [], ◌∷◌, ◌++◌, length, take, drop, slice_get, refl, sym, ap, subst, ◌∙◌, arith, append_assoc, append-nil, length-append}
 use Rattle.std.specs.Prelude.{IfSome}
 use Rattle.std.specs.List.{AllByRecursion}
@@ -31,7 +32,8 @@ pub record Grows (t : RunRecord) (blocks more : List Block) (closed : ℕ) : Typ
   pub later : t.closed ≤ closed
   pub room : length t.after ≡ 2 ^ 32 - 1 → more ≡ []
 
-module _ (t : RunRecord) (blocks more : List Block) (outcomes : List PlacedOutcome) (closed : ℕ) (g : Grows t blocks more closed) where
+module _ (t : RunRecord) (blocks more : List Block) (outcomes : List PlacedOutcome) (closed : ℕ)
+    (g : Grows t blocks more closed) where
   abbrev u : RunRecord
   u = grown t blocks outcomes closed
 
@@ -39,7 +41,8 @@ module _ (t : RunRecord) (blocks more : List Block) (outcomes : List PlacedOutco
   made_on = ap (λ (x : List Block). drop (length t.before) x) g.behind ∙ drop_on t.before t.after more g.begins
 
   longer : length t.after ≤ length blocks
-  longer = let e : length blocks ≡ length (t.after ++ more) = ap length g.behind in omega (arith, length-append t.after more)
+  longer =
+      let e : length blocks ≡ length (t.after ++ more) = ap length g.behind in omega (arith, length-append t.after more)
 
   number_on : (tx : TxId) (number : ℕ) → HasNumber t tx number → HasNumber u tx number
   number_on tx number h = record { id = h.id; above = h.above; within = h.within; counted = h.counted }
@@ -47,13 +50,16 @@ module _ (t : RunRecord) (blocks more : List Block) (outcomes : List PlacedOutco
   fresh_on : (since : ℕ) → IsFresh t since → IsFresh u since
   fresh_on since h = record { from_before = h.from_before; not_past = omega (arith, h.not_past, longer) }
 
-  ran_same : (q : Placed) (number since : ℕ) → since ≤ length t.after → ran_on u q number since ≡ ran_on t q number since
+  ran_same : (q : Placed) (number since : ℕ) → since ≤ length t.after
+      → ran_on u q number since ≡ ran_on t q number since
   ran_same q number since within =
       ap (λ (x : List Block). run (record { mask = t.mask; number = number }) (state x) q.job.statements)
       (ap (λ (x : List Block). take since x) g.behind ∙ take-append-le since t.after more within)
 
   blockless_on : (q : Placed) → AllByRecursion (IsNotOf q) more → HasNoBlock t q → HasNoBlock u q
-  blockless_on q others h = subst (λ (x : List Block). AllByRecursion (IsNotOf q) x) (sym made_on) (all_append (IsNotOf q) (made t) more h others)
+  blockless_on q others h =
+      subst (λ (x : List Block). AllByRecursion (IsNotOf q) x) (sym made_on)
+      (all_append (IsNotOf q) (made t) more h others)
 
   committed_on : (q : Placed) (tx : TxId) (block : ℕ) → IsCommitted t q tx block → IsCommitted u q tx block
   committed_on q tx block h = record {
@@ -69,7 +75,8 @@ module _ (t : RunRecord) (blocks more : List Block) (outcomes : List PlacedOutco
   full_on : length t.after ≡ 2 ^ 32 - 1 → length blocks ≡ 2 ^ 32 - 1
   full_on h = ap length (g.behind ∙ ap (λ (x : List Block). t.after ++ x) (g.room h) ∙ append-nil t.after) ∙ h
 
-  pub Holds-on : (done : List PlacedOutcome) (q : Placed) → AllByRecursion (IsNotOf q) more → (o : Outcome) → Holds t done q o → Holds u done q o
+  pub Holds-on : (done : List PlacedOutcome) (q : Placed) → AllByRecursion (IsNotOf q) more → (o : Outcome)
+      → Holds t done q o → Holds u done q o
   Holds-on done q others (Committed tx block) h = committed_on q tx block h
   Holds-on done q others (Conflict tx since named) h = h
   Holds-on done q others (Refused tx since statement cause) h = record {
@@ -112,7 +119,8 @@ module _ (t : RunRecord) (blocks more : List Block) (outcomes : List PlacedOutco
   }
   Holds-on done q others OutOfMemory h = blockless_on q others h
 
-  pub EachHolds-on : (done : List PlacedOutcome) (qs : List Placed) (os : List PlacedOutcome) → AllByRecursion (λ q. AllByRecursion (IsNotOf q) more) qs
+  pub EachHolds-on : (done : List PlacedOutcome) (qs : List Placed) (os : List PlacedOutcome)
+      → AllByRecursion (λ q. AllByRecursion (IsNotOf q) more) qs
       → EachHolds t done qs os → EachHolds u done qs os
   EachHolds-on done [] [] others h = tt
   EachHolds-on done (q ∷ qs) (o ∷ os) others h =
@@ -127,7 +135,8 @@ module _ (t : RunRecord) (p : Placed) (new : PlacedOutcome) (place : new.place �
   abbrev HoldsBehind : List PlacedOutcome → Type 0
   HoldsBehind done = Holds t done p new.outcome × AllBefore t done p new.outcome
 
-  pub EachHolds-more : (front : List PlacedOutcome) (qs : List Placed) (os : List PlacedOutcome) → EachHolds t front qs os
+  pub EachHolds-more : (front : List PlacedOutcome) (qs : List Placed) (os : List PlacedOutcome)
+      → EachHolds t front qs os
       → HoldsBehind (front ++ os) → EachHolds t front (qs ++ p ∷ []) (os ++ new ∷ [])
   EachHolds-more front [] [] each holds =
       let here : HoldsBehind front = subst (λ (x : List PlacedOutcome). HoldsBehind x) (append-nil front) holds in
@@ -136,7 +145,8 @@ module _ (t : RunRecord) (p : Placed) (new : PlacedOutcome) (place : new.place �
     each.0,
     each.1,
     each.2,
-    EachHolds-more (front ++ o ∷ []) qs os each.3 (subst (λ (x : List PlacedOutcome). HoldsBehind x) (sym (append_assoc front (o ∷ []) os)) holds),
+    EachHolds-more (front ++ o ∷ []) qs os each.3
+        (subst (λ (x : List PlacedOutcome). HoldsBehind x) (sym (append_assoc front (o ∷ []) os)) holds),
   )
   EachHolds-more front [] (o ∷ os) each holds = absurd each
   EachHolds-more front (q ∷ qs) [] each holds = absurd each
@@ -147,8 +157,10 @@ module _ (t : RunRecord) (p : Placed) (new : PlacedOutcome) (place : new.place �
 abbrev pub IsWithin : ℕ → Outcome → Type 0
 IsWithin count o = IfSome (stood_behind o) (λ n. n ≤ count)
 
-one_within : (t : RunRecord) (done : List PlacedOutcome) (q : Placed) (o : Outcome) → Holds t done q o → IsWithin (length t.after) o
-one_within t done q (Committed tx block) h = let less : block < length t.after = slice_get_within t.after block h.sealed h.there in omega arith
+one_within : (t : RunRecord) (done : List PlacedOutcome) (q : Placed) (o : Outcome) → Holds t done q o
+    → IsWithin (length t.after) o
+one_within t done q (Committed tx block) h =
+    let less : block < length t.after = slice_get_within t.after block h.sealed h.there in omega arith
 one_within t done q (Conflict tx since named) h = absurd h
 one_within t done q (Refused tx since statement cause) h = h.fresh.not_past
 one_within t done q (DigestDiffers tx since mine given) h = absurd h
@@ -158,15 +170,18 @@ one_within t done q (IdsSpent last) h = tt
 one_within t done q (Aborted tx since) h = h.fresh.not_past
 one_within t done q OutOfMemory h = tt
 
-pub all_within : (t : RunRecord) (done : List PlacedOutcome) (qs : List Placed) (os : List PlacedOutcome) → EachHolds t done qs os
+pub all_within : (t : RunRecord) (done : List PlacedOutcome) (qs : List Placed) (os : List PlacedOutcome)
+    → EachHolds t done qs os
     → AllByRecursion (λ o. IsWithin (length t.after) o.outcome) os
 all_within t done [] [] each = tt
-all_within t done (q ∷ qs) (o ∷ os) each = (one_within t done q o.outcome each.1, all_within t (done ++ o ∷ []) qs os each.3)
+all_within t done (q ∷ qs) (o ∷ os) each =
+    (one_within t done q o.outcome each.1, all_within t (done ++ o ∷ []) qs os each.3)
 all_within t done [] (o ∷ os) each = absurd each
 all_within t done (q ∷ qs) [] each = absurd each
 
 -- there are as many outcomes as jobs
-pub as_many : (t : RunRecord) (done : List PlacedOutcome) (qs : List Placed) (os : List PlacedOutcome) → EachHolds t done qs os → length os ≡ length qs
+pub as_many : (t : RunRecord) (done : List PlacedOutcome) (qs : List Placed) (os : List PlacedOutcome)
+    → EachHolds t done qs os → length os ≡ length qs
 as_many t done [] [] each = refl
 as_many t done (q ∷ qs) (o ∷ os) each = ap (λ n. suc n) (as_many t (done ++ o ∷ []) qs os each.3)
 as_many t done [] (o ∷ os) each = absurd each

@@ -25,7 +25,8 @@ use Rattle.ledger_claims.proofs.Growing.{Grows, grown, as_many}
 use Rattle.ledger_claims.proofs.BlocksFit.{FitsBlocks-kept, FitsBlocks-next, each_behind}
 use Rattle.ledger_claims.proofs.OneMore.{attempts_one, SoFar-more}
 
-module _ (t : RunRecord) (time : TimeParts) (among : IsTimeIn t.times time) (done : List Placed) (p : Placed) (rest : List Placed) (last : ℕ)
+module _ (t : RunRecord) (time : TimeParts) (among : IsTimeIn t.times time) (done : List Placed) (p : Placed)
+    (rest : List Placed) (last : ℕ)
     (so : SoFar t done (p ∷ rest) last) where
   abbrev s : Standing
   s = standing t last
@@ -33,7 +34,8 @@ module _ (t : RunRecord) (time : TimeParts) (among : IsTimeIn t.times time) (don
   -- the jobs that are left may make one attempt more
   next_within : last + 1 ≤ greatest t.mask t.before + attempts t.jobs
   next_within =
-      let all : attempts t.jobs ≡ attempts done + (p.job.retries + 1) + attempts rest = ap attempts so.jobs ∙ attempts_one done p rest in
+      let all : attempts t.jobs ≡ attempts done + (p.job.retries + 1) + attempts rest =
+      ap attempts so.jobs ∙ attempts_one done p rest in
       let few : length t.outcomes ≡ length done = as_many t [] done t.outcomes so.outcomes in
       omega (arith, so.not_past, attempts-least done)
 
@@ -45,19 +47,28 @@ module _ (t : RunRecord) (time : TimeParts) (among : IsTimeIn t.times time) (don
     u = grown t blocks outcomes closed
 
     next-HasNumber : (tx : TxId) → tx.raw ≡ raw_id t.mask (last + 1) 0 → last + 1 < 2 ^ 64 → HasNumber u tx (last + 1)
-    next-HasNumber tx id counted = record { id = id; above = omega (arith, so.from_greatest); within = next_within; counted = counted }
+    next-HasNumber tx id counted = record {
+      id = id;
+      above = omega (arith, so.from_greatest);
+      within = next_within;
+      counted = counted;
+    }
 
     -- ---- where there is no block more
 
     module _ (same : blocks ≡ t.after) where
       next-HasNoBlock : HasNoBlock u p
       next-HasNoBlock =
-          subst (λ (x : List Block). AllByRecursion (λ b. b.info.place ≡ p.place → ⊥) (drop (length t.before) x)) (sym same)
+          subst (λ (x : List Block). AllByRecursion (λ b. b.info.place ≡ p.place → ⊥) (drop (length t.before) x))
+          (sym same)
           (all_like (λ (b : Block). IsBehind b.info.place p) (λ b. b.info.place ≡ p.place → ⊥)
           (λ b behind. behind_differs b.info.place p behind) (made t) (each_behind p rest (made t) so.behind))
 
       next-IsFresh : (since : ℕ) → since ≡ length t.after → IsFresh u since
-      next-IsFresh since is = record { from_before = omega (arith, found_front); not_past = omega (arith, ap length same) }
+      next-IsFresh since is = record {
+        from_before = omega (arith, found_front);
+        not_past = omega (arith, ap length same);
+      }
 
       next-ran : (since : ℕ) → since ≡ length t.after → ran_on u p (last + 1) since ≡ ran_next s p
       next-ran since is =
@@ -67,10 +78,16 @@ module _ (t : RunRecord) (time : TimeParts) (among : IsTimeIn t.times time) (don
   -- ---- the cases
 
   kept-Grows : (blocks : List Block) (closed : ℕ) → blocks ≡ t.after → t.closed ≤ closed → Grows t blocks [] closed
-  kept-Grows blocks closed same later = record { begins = so.blocks.begins; behind = same ∙ sym (append-nil t.after); later = later; room = λ _. refl }
+  kept-Grows blocks closed same later = record {
+    begins = so.blocks.begins;
+    behind = same ∙ sym (append-nil t.after);
+    later = later;
+    room = λ _. refl;
+  }
 
   -- no block more
-  kept : (o : Outcome) (now : Standing) (closed : ℕ) → now.blocks ≡ t.after → t.closed ≤ closed → last ≤ now.last → now.last ≤ last + 1
+  kept : (o : Outcome) (now : Standing) (closed : ℕ) → now.blocks ≡ t.after → t.closed ≤ closed → last ≤ now.last
+      → now.last ≤ last + 1
       → Holds (extended t now.blocks p o closed) t.outcomes p o → IfSome (stood_before o) (λ n. length t.after ≤ n)
       → TellsNext t.mask last now.last (told_id o) → CountsOn t.closed closed (told_count o)
       → SoFar (extended t now.blocks p o closed) (done ++ p ∷ []) rest now.last
@@ -94,7 +111,8 @@ module _ (t : RunRecord) (time : TimeParts) (among : IsTimeIn t.times time) (don
     abbrev Further : Outcome → Type 0
     Further o = SoFar (with_outcome o) (done ++ p ∷ []) rest now.last
 
-    numbered : (o : Outcome) (tx : TxId) → tx.raw ≡ raw_id t.mask (last + 1) 0 → last + 1 < 2 ^ 64 → HasNumber (with_outcome o) tx (last + 1)
+    numbered : (o : Outcome) (tx : TxId) → tx.raw ≡ raw_id t.mask (last + 1) 0 → last + 1 < 2 ^ 64
+        → HasNumber (with_outcome o) tx (last + 1)
     numbered o tx id counted = next-HasNumber now.blocks (with_outcome o).outcomes closed tx id counted
 
     blockless : (o : Outcome) → now.blocks ≡ t.after → HasNoBlock (with_outcome o) p
@@ -103,10 +121,12 @@ module _ (t : RunRecord) (time : TimeParts) (among : IsTimeIn t.times time) (don
     fresh : (o : Outcome) → now.blocks ≡ t.after → (since : ℕ) → since ≡ length t.after → IsFresh (with_outcome o) since
     fresh o same since is = next-IsFresh now.blocks (with_outcome o).outcomes closed same since is
 
-    ran_there : (o : Outcome) → now.blocks ≡ t.after → (since : ℕ) → since ≡ length t.after → ran_on (with_outcome o) p (last + 1) since ≡ ran_next s p
+    ran_there : (o : Outcome) → now.blocks ≡ t.after → (since : ℕ) → since ≡ length t.after
+        → ran_on (with_outcome o) p (last + 1) since ≡ ran_next s p
     ran_there o same since is = next-ran now.blocks (with_outcome o).outcomes closed same since is
 
-    after_Refused : (tx : TxId) (since statement : ℕ) (cause : Refusal) → Attempted s time p (Refused tx since statement cause) now → closed ≡ t.closed
+    after_Refused : (tx : TxId) (since statement : ℕ) (cause : Refusal)
+        → Attempted s time p (Refused tx since statement cause) now → closed ≡ t.closed
         → Further (Refused tx since statement cause)
     after_Refused tx since statement cause h fine =
         let o : Outcome = Refused tx since statement cause in
@@ -120,7 +140,8 @@ module _ (t : RunRecord) (time : TimeParts) (among : IsTimeIn t.times time) (don
         })
         (omega (arith, h.2)) refl fine
 
-    after_Aborted : (tx : TxId) (since : ℕ) → Attempted s time p (Aborted tx since) now → closed ≡ t.closed → Further (Aborted tx since)
+    after_Aborted : (tx : TxId) (since : ℕ) → Attempted s time p (Aborted tx since) now → closed ≡ t.closed
+        → Further (Aborted tx since)
     after_Aborted tx since h fine =
         let o : Outcome = Aborted tx since in
         drew o tx now closed h.0 h.1 later
@@ -135,7 +156,8 @@ module _ (t : RunRecord) (time : TimeParts) (among : IsTimeIn t.times time) (don
         })
         (omega (arith, h.2)) refl fine
 
-    after_StoreFault : (tx : TxId) (count : ℕ) → Attempted s time p (StoreFault tx count) now → (t.closed < closed) × (count ≡ closed) → Further (StoreFault tx count)
+    after_StoreFault : (tx : TxId) (count : ℕ) → Attempted s time p (StoreFault tx count) now
+        → (t.closed < closed) × (count ≡ closed) → Further (StoreFault tx count)
     after_StoreFault tx count h rose =
         let o : Outcome = StoreFault tx count in
         drew o tx now closed h.0 h.1 later
@@ -149,7 +171,8 @@ module _ (t : RunRecord) (time : TimeParts) (among : IsTimeIn t.times time) (don
         })
         tt refl rose
 
-    after_JournalFull : (tx : TxId) (blocks : ℕ) → Attempted s time p (JournalFull tx blocks) now → closed ≡ t.closed → Further (JournalFull tx blocks)
+    after_JournalFull : (tx : TxId) (blocks : ℕ) → Attempted s time p (JournalFull tx blocks) now → closed ≡ t.closed
+        → Further (JournalFull tx blocks)
     after_JournalFull tx blocks h fine =
         let o : Outcome = JournalFull tx blocks in
         drew o tx now closed h.0 h.1 later
@@ -163,19 +186,23 @@ module _ (t : RunRecord) (time : TimeParts) (among : IsTimeIn t.times time) (don
         })
         tt refl fine
 
-    after_IdsSpent : (spent : ℕ) → Attempted s time p (IdsSpent spent) now → closed ≡ t.closed → Further (IdsSpent spent)
+    after_IdsSpent : (spent : ℕ) → Attempted s time p (IdsSpent spent) now → closed ≡ t.closed
+        → Further (IdsSpent spent)
     after_IdsSpent spent h fine =
         let o : Outcome = IdsSpent spent in
         let same : now.blocks ≡ t.after = ap (λ (x : Standing). x.blocks) h.0 in
         let still : now.last ≡ last = ap (λ (x : Standing). x.last) h.0 in
         kept o now closed same later (omega arith) (omega arith)
-        (record { greatest_last = h.2; used = omega (arith, so.not_past, h.1); blockless = blockless o same }) tt tt fine
+        (record { greatest_last = h.2; used = omega (arith, so.not_past, h.1); blockless = blockless o same }) tt tt
+        fine
 
     after_OutOfMemory : Attempted s time p OutOfMemory now → closed ≡ t.closed → Further OutOfMemory
     after_OutOfMemory h fine =
-        kept OutOfMemory now closed h.0.blocks later (omega (arith, h.0.last)) (omega (arith, h.0.last)) (blockless OutOfMemory h.0.blocks) tt tt fine
+        kept OutOfMemory now closed h.0.blocks later (omega (arith, h.0.last)) (omega (arith, h.0.last))
+        (blockless OutOfMemory h.0.blocks) tt tt fine
 
-    after_Committed : (tx : TxId) (block : ℕ) → Attempted s time p (Committed tx block) now → closed ≡ t.closed → Further (Committed tx block)
+    after_Committed : (tx : TxId) (block : ℕ) → Attempted s time p (Committed tx block) now → closed ≡ t.closed
+        → Further (Committed tx block)
     after_Committed tx block h fine =
         let o : Outcome = Committed tx block in
         let b : Block = h.sealed in
@@ -213,8 +240,10 @@ module _ (t : RunRecord) (time : TimeParts) (among : IsTimeIn t.times time) (don
     further OutOfMemory h faults = after_OutOfMemory h faults
 
 -- A transaction of the next job takes the run one job further.
-pub extends : (t : RunRecord) (time : TimeParts) → IsTimeIn t.times time → (done : List Placed) (p : Placed) (rest : List Placed) (last : ℕ)
-    (o : Outcome) (now : Standing) (closed : ℕ) → SoFar t done (p ∷ rest) last → t.closed ≤ closed → Attempted (standing t last) time p o now
+pub extends : (t : RunRecord) (time : TimeParts) → IsTimeIn t.times time
+    → (done : List Placed) (p : Placed) (rest : List Placed) (last : ℕ)
+    (o : Outcome) (now : Standing) (closed : ℕ) → SoFar t done (p ∷ rest) last → t.closed ≤ closed
+    → Attempted (standing t last) time p o now
     → TellsFaults t.closed o closed → SoFar (extended t now.blocks p o closed) (done ++ p ∷ []) rest now.last
 extends t time among done p rest last o now closed so later attempted faults =
     further t time among done p rest last so now closed later o attempted faults

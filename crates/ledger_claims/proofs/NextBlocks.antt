@@ -19,14 +19,16 @@ use Rattle.ledger_claims.specs.Attempts.{Standing, IsNextBlock, next}
 
 -- ---- its revisions
 
-drafts_again : (h : Header) (ds : List Draft) → map draft_of (recorded_in (map (λ d. d.table) ds) (map (revision_of h) ds)) ≡ ds
+drafts_again : (h : Header) (ds : List Draft)
+    → map draft_of (recorded_in (map (λ d. d.table) ds) (map (revision_of h) ds)) ≡ ds
 drafts_again h [] = refl
 drafts_again h (d ∷ ds) = ap (λ xs. d ∷ xs) (drafts_again h ds)
 
 -- ---- what its statements make it
 
 module _ (b : Begun) (before : List Block) (place : Place) (time : TimeParts) (p : Progress) where
-  block-Means : (asked : List Request) → run b (state before) asked ≡ ran p → Means b.mask (state before) (block_of b before place time p)
+  block-Means : (asked : List Request) → run b (state before) asked ≡ ran p
+      → Means b.mask (state before) (block_of b before place time p)
   block-Means asked all = record {
     number = b.number;
     progress = p;
@@ -64,6 +66,8 @@ module _ (s : Standing) (time : TimeParts) (p : Placed) (b : Block) (is : IsNext
   pub next-IsOfJob : IsOfJob b p
   next-IsOfJob = record {
     place = next-place;
-    asked = ap (λ (x : Block). asked_in (said_in x.info.said)) block_is ∙ said_of_run (next s) (state s.blocks) p.job.statements is.made.progress is.made.runs;
+    asked =
+        ap (λ (x : Block). asked_in (said_in x.info.said)) block_is
+        ∙ said_of_run (next s) (state s.blocks) p.job.statements is.made.progress is.made.runs;
     commits = is.commits;
   }

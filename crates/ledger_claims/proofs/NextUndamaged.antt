@@ -26,7 +26,8 @@ past_greatest mask number (b ∷ bs) low = (
   past_greatest mask number bs (omega (arith, low)),
 )
 
-pub next_follows : (s : Standing) → IsStanding s → s.last + 1 < 2 ^ 64 → length s.blocks < 2 ^ 32 - 1 → CanFollow (next s) s.blocks
+pub next_follows : (s : Standing) → IsStanding s → s.last + 1 < 2 ^ 64 → length s.blocks < 2 ^ 32 - 1
+    → CanFollow (next s) s.blocks
 next_follows s standing counted room = record {
   undamaged = standing.undamaged;
   strand = strand_of_mask s.mask s.blocks standing.strand;
@@ -38,17 +39,21 @@ next_follows s standing counted room = record {
 
 -- ---- the block
 
--- It is undamaged where what the transaction did, the job's place, the time and the mask are within their ranges, and there is room
--- and a number for the block.
-pub next_is_undamaged : (s : Standing) (time : TimeParts) (p : Placed) (progress : Progress) → IsStanding s → CanMake s.mask time p.place
+-- It is undamaged where what the transaction did, the job's place, the time and the mask are within their ranges, and
+-- there is room and a number for the block.
+pub next_is_undamaged : (s : Standing) (time : TimeParts) (p : Placed) (progress : Progress) → IsStanding s
+    → CanMake s.mask time p.place
     → IsWithinAll progress → s.last + 1 < 2 ^ 64 → length s.blocks < 2 ^ 32 - 1 → ran_next s p ≡ ran progress
     → Undamaged (s.blocks ++ block_of (next s) s.blocks p.place time progress ∷ [])
 next_is_undamaged s time p progress standing can ranges counted room runs =
-    made_is_undamaged (next s) s.blocks p.place time p.job.statements progress (next_follows s standing counted room) can ranges runs
+    made_is_undamaged (next s) s.blocks p.place time p.job.statements progress (next_follows s standing counted room)
+    can ranges runs
 
 -- so it is the job's next block, where the job is to be committed
-pub next_block_is : (s : Standing) (time : TimeParts) (p : Placed) (progress : Progress) → IsStanding s → CanMake s.mask time p.place
-    → IsWithinAll progress → s.last + 1 < 2 ^ 64 → length s.blocks < 2 ^ 32 - 1 → ran_next s p ≡ ran progress → p.job.abort ≡ false
+pub next_block_is : (s : Standing) (time : TimeParts) (p : Placed) (progress : Progress) → IsStanding s
+    → CanMake s.mask time p.place
+    → IsWithinAll progress → s.last + 1 < 2 ^ 64 → length s.blocks < 2 ^ 32 - 1 → ran_next s p ≡ ran progress
+    → p.job.abort ≡ false
     → IsNextBlock s time p (block_of (next s) s.blocks p.place time progress)
 next_block_is s time p progress standing can ranges counted room runs commits = record {
   made = record { progress = progress; runs = runs; block_is = refl };

@@ -28,7 +28,8 @@ ids_differ mask m n less same =
 
 -- ---- the greatest number, and how many attempts there may be
 
-pub greatest-append : (mask : ℕ) (bs cs : List Block) → greatest mask (bs ++ cs) ≡ max (greatest mask bs) (greatest mask cs)
+pub greatest-append : (mask : ℕ) (bs cs : List Block)
+    → greatest mask (bs ++ cs) ≡ max (greatest mask bs) (greatest mask cs)
 greatest-append mask [] cs = omega arith
 greatest-append mask (b ∷ bs) cs = omega (arith, greatest-append mask bs cs)
 
@@ -43,29 +44,38 @@ attempts-least (p ∷ ps) = omega (arith, attempts-least ps)
 
 -- ---- what outcomes tell
 
-pub told_ids-more : (os : List PlacedOutcome) (o : PlacedOutcome) → told_ids (os ++ o ∷ []) ≡ told_ids os ++ told_id o.outcome
+pub told_ids-more : (os : List PlacedOutcome) (o : PlacedOutcome)
+    → told_ids (os ++ o ∷ []) ≡ told_ids os ++ told_id o.outcome
 told_ids-more [] o = append-nil (told_id o.outcome)
-told_ids-more (u ∷ os) o = ap (λ xs. told_id u.outcome ++ xs) (told_ids-more os o) ∙ sym (append_assoc (told_id u.outcome) (told_ids os) (told_id o.outcome))
+told_ids-more (u ∷ os) o =
+    ap (λ xs. told_id u.outcome ++ xs) (told_ids-more os o)
+    ∙ sym (append_assoc (told_id u.outcome) (told_ids os) (told_id o.outcome))
 
-pub told_counts-more : (os : List PlacedOutcome) (o : PlacedOutcome) → told_counts (os ++ o ∷ []) ≡ told_counts os ++ told_count o.outcome
+pub told_counts-more : (os : List PlacedOutcome) (o : PlacedOutcome)
+    → told_counts (os ++ o ∷ []) ≡ told_counts os ++ told_count o.outcome
 told_counts-more [] o = append-nil (told_count o.outcome)
 told_counts-more (u ∷ os) o =
-    ap (λ xs. told_count u.outcome ++ xs) (told_counts-more os o) ∙ sym (append_assoc (told_count u.outcome) (told_counts os) (told_count o.outcome))
+    ap (λ xs. told_count u.outcome ++ xs) (told_counts-more os o)
+    ∙ sym (append_assoc (told_count u.outcome) (told_counts os) (told_count o.outcome))
 
 -- ---- one number more that differs from the others
 
 apart : (x y : ℕ) → (x ≡ y → ⊥) → (x == y) ≡ false
 apart x y h = grind (arith, nat_tests)
 
-none_step : (here was now : Bool) → (not was ≡ true → not now ≡ true) → not (here || was) ≡ true → not (here || now) ≡ true
+none_step : (here was now : Bool) → (not was ≡ true → not now ≡ true) → not (here || was) ≡ true
+    → not (here || now) ≡ true
 none_step true was now f h = h
 none_step false was now f h = f h
 
-none_more : (x y : ℕ) (ys : List ℕ) → (x == y) ≡ false → not (list_any (λ z. x == z) ys) ≡ true → not (list_any (λ z. x == z) (ys ++ y ∷ [])) ≡ true
+none_more : (x y : ℕ) (ys : List ℕ) → (x == y) ≡ false → not (list_any (λ z. x == z) ys) ≡ true
+    → not (list_any (λ z. x == z) (ys ++ y ∷ [])) ≡ true
 none_more x y [] e h = rw e refl
-none_more x y (z ∷ zs) e h = none_step (x == z) (list_any (λ w. x == w) zs) (list_any (λ w. x == w) (zs ++ y ∷ [])) (none_more x y zs e) h
+none_more x y (z ∷ zs) e h =
+    none_step (x == z) (list_any (λ w. x == w) zs) (list_any (λ w. x == w) (zs ++ y ∷ [])) (none_more x y zs e) h
 
-pub differ_more : (xs : List ℕ) (x : ℕ) → all_differ xs ≡ true → AllByRecursion (λ y. y ≡ x → ⊥) xs → all_differ (xs ++ x ∷ []) ≡ true
+pub differ_more : (xs : List ℕ) (x : ℕ) → all_differ xs ≡ true → AllByRecursion (λ y. y ≡ x → ⊥) xs
+    → all_differ (xs ++ x ∷ []) ≡ true
 differ_more [] x e h = refl
 differ_more (y ∷ ys) x e h =
     let parts = and_parts (not (list_any (λ z. y == z) ys)) (all_differ ys) e in
@@ -80,9 +90,11 @@ pub drawn_before : (mask last raw : ℕ) → IsDrawn mask last raw → raw ≡ r
 drawn_before mask last raw h same = ids_differ mask h.number (last + 1) (omega (arith, h.not_past)) (sym h.id ∙ same)
 
 -- what is told of each transaction is told of all
-pub each_told : (P : ℕ → Type 0) (os : List PlacedOutcome) → AllByRecursion P (told_ids os) → AllByRecursion (λ o. AllByRecursion P (told_id o.outcome)) os
+pub each_told : (P : ℕ → Type 0) (os : List PlacedOutcome) → AllByRecursion P (told_ids os)
+    → AllByRecursion (λ o. AllByRecursion P (told_id o.outcome)) os
 each_told P [] h = tt
-each_told P (o ∷ os) h = (all_front P (told_id o.outcome) (told_ids os) h, each_told P os (all_rest P (told_id o.outcome) (told_ids os) h))
+each_told P (o ∷ os) h =
+    (all_front P (told_id o.outcome) (told_ids os) h, each_told P os (all_rest P (told_id o.outcome) (told_ids os) h))
 
 -- what is told of the next transaction: nothing, or its id
 abbrev pub TellsNext : ℕ → ℕ → ℕ → List ℕ → Type 0
@@ -104,13 +116,16 @@ module _ (mask last now : ℕ) (later : last ≤ now) (xs : List ℕ) (drawn : A
   pub ids_more : (new : List ℕ) → TellsNext mask last now new → all_differ xs ≡ true → all_differ (xs ++ new) ≡ true
   ids_more [] h e = ap all_differ (append-nil xs) ∙ e
   ids_more (x ∷ []) h e =
-      differ_more xs x e (all_like (IsDrawn mask last) (λ y. y ≡ x → ⊥) (λ y was same. drawn_before mask last y was (same ∙ h.0)) xs drawn)
+      differ_more xs x e (all_like (IsDrawn mask last) (λ y. y ≡ x → ⊥)
+      (λ y was same. drawn_before mask last y was (same ∙ h.0)) xs drawn)
   ids_more (x ∷ y ∷ more) h e = absurd h
 
 -- the numbers in front are smaller
-next_greater : (mask last m n : ℕ) → IsDrawn mask last m → n ≡ raw_id mask (last + 1) 0 → transaction_in mask m < transaction_in mask n
+next_greater : (mask last m n : ℕ) → IsDrawn mask last m → n ≡ raw_id mask (last + 1) 0
+    → transaction_in mask m < transaction_in mask n
 next_greater mask last m n was is =
-    let one : transaction_in mask m ≡ was.number = ap (transaction_in mask) was.id ∙ transaction_of_id mask was.number in
+    let one : transaction_in mask m ≡ was.number =
+    ap (transaction_in mask) was.id ∙ transaction_of_id mask was.number in
     let two : transaction_in mask n ≡ last + 1 = ap (transaction_in mask) is ∙ transaction_of_id mask (last + 1) in
     omega (arith, was.not_past)
 
@@ -122,7 +137,8 @@ one_greater mask last now m (x ∷ y ∷ more) was h = absurd h
 
 -- ---- the counts of failures that are told
 
-HasRisen-later : (opened closed after : ℕ) → closed ≤ after → (count : ℕ) → HasRisen opened closed count → HasRisen opened after count
+HasRisen-later : (opened closed after : ℕ) → closed ≤ after → (count : ℕ) → HasRisen opened closed count
+    → HasRisen opened after count
 HasRisen-later opened closed after later count h = record { rose = h.rose; not_past = omega (arith, h.not_past) }
 
 risen_before : (opened closed count x : ℕ) → closed < x → HasRisen opened closed count → count ≡ x → ⊥
@@ -135,13 +151,15 @@ CountsOn closed after (x ∷ []) = (closed < after) × (x ≡ after)
 CountsOn closed after (x ∷ y ∷ more) = ⊥
 
 -- the greatest of them
-greatest_count-more : (least : ℕ) (xs : List ℕ) (x : ℕ) → greatest_count least xs ≤ x → greatest_count least (xs ++ x ∷ []) ≡ x
+greatest_count-more : (least : ℕ) (xs : List ℕ) (x : ℕ) → greatest_count least xs ≤ x
+    → greatest_count least (xs ++ x ∷ []) ≡ x
 greatest_count-more least [] x h = omega arith
 greatest_count-more least (y ∷ ys) x h =
     let e : greatest_count least (ys ++ x ∷ []) ≡ x = greatest_count-more least ys x (omega arith) in
     omega arith
 
-pub greatest_on : (opened closed after : ℕ) (xs new : List ℕ) → closed ≡ greatest_count opened xs → CountsOn closed after new
+pub greatest_on : (opened closed after : ℕ) (xs new : List ℕ) → closed ≡ greatest_count opened xs
+    → CountsOn closed after new
     → after ≡ greatest_count opened (xs ++ new)
 greatest_on opened closed after xs [] is h = h ∙ is ∙ ap (greatest_count opened) (sym (append-nil xs))
 greatest_on opened closed after xs (x ∷ []) is h =
@@ -149,9 +167,11 @@ greatest_on opened closed after xs (x ∷ []) is h =
     sym h.1 ∙ sym (greatest_count-more opened xs x low)
 greatest_on opened closed after xs (x ∷ y ∷ more) is h = absurd h
 
-module _ (opened closed after : ℕ) (opens : opened ≤ closed) (later : closed ≤ after) (xs : List ℕ) (risen : AllByRecursion (HasRisen opened closed) xs) where
+module _ (opened closed after : ℕ) (opens : opened ≤ closed) (later : closed ≤ after) (xs : List ℕ)
+    (risen : AllByRecursion (HasRisen opened closed) xs) where
   still_risen : AllByRecursion (HasRisen opened after) xs
-  still_risen = all_like (HasRisen opened closed) (HasRisen opened after) (HasRisen-later opened closed after later) xs risen
+  still_risen =
+      all_like (HasRisen opened closed) (HasRisen opened after) (HasRisen-later opened closed after later) xs risen
 
   pub risen_more : (new : List ℕ) → CountsOn closed after new → AllByRecursion (HasRisen opened after) (xs ++ new)
   risen_more [] h = subst (λ (zs : List ℕ). AllByRecursion (HasRisen opened after) zs) (sym (append-nil xs)) still_risen
@@ -163,5 +183,6 @@ module _ (opened closed after : ℕ) (opens : opened ≤ closed) (later : closed
   pub counts_more : (new : List ℕ) → CountsOn closed after new → all_differ xs ≡ true → all_differ (xs ++ new) ≡ true
   counts_more [] h e = ap all_differ (append-nil xs) ∙ e
   counts_more (x ∷ []) h e =
-      differ_more xs x e (all_like (HasRisen opened closed) (λ y. y ≡ x → ⊥) (λ y was same. risen_before opened closed y x (omega (arith, h.0, h.1)) was same) xs risen)
+      differ_more xs x e (all_like (HasRisen opened closed) (λ y. y ≡ x → ⊥)
+      (λ y was same. risen_before opened closed y x (omega (arith, h.0, h.1)) was same) xs risen)
   counts_more (x ∷ y ∷ more) h e = absurd h

@@ -30,13 +30,17 @@ AreOf p bs = AllByRecursion (λ b. b.info.place ≡ p.place) bs
 
 -- blocks of a job aren't those of another place
 others : (p q : Placed) (bs : List Block) → (q.place ≡ p.place → ⊥) → AreOf p bs → AllByRecursion (IsNotOf q) bs
-others p q bs differs own = all_like (λ (b : Block). b.info.place ≡ p.place) (IsNotOf q) (λ b is same. differs (sym same ∙ is)) bs own
+others p q bs differs own =
+    all_like (λ (b : Block). b.info.place ≡ p.place) (IsNotOf q) (λ b is same. differs (sym same ∙ is)) bs own
 
-pub attempts_one : (done : List Placed) (p : Placed) (rest : List Placed) → attempts (done ++ p ∷ rest) ≡ attempts done + (p.job.retries + 1) + attempts rest
+pub attempts_one : (done : List Placed) (p : Placed) (rest : List Placed)
+    → attempts (done ++ p ∷ rest) ≡ attempts done + (p.job.retries + 1) + attempts rest
 attempts_one done p rest = omega (arith, attempts-append done (p ∷ rest))
 
-module _ (t : RunRecord) (done : List Placed) (p : Placed) (rest : List Placed) (last : ℕ) (so : SoFar t done (p ∷ rest) last)
-    (outcome : Outcome) (blocks more : List Block) (closed now : ℕ) (g : Grows t blocks more closed) (own : AreOf p more) where
+module _ (t : RunRecord) (done : List Placed) (p : Placed) (rest : List Placed) (last : ℕ)
+    (so : SoFar t done (p ∷ rest) last)
+    (outcome : Outcome) (blocks more : List Block) (closed now : ℕ) (g : Grows t blocks more closed)
+    (own : AreOf p more) where
   abbrev u : RunRecord
   u = extended t blocks p outcome closed
 
@@ -49,31 +53,39 @@ module _ (t : RunRecord) (done : List Placed) (p : Placed) (rest : List Placed) 
   behind_on : AreBehind (made u) rest
   behind_on =
       subst (λ (x : List Block). AreBehind x rest) (sym (made_on t blocks more u.outcomes closed g))
-      (all_append (λ b. AllByRecursion (IsBehind b.info.place) rest) (made t) more (others_behind p rest (made t) so.behind)
+      (all_append (λ b. AllByRecursion (IsBehind b.info.place) rest) (made t) more
+      (others_behind p rest (made t) so.behind)
       (behind_own p rest more (InOrder-rest done (p ∷ rest) order) own))
 
-  outcomes_on : Holds u t.outcomes p outcome → AllBefore t t.outcomes p outcome → EachHolds u [] (done ++ p ∷ []) u.outcomes
+  outcomes_on : Holds u t.outcomes p outcome → AllBefore t t.outcomes p outcome
+      → EachHolds u [] (done ++ p ∷ []) u.outcomes
   outcomes_on holds before =
       let differ : AllByRecursion (λ q. AllByRecursion (IsNotOf q) more) done =
       all_like (λ (q : Placed). IsBehind q.place p) (λ q. AllByRecursion (IsNotOf q) more)
       (λ q behind. others p q more (behind_differs q.place p behind) own) done (InOrder-front done p rest order) in
-      EachHolds-more u p new refl [] done t.outcomes (EachHolds-on t blocks more u.outcomes closed g [] done t.outcomes differ so.outcomes) (holds, before)
+      EachHolds-more u p new refl [] done t.outcomes
+      (EachHolds-on t blocks more u.outcomes closed g [] done t.outcomes differ so.outcomes) (holds, before)
 
   -- the jobs in front ran before this one
   all_before : IfSome (stood_before outcome) (λ n. length t.after ≤ n) → TellsNext t.mask last now (told_id outcome)
       → AllBefore t t.outcomes p outcome
   all_before stood tells =
-      all_both (λ o. AllByRecursion (IsDrawn t.mask last) (told_id o.outcome)) (λ o. IsWithin (length t.after) o.outcome)
+      all_both (λ o. AllByRecursion (IsDrawn t.mask last) (told_id o.outcome))
+      (λ o. IsWithin (length t.after) o.outcome)
       (λ o. HaveOneWorker t.workers o.place.session p.place.session → RunsBefore t.mask o.outcome outcome)
       (λ o was within _. record {
-        numbers = all_like (IsDrawn t.mask last) (λ m. AllByRecursion (λ n. transaction_in t.mask m < transaction_in t.mask n) (told_id outcome))
+        numbers =
+            all_like (IsDrawn t.mask last)
+            (λ m. AllByRecursion (λ n. transaction_in t.mask m < transaction_in t.mask n) (told_id outcome))
             (λ m drawn. one_greater t.mask last now m (told_id outcome) drawn tells) (told_id o.outcome) was;
         blocks = stood_on (length t.after) (stood_behind o.outcome) (stood_before outcome) within stood;
       })
       t.outcomes (each_told (IsDrawn t.mask last) t.outcomes so.drawn) (all_within t [] done t.outcomes so.outcomes)
 
-  pub SoFar-more : FitsBlocks u → last ≤ now → now ≤ last + 1 → Holds u t.outcomes p outcome → IfSome (stood_before outcome) (λ n. length t.after ≤ n)
-      → TellsNext t.mask last now (told_id outcome) → CountsOn t.closed closed (told_count outcome) → SoFar u (done ++ p ∷ []) rest now
+  pub SoFar-more : FitsBlocks u → last ≤ now → now ≤ last + 1 → Holds u t.outcomes p outcome
+      → IfSome (stood_before outcome) (λ n. length t.after ≤ n)
+      → TellsNext t.mask last now (told_id outcome) → CountsOn t.closed closed (told_count outcome)
+      → SoFar u (done ++ p ∷ []) rest now
   SoFar-more fits later most holds stood tells counts =
       record {
         jobs = so.jobs ∙ sym (append_assoc done (p ∷ []) rest);
@@ -81,20 +93,26 @@ module _ (t : RunRecord) (done : List Placed) (p : Placed) (rest : List Placed) 
         blocks = fits;
         behind = behind_on;
         outcomes = outcomes_on holds (all_before stood tells);
-        numbers = ap all_differ (told_ids-more t.outcomes new) ∙ ids_more t.mask last now later (told_ids t.outcomes) so.drawn (told_id outcome) tells so.numbers;
+        numbers =
+            ap all_differ (told_ids-more t.outcomes new)
+            ∙ ids_more t.mask last now later (told_ids t.outcomes) so.drawn (told_id outcome) tells so.numbers;
         drawn =
             subst (λ (x : List ℕ). AllByRecursion (IsDrawn t.mask now) x) (sym (told_ids-more t.outcomes new))
             (drawn_more t.mask last now later (told_ids t.outcomes) so.drawn (told_id outcome) tells);
         counts =
             ap all_differ (told_counts-more t.outcomes new)
-            ∙ counts_more t.opened t.closed closed so.from_opened g.later (told_counts t.outcomes) so.risen (told_count outcome) counts so.counts;
+            ∙ counts_more t.opened t.closed closed so.from_opened g.later (told_counts t.outcomes) so.risen
+            (told_count outcome) counts so.counts;
         risen =
             subst (λ (x : List ℕ). AllByRecursion (HasRisen t.opened closed) x) (sym (told_counts-more t.outcomes new))
-            (risen_more t.opened t.closed closed so.from_opened g.later (told_counts t.outcomes) so.risen (told_count outcome) counts);
+            (risen_more t.opened t.closed closed so.from_opened g.later (told_counts t.outcomes) so.risen
+            (told_count outcome) counts);
         from_opened = omega (arith, so.from_opened, g.later);
         faults =
             greatest_on t.opened t.closed closed (told_counts t.outcomes) (told_count outcome) so.faults counts
             ∙ ap (greatest_count t.opened) (sym (told_counts-more t.outcomes new));
         from_greatest = omega (arith, so.from_greatest);
-        not_past = let one : length (t.outcomes ++ new ∷ []) ≡ length t.outcomes + 1 = length-append t.outcomes (new ∷ []) in omega (arith, so.not_past);
+        not_past =
+            let one : length (t.outcomes ++ new ∷ [])
+            ≡ length t.outcomes + 1 = length-append t.outcomes (new ∷ []) in omega (arith, so.not_past);
       }

@@ -18,21 +18,26 @@ IsFrom session transaction p = (p.place.session ≡ session) × (transaction ≤
 abbrev IsOfLater : ℕ → Placed → Type 0
 IsOfLater session p = session ≤ p.place.session
 
-all_from : (session transaction least : ℕ) (jobs : List Job) → least ≤ transaction → AllByRecursion (IsFrom session least) (placed_from session transaction jobs)
+all_from : (session transaction least : ℕ) (jobs : List Job) → least ≤ transaction
+    → AllByRecursion (IsFrom session least) (placed_from session transaction jobs)
 all_from session transaction least [] h = tt
-all_from session transaction least (j ∷ js) h = ((refl_of session, h), all_from session (transaction + 1) least js (omega arith))
+all_from session transaction least (j ∷ js) h =
+    ((refl_of session, h), all_from session (transaction + 1) least js (omega arith))
   where
     refl_of : (n : ℕ) → n ≡ n
     refl_of n = omega arith
 
-all_later : (session least : ℕ) (script : List (List Job)) → least ≤ session → AllByRecursion (IsOfLater least) (all_placed_from session script)
+all_later : (session least : ℕ) (script : List (List Job)) → least ≤ session
+    → AllByRecursion (IsOfLater least) (all_placed_from session script)
 all_later session least [] h = tt
 all_later session least (jobs ∷ more) h =
     all_append (IsOfLater least) (placed_from session 1 jobs) (all_placed_from (session + 1) more)
-    (all_like (IsFrom session 1) (IsOfLater least) (λ p of. omega (arith, of.0)) (placed_from session 1 jobs) (all_from session 1 1 jobs (omega arith)))
+    (all_like (IsFrom session 1) (IsOfLater least) (λ p of. omega (arith, of.0)) (placed_from session 1 jobs)
+    (all_from session 1 1 jobs (omega arith)))
     (all_later (session + 1) least more (omega arith))
 
-behind_same : (session transaction : ℕ) (p : Placed) → IsFrom session (transaction + 1) p → IsBehind (record { session = session; transaction = transaction }) p
+behind_same : (session transaction : ℕ) (p : Placed) → IsFrom session (transaction + 1) p
+    → IsBehind (record { session = session; transaction = transaction }) p
 behind_same session transaction p of same = omega (arith, of.1)
 
 behind_later : (place : Place) (p : Placed) → IsOfLater (place.session + 1) p → IsBehind place p
@@ -42,11 +47,13 @@ session-InOrder : (session transaction : ℕ) (jobs : List Job) → InOrder (pla
 session-InOrder session transaction [] = tt
 session-InOrder session transaction (j ∷ js) = (
   all_like (IsFrom session (transaction + 1)) (IsBehind (record { session = session; transaction = transaction }))
-      (behind_same session transaction) (placed_from session (transaction + 1) js) (all_from session (transaction + 1) (transaction + 1) js (omega arith)),
+      (behind_same session transaction) (placed_from session (transaction + 1) js)
+      (all_from session (transaction + 1) (transaction + 1) js (omega arith)),
   session-InOrder session (transaction + 1) js,
 )
 
-InOrder-append : (ps qs : List Placed) → InOrder ps → InOrder qs → AllByRecursion (λ p. AllByRecursion (IsBehind p.place) qs) ps → InOrder (ps ++ qs)
+InOrder-append : (ps qs : List Placed) → InOrder ps → InOrder qs
+    → AllByRecursion (λ p. AllByRecursion (IsBehind p.place) qs) ps → InOrder (ps ++ qs)
 InOrder-append [] qs first second behind = second
 InOrder-append (p ∷ ps) qs first second behind =
     (all_append (IsBehind p.place) ps qs first.0 behind.0, InOrder-append ps qs first.1 second behind.1)
@@ -55,10 +62,12 @@ sessions-InOrder : (session : ℕ) (script : List (List Job)) → InOrder (all_p
 sessions-InOrder session [] = tt
 sessions-InOrder session (jobs ∷ more) =
     let later = all_placed_from (session + 1) more in
-    InOrder-append (placed_from session 1 jobs) later (session-InOrder session 1 jobs) (sessions-InOrder (session + 1) more)
+    InOrder-append (placed_from session 1 jobs) later (session-InOrder session 1 jobs)
+    (sessions-InOrder (session + 1) more)
     (all_like (IsFrom session 1) (λ p. AllByRecursion (IsBehind p.place) later)
     (λ p of. all_like (IsOfLater (session + 1)) (IsBehind p.place)
-    (λ q after. behind_later p.place q (omega (arith, of.0, after))) later (all_later (session + 1) (session + 1) more (omega arith)))
+    (λ q after. behind_later p.place q (omega (arith, of.0, after))) later
+    (all_later (session + 1) (session + 1) more (omega arith)))
     (placed_from session 1 jobs) (all_from session 1 1 jobs (omega arith)))
 
 pub InOrder-all_placed : (script : List (List Job)) → InOrder (all_placed script)
@@ -70,12 +79,14 @@ pub InOrder-rest : (ps qs : List Placed) → InOrder (ps ++ qs) → InOrder qs
 InOrder-rest [] qs order = order
 InOrder-rest (p ∷ ps) qs order = InOrder-rest ps qs order.1
 
-first_behind : (P : Placed → Type 0) (ps : List Placed) (q : Placed) (qs : List Placed) → AllByRecursion P (ps ++ q ∷ qs) → P q
+first_behind : (P : Placed → Type 0) (ps : List Placed) (q : Placed) (qs : List Placed)
+    → AllByRecursion P (ps ++ q ∷ qs) → P q
 first_behind P [] q qs h = h.0
 first_behind P (p ∷ ps) q qs h = first_behind P ps q qs h.1
 
 -- the job is behind each one in front of it
-pub InOrder-front : (ps : List Placed) (q : Placed) (qs : List Placed) → InOrder (ps ++ q ∷ qs) → AllByRecursion (λ p. IsBehind p.place q) ps
+pub InOrder-front : (ps : List Placed) (q : Placed) (qs : List Placed) → InOrder (ps ++ q ∷ qs)
+    → AllByRecursion (λ p. IsBehind p.place q) ps
 InOrder-front [] q qs order = tt
 InOrder-front (p ∷ ps) q qs order = (first_behind (IsBehind p.place) ps q qs order.0, InOrder-front ps q qs order.1)
 
@@ -86,7 +97,8 @@ behind_differs place p behind same =
     omega arith
 
 -- blocks of the job itself have those behind it behind them
-pub behind_own : (p : Placed) (rest : List Placed) (bs : List Block) → InOrder (p ∷ rest) → AllByRecursion (λ b. b.info.place ≡ p.place) bs → AreBehind bs rest
+pub behind_own : (p : Placed) (rest : List Placed) (bs : List Block) → InOrder (p ∷ rest)
+    → AllByRecursion (λ b. b.info.place ≡ p.place) bs → AreBehind bs rest
 behind_own p rest bs order own =
     all_like (λ (b : Block). b.info.place ≡ p.place) (λ b. AllByRecursion (IsBehind b.info.place) rest)
     (λ b is. subst (λ (x : Place). AllByRecursion (IsBehind x) rest) (sym is) order.0) bs own

@@ -23,7 +23,8 @@ found t = record t { after = t.before; outcomes = [] }
 none_made : (bs : List Block) → [] ≡ drop (length bs) bs
 none_made bs = sym (drop_of_length-le bs {i = length bs} (omega arith))
 
-found-FitsBlocks : (t : RunRecord) → HasMask t → Undamaged t.before → mask_of t.mask t.before ≡ t.mask → FitsBlocks (found t)
+found-FitsBlocks : (t : RunRecord) → HasMask t → Undamaged t.before → mask_of t.mask t.before ≡ t.mask
+    → FitsBlocks (found t)
 found-FitsBlocks t masked undamaged strand =
     let front : List Block = take (length t.before) t.before in
     record {
@@ -37,7 +38,8 @@ found-FitsBlocks t masked undamaged strand =
       once = subst (λ (x : List Block). InSessionOrder x) (none_made t.before) tt;
     }
 
-found-SoFar : (t : RunRecord) (last : ℕ) → InOrder t.jobs → HasMask t → Undamaged t.before → mask_of t.mask t.before ≡ t.mask
+found-SoFar : (t : RunRecord) (last : ℕ) → InOrder t.jobs → HasMask t → Undamaged t.before
+    → mask_of t.mask t.before ≡ t.mask
     → t.closed ≡ t.opened → last ≡ greatest t.mask t.before → SoFar (found t) [] t.jobs last
 found-SoFar t last order masked undamaged strand opens is = record {
   jobs = refl;
@@ -56,19 +58,24 @@ found-SoFar t last order masked undamaged strand opens is = record {
 }
 
 -- The ledger stands for the blocks that the run found, and no job is done.
-pub starts : (t : RunRecord) (s : Standing) → InOrder t.jobs → HasMask t → t.after ≡ t.before → t.outcomes ≡ [] → t.closed ≡ t.opened
-    → IsStanding s → s.blocks ≡ t.before → s.mask ≡ t.mask → s.last ≡ greatest t.mask t.before → SoFar t [] t.jobs s.last
+pub starts : (t : RunRecord) (s : Standing) → InOrder t.jobs → HasMask t → t.after ≡ t.before → t.outcomes ≡ []
+    → t.closed ≡ t.opened
+    → IsStanding s → s.blocks ≡ t.before → s.mask ≡ t.mask → s.last ≡ greatest t.mask t.before
+    → SoFar t [] t.jobs s.last
 starts t s order masked same none opens is blocks masks last =
     let undamaged : Undamaged t.before = subst (λ (x : List Block). Undamaged x) blocks is.undamaged in
     let strand : mask_of t.mask t.before ≡ t.mask = (λ i. mask_of (sym masks i) (sym blocks i)) ∙ is.strand ∙ masks in
     let as_found : found t ≡ t = λ i. record t { after = sym same i; outcomes = sym none i } in
-    subst (λ (x : RunRecord). SoFar x [] t.jobs s.last) as_found (found-SoFar t s.last order masked undamaged strand opens last)
+    subst (λ (x : RunRecord). SoFar x [] t.jobs s.last) as_found
+    (found-SoFar t s.last order masked undamaged strand opens last)
 
 -- ---- from one job to the next
 
 -- The run is one job further, what the ledger stands for is sound, and it is what the record says.
-pub goes_on : (t : RunRecord) (time : TimeParts) → IsTimeIn t.times time → (done : List Placed) (p : Placed) (rest : List Placed) (last : ℕ)
-    (o : Outcome) (now : Standing) (closed : ℕ) → SoFar t done (p ∷ rest) last → IsStanding (standing t last) → t.closed ≤ closed
+pub goes_on : (t : RunRecord) (time : TimeParts) → IsTimeIn t.times time
+    → (done : List Placed) (p : Placed) (rest : List Placed) (last : ℕ)
+    (o : Outcome) (now : Standing) (closed : ℕ) → SoFar t done (p ∷ rest) last → IsStanding (standing t last)
+    → t.closed ≤ closed
     → Attempted (standing t last) time p o now → TellsFaults t.closed o closed
     → SoFar (extended t now.blocks p o closed) (done ++ p ∷ []) rest now.last
     × IsStanding now

@@ -53,12 +53,15 @@ begun time blocks p opened = record {
 abbrev stood : List Block → Standing
 stood blocks = record { mask = mask_of 0 blocks; last = greatest (mask_of 0 blocks) blocks; blocks = blocks }
 
-one_run : (time : TimeParts) (blocks : List Block) (p : Placed) (opened closed : ℕ) (o : Outcome) (now : Standing) → Undamaged blocks → opened ≤ closed
-    → Attempted (stood blocks) time p o now → TellsFaults opened o closed → Fits (extended (begun time blocks p opened) now.blocks p o closed)
+one_run : (time : TimeParts) (blocks : List Block) (p : Placed) (opened closed : ℕ) (o : Outcome) (now : Standing)
+    → Undamaged blocks → opened ≤ closed
+    → Attempted (stood blocks) time p o now → TellsFaults opened o closed
+    → Fits (extended (begun time blocks p opened) now.blocks p o closed)
 one_run time blocks p opened closed o now undamaged later attempted faults =
     let t : RunRecord = begun time blocks p opened in
     let is = found-IsStanding 0 blocks undamaged in
-    let first : SoFar t [] (p ∷ []) (stood blocks).last = starts t (stood blocks) (tt, tt) refl refl refl refl is refl refl refl in
+    let first : SoFar t [] (p ∷ []) (stood blocks).last =
+    starts t (stood blocks) (tt, tt) refl refl refl refl is refl refl refl in
     let on = goes_on t time refl [] p [] (stood blocks).last o now closed first is later attempted faults in
     ends (extended t now.blocks p o closed) (p ∷ []) now.last on.0
 
@@ -72,18 +75,21 @@ of_one_worker : (first second : ℕ) → HaveOneWorker 1 first second
 of_one_worker first second = mod-one first ∙ sym (mod-one second)
 
 -- a session that was run backwards: the first job is refused for the table that the second one made
-backwards : (t : RunRecord) (p q : Placed) (a b : TxId) (cause : Refusal) → HaveOneWorker t.workers p.place.session q.place.session
+backwards : (t : RunRecord) (p q : Placed) (a b : TxId) (cause : Refusal)
+    → HaveOneWorker t.workers p.place.session q.place.session
     → EachHolds t [] (p ∷ q ∷ []) (tells p (Refused a 1 1 cause) ∷ tells q (Committed b 0) ∷ []) → ⊥
 backwards t p q a b cause one each = let bad : 1 ≤ 0 = (each.3.2.0 one).blocks in omega arith
 
 -- a job that was refused on fewer blocks than the one in front left
-overtaken : (t : RunRecord) (p q : Placed) (a b : TxId) (cause : Refusal) → HaveOneWorker t.workers p.place.session q.place.session
+overtaken : (t : RunRecord) (p q : Placed) (a b : TxId) (cause : Refusal)
+    → HaveOneWorker t.workers p.place.session q.place.session
     → EachHolds t [] (p ∷ q ∷ []) (tells p (Committed a 0) ∷ tells q (Refused b 0 1 cause) ∷ []) → ⊥
 overtaken t p q a b cause one each = let bad : 0 + 1 ≤ 0 = (each.3.2.0 one).blocks in omega arith
 
 -- a failure of the store that no outcome tells
 untold : (t : RunRecord) → Fits t → told_counts t.outcomes ≡ [] → t.opened < t.closed → ⊥
-untold t fits none rose = let same : t.closed ≡ t.opened = fits.faults ∙ ap (greatest_count t.opened) none in omega arith
+untold t fits none rose =
+    let same : t.closed ≡ t.opened = fits.faults ∙ ap (greatest_count t.opened) none in omega arith
 
 -- a failure that is told as want of memory, and one behind which the block is told as committed
 hidden : (before after : ℕ) → before < after → TellsFaults before OutOfMemory after → ⊥

@@ -15,7 +15,8 @@ use Rattle.ledger_claims.proofs.NextBlocks.{next-id, next-strand}
 use Rattle.ledger_claims.proofs.Numbers.{greatest-append, transaction_of_id}
 
 -- the same blocks, and a last number that isn't below the one before
-kept-IsStanding : (s now : Standing) → IsStanding s → now.mask ≡ s.mask → now.blocks ≡ s.blocks → s.last ≤ now.last → now.last < 2 ^ 64 → IsStanding now
+kept-IsStanding : (s now : Standing) → IsStanding s → now.mask ≡ s.mask → now.blocks ≡ s.blocks → s.last ≤ now.last
+    → now.last < 2 ^ 64 → IsStanding now
 kept-IsStanding s now is masks same later counted =
     let numbers : greatest now.mask now.blocks ≡ greatest s.mask s.blocks = λ i. greatest (masks i) (same i) in
     record {
@@ -29,8 +30,11 @@ kept-IsStanding s now is masks same later counted =
 sealed-IsStanding : (s : Standing) (time : TimeParts) (p : Placed) (b : Block) → IsStanding s → IsNextBlock s time p b
     → IsStanding (record { mask = s.mask; last = s.last + 1; blocks = s.blocks ++ b ∷ [] })
 sealed-IsStanding s time p b is next =
-    let number : transaction_in s.mask b.header.tx.raw ≡ s.last + 1 = ap (transaction_in s.mask) (next-id s time p b next) ∙ transaction_of_id s.mask (s.last + 1) in
-    let most : greatest s.mask (s.blocks ++ b ∷ []) ≡ max (greatest s.mask s.blocks) (max (transaction_in s.mask b.header.tx.raw) 0) = greatest-append s.mask s.blocks (b ∷ []) in
+    let number : transaction_in s.mask b.header.tx.raw ≡ s.last + 1 =
+    ap (transaction_in s.mask) (next-id s time p b next) ∙ transaction_of_id s.mask (s.last + 1) in
+    let most : greatest s.mask (s.blocks ++ b ∷ [])
+    ≡ max (greatest s.mask s.blocks) (max (transaction_in s.mask b.header.tx.raw) 0) =
+    greatest-append s.mask s.blocks (b ∷ []) in
     record {
       undamaged = next.undamaged;
       strand = strand_more s.mask s.blocks b is.strand (next-strand s time p b next);
@@ -41,14 +45,18 @@ sealed-IsStanding s time p b is next =
 same_standing : (m n : Standing) → m.mask ≡ n.mask → m.last ≡ n.last → m.blocks ≡ n.blocks → m ≡ n
 same_standing m n masks lasts same = λ i. record { mask = masks i; last = lasts i; blocks = same i }
 
-seals-IsStanding : (s now : Standing) (time : TimeParts) (p : Placed) (tx : TxId) (block : ℕ) → IsStanding s → Seals s time p tx block now → IsStanding now
+seals-IsStanding : (s now : Standing) (time : TimeParts) (p : Placed) (tx : TxId) (block : ℕ) → IsStanding s
+    → Seals s time p tx block now → IsStanding now
 seals-IsStanding s now time p tx block is seals =
     subst (λ (x : Standing). IsStanding x)
-    (same_standing (record { mask = s.mask; last = s.last + 1; blocks = s.blocks ++ seals.sealed ∷ [] }) now (sym seals.mask) (sym seals.last) (sym seals.blocks))
+    (same_standing (record { mask = s.mask; last = s.last + 1; blocks = s.blocks ++ seals.sealed ∷ [] }) now
+    (sym seals.mask) (sym seals.last) (sym seals.blocks))
     (sealed-IsStanding s time p seals.sealed is seals.is_next)
 
 draws-IsStanding : (s now : Standing) (tx : TxId) → IsStanding s → IsNext s tx → Draws s now → IsStanding now
-draws-IsStanding s now tx is next draws = kept-IsStanding s now is draws.mask draws.blocks (omega (arith, draws.last)) (omega (arith, draws.last, next.counted))
+draws-IsStanding s now tx is next draws =
+    kept-IsStanding s now is draws.mask draws.blocks (omega (arith, draws.last))
+    (omega (arith, draws.last, next.counted))
 
 pub Attempted-IsStanding : (s : Standing) (time : TimeParts) (p : Placed) (o : Outcome) (now : Standing) → IsStanding s
     → Attempted s time p o now → IsStanding now

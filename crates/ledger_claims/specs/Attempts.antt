@@ -1,5 +1,5 @@
--- Transactions that run one after another: what the ledger stands for between two of them, and what one of them does to it,
--- by its outcome.
+-- Transactions that run one after another: what the ledger stands for between two of them, and what one of them does to
+-- it, by its outcome.
 use Rattle.std.specs.Prelude.{◌≡◌, ℕ, ◌+◌, ◌-◌, ◌^◌, ◌<◌, ◌≤◌, ◌⊎◌, List, [], ◌∷◌, ◌++◌, length, take, Option, IfSome, true, false}
 use Rattle.ion_values.specs.declared.time.TimeParts.{TimeParts}
 use Rattle.ql_types.specs.Ids.{raw_id}
@@ -77,13 +77,14 @@ Attempted s time p (JournalFull tx blocks) now =
     IsNext s tx × Draws s now × (p.job.abort ≡ false) × (length s.blocks ≡ 2 ^ 32 - 1) × (blocks ≡ 2 ^ 32 - 1)
 Attempted s time p (IdsSpent last) now = (now ≡ s) × (s.last ≡ 2 ^ 64 - 1) × (last ≡ 2 ^ 64 - 1)
 Attempted s time p (Aborted tx since) now =
-    IsNext s tx × Draws s now × (since ≡ length s.blocks) × (p.job.abort ≡ true) × ((progress : Progress) × (ran_next s p ≡ ran progress))
+    IsNext s tx × Draws s now × (since ≡ length s.blocks) × (p.job.abort ≡ true)
+    × ((progress : Progress) × (ran_next s p ≡ ran progress))
 Attempted s time p OutOfMemory now = Draws s now × (s.last + 1 < 2 ^ 64)
 
 -- ---- the store
 
--- The count of the store's faults rose where the outcome says so, to the count that it tells, and nowhere else: no failure is
--- told as want of memory, and none stands behind a block that is told as committed.
+-- The count of the store's faults rose where the outcome says so, to the count that it tells, and nowhere else: no
+-- failure is told as want of memory, and none stands behind a block that is told as committed.
 abbrev pub TellsFaults : ℕ → Outcome → ℕ → Type 0
 TellsFaults before (StoreFault tx count) after = (before < after) × (count ≡ after)
 TellsFaults before other after = after ≡ before
@@ -99,9 +100,9 @@ pub record LeavesPart (s : Standing) (time : TimeParts) (p : Placed) (held : Opt
   pub kept : ℕ
   pub holds : HoldsBehind s.blocks (take kept (line stopped)) held
 
--- what a transaction leaves in the store, by its outcome: the lines of all blocks where it was committed; what there was,
--- perhaps cut to the lines of the blocks, or with a part of the new line behind them where the store failed or memory was
--- wanted; and else what there was
+-- what a transaction leaves in the store, by its outcome: the lines of all blocks where it was committed; what there
+-- was, perhaps cut to the lines of the blocks, or with a part of the new line behind them where the store failed or
+-- memory was wanted; and else what there was
 abbrev pub LeavesStore : Standing → TimeParts → Placed → Outcome → Standing → Option (List ℕ) → Option (List ℕ) → Type 0
 LeavesStore s time p (Committed tx block) now before after = HoldsBehind now.blocks [] after
 LeavesStore s time p (StoreFault tx count) now before after = (after ≡ before) ⊎ LeavesPart s time p after

@@ -21,16 +21,16 @@ use Rattle.ledger_model.specs.Damages.{Undamaged}
 use Rattle.ledger_model.specs.Making.{time_behind}
 use Rattle.ledger_model.specs.Script.{Placed}
 
--- Where the times of a run's blocks come from: one time, or what a clock answered, in milliseconds since 1970 in UTC, where
--- it tells that.
+-- Where the times of a run's blocks come from: one time, or what a clock answered, in milliseconds since 1970 in UTC,
+-- where it tells that.
 pub data Times : Type 0 where
   one_time : TimeParts → Times
   answered : List ℤ → Times
   untold : Times
 
--- What a run was told and what it left: the mask that the words give, where they do, and that of the ids; where the times
--- of its blocks come from; how many workers it has; the script's jobs in order; how often the store had failed before and
--- after; the blocks before and after; and the outcomes in the script's order.
+-- What a run was told and what it left: the mask that the words give, where they do, and that of the ids; where the
+-- times of its blocks come from; how many workers it has; the script's jobs in order; how often the store had failed
+-- before and after; the blocks before and after; and the outcomes in the script's order.
 pub record RunRecord : Type 0 where
   pub given : Option ℕ
   pub mask : ℕ
@@ -58,8 +58,8 @@ mask_of given (b ∷ bs) = b.header.address.strand.raw
 abbrev pub HasMask : RunRecord → Type 0
 HasMask t = IfSome t.given (λ given. t.mask ≡ mask_of given t.before)
 
--- The time is the one time, or that of an answer of the clock, taken to the nearest millisecond of the years 0001 to 9999.
--- Nothing is said where a clock doesn't tell its answers.
+-- The time is the one time, or that of an answer of the clock, taken to the nearest millisecond of the years 0001 to
+-- 9999. Nothing is said where a clock doesn't tell its answers.
 abbrev pub IsTimeIn : Times → TimeParts → Type 0
 IsTimeIn (one_time own) time = time ≡ own
 IsTimeIn (answered answers) time = (ms : ℤ) × Contains answers ms × BeginsAt (nearest ms) time
@@ -172,10 +172,12 @@ abbrev pub stood_behind : Outcome → Option ℕ
 stood_behind (Committed tx block) = Some (block + 1)
 stood_behind other = stood_before other
 
--- Of two transactions the first one was over when the second one began: it has the smaller number, and the second one ran
--- on all blocks that stood behind the first one.
+-- Of two transactions the first one was over when the second one began: it has the smaller number, and the second one
+-- ran on all blocks that stood behind the first one.
 pub record RunsBefore (mask : ℕ) (first second : Outcome) : Type 0 where
-  pub numbers : AllByRecursion (λ m. AllByRecursion (λ n. transaction_in mask m < transaction_in mask n) (told_id second)) (told_id first)
+  pub numbers :
+      AllByRecursion (λ m. AllByRecursion (λ n. transaction_in mask m < transaction_in mask n) (told_id second))
+      (told_id first)
   pub blocks : IfSome (stood_behind first) (λ m. IfSome (stood_before second) (λ n. m ≤ n))
 
 -- the transaction ran on the first `since` blocks, and those before the run are among them
@@ -239,14 +241,15 @@ pub record IsJournalFull (t : RunRecord) (p : Placed) (tx : TxId) (blocks : ℕ)
   pub told : blocks ≡ 2 ^ 32 - 1
   pub blockless : HasNoBlock t p
 
--- no number is left: the journal and the jobs in front, of which each one uses at most one number, have used all below 2^64
+-- no number is left: the journal and the jobs in front, of which each one uses at most one number, have used all below
+-- 2^64
 pub record IsSpent (t : RunRecord) (done : List PlacedOutcome) (p : Placed) (last : ℕ) : Type 0 where
   pub greatest_last : last ≡ 2 ^ 64 - 1
   pub used : 2 ^ 64 - 1 ≤ greatest t.mask t.before + length done
   pub blockless : HasNoBlock t p
 
--- what an outcome says is true, behind the outcomes of the jobs in front; want of memory may come to any transaction. No
--- digest is sent and no two transactions run at once so far.
+-- what an outcome says is true, behind the outcomes of the jobs in front; want of memory may come to any transaction.
+-- No digest is sent and no two transactions run at once so far.
 abbrev pub Holds : RunRecord → List PlacedOutcome → Placed → Outcome → Type 0
 Holds t done p (Committed tx block) = IsCommitted t p tx block
 Holds t done p (Conflict tx since named) = ⊥
@@ -276,8 +279,8 @@ EachHolds t done (p ∷ ps) (o ∷ os) =
 EachHolds t done [] (o ∷ os) = ⊥
 EachHolds t done (p ∷ ps) [] = ⊥
 
--- The blocks and the outcomes of the run fit. No two transactions have one id, no two outcomes tell one count of failures, and at
--- the end the store has failed as often as the last failure that is told says, or as at the beginning.
+-- The blocks and the outcomes of the run fit. No two transactions have one id, no two outcomes tell one count of
+-- failures, and at the end the store has failed as often as the last failure that is told says, or as at the beginning.
 pub record Fits (t : RunRecord) : Type 0 where
   pub blocks : FitsBlocks t
   pub outcomes : EachHolds t [] t.jobs t.outcomes

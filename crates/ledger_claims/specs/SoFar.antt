@@ -1,5 +1,5 @@
--- A run of which some jobs are done and others are to come: what holds of its record between two jobs, so that the claim of
--- the whole run follows when none is left.
+-- A run of which some jobs are done and others are to come: what holds of its record between two jobs, so that the
+-- claim of the whole run follows when none is left.
 use Rattle.std.specs.Prelude.{◌≡◌, ℕ, ◌+◌, ◌<◌, ◌≤◌, true, List, [], ◌∷◌, ◌++◌, length, Option}
 use Rattle.std.specs.List.{AllByRecursion}
 use Rattle.ql_types.specs.Ids.{raw_id}
