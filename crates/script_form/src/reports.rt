@@ -9,10 +9,13 @@ mod moments;
 mod outcomes;
 mod pieces;
 
+pub use answers::put_rows;
+pub use causes::put_cause;
+pub use items::put_item;
 use ledger_model::{Blocks, Outcomes, PlacedOutcome};
 use lists::{OutOfMemory, Text};
 use outcomes::put_outcome;
-use pieces::put_number;
+pub use pieces::{put_blob, put_body, put_id, put_number, put_string};
 use std::alloc::Global;
 
 /// The report of these outcomes on these blocks: a line of Ion text for each, in order, with each of its

@@ -1,69 +1,78 @@
-use ion_values::{Bytes, Key, OutOfMemory, Text};
+//! Keys of all kinds.
+use ion_values::{Bytes, Key, Text};
 use pmap::{Keyed, PMap};
 use ql_types::{DocId, Steps, TableId};
 use std::alloc::Global;
 use std::sync::Arc;
 use std::test::Fail;
 
+fn number(coefficient: i128, exponent: i32) -> Key {
+    Key::Number {
+        coefficient,
+        exponent,
+    }
+}
+
 /// Keys of all kinds in their order: by kind, then by content.
-fn key(alloc: Global, number: u64) -> Result<Key, OutOfMemory> {
-    let text = Text::from_text(alloc, "a")?;
-    let longer = Text::from_text(alloc, "aa")?;
-    let bytes = Bytes::from_slice(alloc, &[97])?;
-    Ok(match number {
-        0 => Key::Bool(false),
-        1 => Key::Bool(true),
-        2 => Key::Number {
-            coefficient: -3,
-            exponent: 0,
-        },
-        3 => Key::Number {
-            coefficient: 2,
-            exponent: -1,
-        },
-        4 => Key::Number {
-            coefficient: 2,
-            exponent: 0,
-        },
-        5 => Key::Text(text),
-        6 => Key::Text(longer),
-        7 => Key::Moment(-1),
-        8 => Key::Clob(bytes),
-        _ => Key::Blob(bytes),
-    })
+fn key(alloc: Global, place: u64) -> Option<Key> {
+    match place {
+        0 => Some(Key::Bool(false)),
+        1 => Some(Key::Bool(true)),
+        2 => Some(number(-3, 0)),
+        3 => Some(number(2, -1)),
+        4 => Some(number(2, 0)),
+        5 => Some(Key::Text(Text::from_text(alloc, "a").ok()?)),
+        6 => Some(Key::Text(Text::from_text(alloc, "aa").ok()?)),
+        7 => Some(Key::Moment(-1)),
+        8 => Some(Key::Clob(Bytes::from_slice(alloc, &[97]).ok()?)),
+        _ => Some(Key::Blob(Bytes::from_slice(alloc, &[97]).ok()?)),
+    }
 }
 
-#[test]
-fn keys_of_values_lead_to_their_own(rt: HostRuntime) -> Result<(), Fail> {
-    let alloc = rt.alloc();
+/// The map with the key of this place, which leads to the place.
+fn put(alloc: Global, map: &PMap<Key, u64>, place: u64) -> Option<PMap<Key, u64>> {
+    let key = Arc::new(alloc, key(alloc, place)?).ok()?;
+    map.insert(key, Arc::new(alloc, place).ok()?).ok()
+}
+
+/// The map of the ten keys, put in another order.
+fn ten(alloc: Global) -> Option<PMap<Key, u64>> {
     let mut map = PMap::new(alloc);
-    for number in 0..10u64 {
-        let place = number * 7 % 10;
-        let key = Arc::new(alloc, key(alloc, place)?)?;
-        map = map.insert(key, Arc::new(alloc, place)?)?;
+    for place in [0, 7, 4, 1, 8, 5, 2, 9, 6, 3] {
+        map = put(alloc, &map, place)?;
     }
-    let mut pairs = map.pairs();
-    for number in 0..10u64 {
-        let value = match pairs.next() {
-            None => None,
-            Some((_, value)) => Some(*value),
-        };
-        assert_eq!(rt; value, Some(number));
+    Some(map)
+}
+
+/// Whether the map's pairs are in the keys' order.
+fn is_in_order(map: &PMap<Key, u64>) -> bool {
+    let mut next = 0;
+    for (_, place) in map.pairs() {
+        if *place != next || next >= 10 {
+            return false;
+        }
+        next += 1;
     }
-    Ok(())
+    next == 10
+}
+
+/// Whether ids and texts are in their order, a step each.
+fn are_compared(alloc: Global) -> Option<bool> {
+    let mut steps = Steps { taken: 0 };
+    let text = Text::from_text(alloc, "name").ok()?;
+    let documents = DocId { raw: 1 }.against(&DocId { raw: 2 }, &mut steps);
+    let tables = TableId { raw: 2 }.against(&TableId { raw: 1 }, &mut steps);
+    let texts = text.against(&text, &mut steps);
+    Some(documents.is_lt() && tables.is_gt() && texts.is_eq() && steps.taken == 3)
 }
 
 #[test]
-fn ids_and_texts_are_keys(rt: HostRuntime) -> Result<(), Fail> {
+fn keys_are_in_their_order(rt: HostRuntime) -> Result<(), Fail> {
     let alloc = rt.alloc();
-    let none = Steps { taken: 0 };
-    let mut steps = none;
-    let document = DocId { raw: 1 };
-    assert!(rt; document.against(&DocId { raw: 2 }, &mut steps).is_lt());
-    let table = TableId { raw: 2 };
-    assert!(rt; table.against(&TableId { raw: 1 }, &mut steps).is_gt());
-    let text = Text::from_text(alloc, "name")?;
-    assert!(rt; text.against(&text, &mut steps).is_eq());
-    assert_eq!(rt; steps.taken, 3);
+    assert!(rt; are_compared(alloc) == Some(true));
+    match ten(alloc) {
+        Some(map) => assert!(rt; is_in_order(&map)),
+        None => assert!(rt; false),
+    }
     Ok(())
 }

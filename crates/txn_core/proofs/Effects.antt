@@ -1,10 +1,9 @@
 -- What a statement adds to its transaction.
 use Rattle.std.proofs.Common.{◌≡◌, ℕ, ◌+◌, List, [], ◌∷◌, ◌++◌, Option, Some, None, Result, Ok, Err, true, false, inl, inr, refl, sym, ◌∙◌, ap, ap₂, add-zero}
-use Rattle.std.specs.Prelude.{codes, option_map}
+use Rattle.std.specs.Prelude.{codes}
 use Rattle.ql_types.specs.Ids.{raw_id}
 use Rattle.ql_types.specs.declared.TableId.{TableId}
 use Rattle.ion_values.specs.declared.value.Value.{Value}
-use Rattle.pql_model.specs.declared.statement.Statement.{Statement}
 use Rattle.ledger_model.specs.declared.outcome.Refusal.{Refusal}
 use Rattle.ledger_model.specs.declared.outcome.Refusal.TheVariants as refusal
 use Rattle.ledger_model.specs.declared.outcome.Refusal.TheVariants.{Ended}
@@ -14,18 +13,15 @@ use Rattle.ledger_model.specs.declared.block.Schema.{Schema}
 use Rattle.ledger_model.specs.declared.block.Schema.TheVariants.{Create}
 use Rattle.ledger_model.specs.Values.{named_id}
 use Rattle.ledger_model.specs.declared.outcome.Item.{Item}
-use Rattle.ledger_model.specs.Footprints.{footprint_of}
-use Rattle.ledger_model.proofs.UnreadLemmas.{recorded-reading}
 use Rattle.ledger_model.specs.State as state
-use Rattle.ledger_model.specs.Statements.{served_of}
-use Rattle.ledger_model.specs.Run.{Begun, Progress, Effect, changed_by, done_by_statement, first_deep, if_shallow, reading, schemas_now, unread, unread_result, created, done_by, existing, new_table, next_id, no_table_more, on_table, recorded, reserved, table_now, tables_now, unless}
+use Rattle.ledger_model.specs.Run.{Begun, Progress, Effect, changed_by, created, existing, new_table, next_id, no_table_more, on_table, reading, recorded, reserved, table_now, tables_now, unless}
 use Rattle.ledger_model.specs.Script.{or_else}
 use Rattle.txn_core.specs.declared.effect.Effect as held
 use Rattle.txn_core.specs.declared.stopped.Stopped.{Stopped}
 use Rattle.txn_core.specs.declared.stopped.Stopped.TheVariants.{Refused, OutOfMemory}
-use Rattle.txn_core.specs.Effects.{asked_effect, effect_of, served_effect}
+use Rattle.txn_core.specs.Effects.{asked_effect, effect_of}
 use Rattle.txn_core.specs.Opened.{Opened, Adds, Executed, IsStopped, Steps, Told, asked, step_of}
-use Rattle.txn_core.specs.Stops.{DoesServed}
+use Rattle.txn_core.specs.Stops.{Does}
 use Rattle.txn_core.specs.Transactions.{found, id_after, not_created}
 
 -- ---- CREATE TABLE
@@ -45,14 +41,14 @@ pub created_refused : (t : Opened) (name : List ℕ) (cause : Refusal) → not_c
 created_refused t name cause is =
     created-by t.begun t.base t.done name ∙ ap (λ (x : Option Refusal). unless x (Ok (new_table (next_id t.begun t.done) name))) is
 
-pub table_created : (raw : ℕ) (name kept : List ℕ) (row : Value) (none rows : List Value) (unchanged changes : List Schema) (log : List Draft) → kept ≡ name
-    → row ≡ named_id (codes "tableId") raw → none ≡ [] → rows ≡ none ++ row ∷ [] → unchanged ≡ [] → changes ≡ unchanged ++ Create kept (record { raw = raw }) ∷ [] → log ≡ []
-    → record { rows = rows; schema = changes; log = log; made = 1; footprint = [] } ≡ new_table raw name
-table_created raw name kept row none rows unchanged changes log kept_is row_is none_is rows_is unchanged_is changes_is log_is =
+pub table_created : (raw : ℕ) (name kept : List ℕ) (row : Value) (none rows : List Value) (unchanged changes : List Schema) (log : List Draft) (read : List Item) → kept ≡ name
+    → row ≡ named_id (codes "tableId") raw → none ≡ [] → rows ≡ none ++ row ∷ [] → unchanged ≡ [] → changes ≡ unchanged ++ Create kept (record { raw = raw }) ∷ [] → log ≡ [] → read ≡ []
+    → record { rows = rows; schema = changes; log = log; made = 1; footprint = read } ≡ new_table raw name
+table_created raw name kept row none rows unchanged changes log read kept_is row_is none_is rows_is unchanged_is changes_is log_is read_is =
     let rows_now : rows ≡ (new_table raw name).rows = rows_is ∙ ap₂ (λ (xs : List Value) (x : Value). xs ++ x ∷ []) none_is row_is in
     let changes_now : changes ≡ (new_table raw name).schema =
     changes_is ∙ ap₂ (λ (xs : List Schema) (n : List ℕ). xs ++ Create n (record { raw = raw }) ∷ []) unchanged_is kept_is in
-    λ i. record { rows = rows_now i; schema = changes_now i; log = log_is i; made = 1; footprint = [] }
+    λ i. record { rows = rows_now i; schema = changes_now i; log = log_is i; made = 1; footprint = read_is i }
 
 id_first : (t : Opened) → id_after t 0 ≡ next_id t.begun t.done
 id_first t = ap (λ (n : ℕ). raw_id t.begun.mask t.begun.number (n + 1)) (add-zero t.done.made)
@@ -73,51 +69,37 @@ pub on-none : (name : List ℕ) (t : Option TableId) (cause : Refusal) (f : Tabl
 on-none name (Some there) cause f is = let bad : ⊥ = cc in absurd bad
 on-none name None cause f is = let e : Err cause ≡ found name None = sym is in cc
 
+-- ---- what a statement reads
+
+-- it stands beside what the statement does
+pub read_besides : (items read : List Item) (wanted : Result Effect Refusal) (e : Effect) → wanted ≡ Ok e → read ≡ items
+    → reading items wanted ≡ Ok (record e { footprint = read })
+read_besides items read wanted e is read_is =
+    ap (reading items) is ∙ ap (λ (xs : List Item). Ok (record e { footprint = xs })) (sym read_is)
+
 -- ---- one statement as a step of the run
 
-shallow-reading : (p : Progress) (r : Request) (deep : Option ℕ) (items : List Item) (e : Result Effect Refusal)
-    → unread_result (recorded p r (if_shallow deep (reading items e))) ≡ unread_result (recorded p r (if_shallow deep e))
-shallow-reading p r None items e = recorded-reading p r items e
-shallow-reading p r (Some depth) items e = refl
-
-by-served : (t : Opened) (r : Request) (served : Result Statement Refusal)
-    → unread_result (done_by t.begun t.base t.done r served) ≡ unread_result (recorded t.done r (served_effect t r.params served))
-by-served t r (Err cause) = refl
-by-served t r (Ok st) =
-    shallow-reading t.done r (first_deep r.params) (footprint_of (schemas_now t.base t.done) r.params st) (done_by_statement t.begun t.base t.done r.params st)
-
-by-effect : (t : Opened) (r : Request) (o : Option (Result Statement Refusal)) (effect : Result Effect Refusal)
-    → option_map (served_effect t r.params) o ≡ Some effect
-    → option_map unread_result (option_map (done_by t.begun t.base t.done r) o) ≡ Some (unread_result (recorded t.done r effect))
-by-effect t r None effect is = let bad : ⊥ = cc in absurd bad
-by-effect t r (Some served) effect is =
-    let e : served_effect t r.params served ≡ effect = cc in
-    ap (λ (x : Result Progress Refusal). Some x) (by-served t r served ∙ ap (λ (x : Result Effect Refusal). unread_result (recorded t.done r x)) e)
-
 -- the step records what the statement does
-pub stepped : (t : Opened) (r : Request) (effect : Result Effect Refusal) → asked_effect t r ≡ Some effect → step_of t r ≡ Some (unread_result (recorded t.done r effect))
-stepped t r effect is = by-effect t r (served_of r) effect is
+stepped : (t : Opened) (r : Request) (effect : Result Effect Refusal) → asked_effect t r ≡ effect → step_of t r ≡ recorded t.done r effect
+stepped t r effect is = ap (recorded t.done r) is
 
 -- what is done and added is the step
-pub added_steps : (t now : Opened) (r : Request) (e : held.Effect) → asked_effect t r ≡ Some (Ok (effect_of e)) → Adds t r (effect_of e) now → Steps t r now
-added_steps t now r e is adds = record {
-  step = stepped t r (Ok (effect_of e)) is ∙ ap (λ (x : Result Progress Refusal). Some x) adds.done;
-  rest = adds.rest;
-}
+pub added_steps : (t now : Opened) (r : Request) (e : held.Effect) → asked_effect t r ≡ Ok (effect_of e) → Adds t r (effect_of e) now → Steps t r now
+added_steps t now r e is adds = record { step = stepped t r (Ok (effect_of e)) is ∙ adds.done; rest = adds.rest }
 
 -- a statement that isn't done leaves the transaction as it was
-pub stops : (t now : Opened) (r : Request) (why : Stopped) → DoesServed (Err why) (asked_effect t r) → now ≡ t → IsStopped t r why now
+pub stops : (t now : Opened) (r : Request) (why : Stopped) → Does (Err why) (asked_effect t r) → now ≡ t → IsStopped t r why now
 stops t now r (Refused cause) is same = (stepped t r (Err cause) is, same)
 stops t now r OutOfMemory is same = same
 
-said_of : (p : Progress) (r : Request) (e : Effect) (q : Progress) → unread_result (recorded p r (Ok e)) ≡ Ok q
+said_of : (p : Progress) (r : Request) (e : Effect) (q : Progress) → recorded p r (Ok e) ≡ Ok q
     → q.said ≡ p.said ++ record { text = r.text; params = r.params; answer = record { rows = e.rows } } ∷ []
 said_of p r e q is =
-    let same : unread (record (changed_by p e) { said = p.said ++ record { text = r.text; params = r.params; answer = record { rows = e.rows } } ∷ [] }) ≡ q = cc in
+    let same : record (changed_by p e) { said = p.said ++ record { text = r.text; params = r.params; answer = record { rows = e.rows } } ∷ [] } ≡ q = cc in
     sym (ap (λ (x : Progress). x.said) same)
 
 -- with the rows that are answered
-pub added_told : (t now : Opened) (r : Request) (e : held.Effect) (rows : List Value) → asked_effect t r ≡ Some (Ok (effect_of e)) → Adds t r (effect_of e) now → rows ≡ e.rows
+pub added_told : (t now : Opened) (r : Request) (e : held.Effect) (rows : List Value) → asked_effect t r ≡ Ok (effect_of e) → Adds t r (effect_of e) now → rows ≡ e.rows
     → Told t r (Ok rows) now
 added_told t now r e rows is adds same = (
   added_steps t now r e is adds,
@@ -129,14 +111,14 @@ added_told t now r e rows is adds same = (
 
 pub adds_of : (t now : Opened) (text kept_text : List ℕ) (params kept_params : List Value) (e : Effect) (p : Progress) → kept_text ≡ text → kept_params ≡ params
     → p.said ≡ t.done.said ++ record { text = kept_text; params = kept_params; answer = record { rows = e.rows } } ∷ [] → p.schema ≡ t.done.schema ++ e.schema → p.log ≡ t.done.log ++ e.log
-    → p.made ≡ t.done.made + e.made → p.footprint ≡ [] → now ≡ record t { done = p } → Adds t (asked text params) e now
-adds_of t now text kept_text params kept_params e p text_is params_are said schema log made unread_is is = record {
+    → p.made ≡ t.done.made + e.made → p.footprint ≡ t.done.footprint ++ e.footprint → now ≡ record t { done = p } → Adds t (asked text params) e now
+adds_of t now text kept_text params kept_params e p text_is params_are said schema log made read is = record {
   done = λ i. Ok (record {
     said = sym (ap (λ (x : Opened). x.done.said) is ∙ said ∙ ap₂ (λ (x : List ℕ) (ys : List Value). t.done.said ++ record { text = x; params = ys; answer = record { rows = e.rows } } ∷ []) text_is params_are) i;
     schema = sym (ap (λ (x : Opened). x.done.schema) is ∙ schema) i;
     log = sym (ap (λ (x : Opened). x.done.log) is ∙ log) i;
     made = sym (ap (λ (x : Opened). x.done.made) is ∙ made) i;
-    footprint = sym (ap (λ (x : Opened). x.done.footprint) is ∙ unread_is) i;
+    footprint = sym (ap (λ (x : Opened). x.done.footprint) is ∙ read) i;
   });
   rest = is ∙ ap (λ (q : Progress). record t { done = q }) (sym (ap (λ (x : Opened). x.done) is));
 }

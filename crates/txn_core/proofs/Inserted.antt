@@ -11,7 +11,6 @@ use Rattle.std.specs.Prelude.{codes}
 use Rattle.ledger_model.specs.Values.{named_id}
 use Rattle.ledger_model.specs.declared.block.Content.TheVariants.{Kept}
 use Rattle.ledger_model.specs.declared.block.Draft.{Draft}
-use Rattle.ledger_model.specs.declared.outcome.Item.{Item}
 use Rattle.ledger_model.specs.declared.outcome.Refusal.{Refusal}
 use Rattle.ledger_model.specs.Run.{Progress, Effect, and_then, changed_by, documents_in, if_documents, inserted, new_document, next_id, not_stored, nothing, on_table, reserved, stored, table_now, unless}
 use Rattle.txn_core.specs.declared.effect.Effect as held
@@ -108,15 +107,14 @@ all-stored t table e vs i all past left =
 
 -- ---- one document
 
-pub document_added : (e : Effect) (raw : ℕ) (table : TableId) (v kept row : Value) (rows : List Value) (log : List Draft) → e.footprint ≡ [] → row ≡ named_id (codes "documentId") raw → kept ≡ v
+pub document_added : (e : Effect) (raw : ℕ) (table : TableId) (v kept row : Value) (rows : List Value) (log : List Draft) → row ≡ named_id (codes "documentId") raw → kept ≡ v
     → rows ≡ e.rows ++ row ∷ [] → log ≡ e.log ++ record { table = table; id = record { raw = raw }; version = 0; content = Kept kept } ∷ []
-    → record { rows = rows; schema = e.schema; log = log; made = e.made + 1; footprint = [] } ≡ both e (new_document raw table v)
-document_added e raw table v kept row rows log unread_is row_is kept_is rows_is log_is =
+    → record { rows = rows; schema = e.schema; log = log; made = e.made + 1; footprint = e.footprint } ≡ both e (new_document raw table v)
+document_added e raw table v kept row rows log row_is kept_is rows_is log_is =
     let rows_now : rows ≡ e.rows ++ (new_document raw table v).rows = rows_is ∙ ap (λ (x : Value). e.rows ++ x ∷ []) row_is in
     let log_now : log ≡ e.log ++ (new_document raw table v).log =
     log_is ∙ ap (λ (x : Value). e.log ++ record { table = table; id = record { raw = raw }; version = 0; content = Kept x } ∷ []) kept_is in
-    let read_now : [] ≡ e.footprint ++ [] = sym (ap (λ (xs : List Item). xs ++ []) unread_is) in
-    λ i. record { rows = rows_now i; schema = sym (append-nil e.schema) i; log = log_now i; made = e.made + 1; footprint = read_now i }
+    λ i. record { rows = rows_now i; schema = sym (append-nil e.schema) i; log = log_now i; made = e.made + 1; footprint = sym (append-nil e.footprint) i }
 
 -- ---- the whole statement
 

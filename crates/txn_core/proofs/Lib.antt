@@ -4,7 +4,6 @@ pub mod Inserted
 pub mod Running
 pub mod Overlaid
 pub mod Selects
-pub mod ServedAs
 pub mod Resolving
 pub mod Schemas
 pub mod Touched

@@ -19,11 +19,17 @@ use Rattle.txn_core.proofs.Effects.{on-found, on-none}
 
 pub schema_changed : (table : TableId) (change : Schema) (e : Effect) (row : Value) (rows : List Value) (changes : List Schema)
     → e ≡ nothing → row ≡ named_id (codes "tableId") table.raw → rows ≡ e.rows ++ row ∷ [] → changes ≡ e.schema ++ change ∷ []
-    → record { rows = rows; schema = changes; log = e.log; made = e.made; footprint = [] } ≡ schema_change table change
+    → record { rows = rows; schema = changes; log = e.log; made = e.made; footprint = e.footprint } ≡ schema_change table change
 schema_changed table change e row rows changes empty row_is rows_is changes_is =
     let rows_now : rows ≡ (schema_change table change).rows = rows_is ∙ ap₂ (λ (x : Effect) (r : Value). x.rows ++ r ∷ []) empty row_is in
     let changes_now : changes ≡ change ∷ [] = changes_is ∙ ap (λ (x : Effect). x.schema ++ change ∷ []) empty in
-    λ i. record { rows = rows_now i; schema = changes_now i; log = ap (λ (x : Effect). x.log) empty i; made = ap (λ (x : Effect). x.made) empty i; footprint = [] }
+    λ i. record {
+      rows = rows_now i;
+      schema = changes_now i;
+      log = ap (λ (x : Effect). x.log) empty i;
+      made = ap (λ (x : Effect). x.made) empty i;
+      footprint = ap (λ (x : Effect). x.footprint) empty i;
+    }
 
 -- ---- the table that a statement changes
 

@@ -11,7 +11,6 @@ use Rattle.ql_types.specs.declared.DocId.{DocId}
 use Rattle.ledger_model.specs.declared.block.Content.{Content}
 use Rattle.ledger_model.specs.declared.block.Draft.{Draft}
 use Rattle.ledger_model.specs.declared.block.Schema.{Schema}
-use Rattle.ledger_model.specs.declared.outcome.Item.{Item}
 use Rattle.ledger_model.specs.declared.outcome.Refusal.TheVariants.{TooManyRevisions}
 use Rattle.ledger_model.specs.Follows.{is_kept, latest_of}
 use Rattle.ledger_model.specs.Values.{named_id}
@@ -151,13 +150,18 @@ module _ (t : Opened) (e : Effect) (marks : List (ℕ × Mark)) (tables : List s
 
 -- ---- what a touch adds
 
-pub touched_added : (e : Effect) (d : Draft) (row : Value) (rows : List Value) (log : List Draft) → e.footprint ≡ [] → row ≡ named_id (codes "documentId") d.id.raw
+pub touched_added : (e : Effect) (d : Draft) (row : Value) (rows : List Value) (log : List Draft) → row ≡ named_id (codes "documentId") d.id.raw
     → rows ≡ e.rows ++ row ∷ [] → log ≡ e.log ++ d ∷ []
-    → record { rows = rows; schema = e.schema; log = log; made = e.made; footprint = [] } ≡ both e (touch d)
-touched_added e d row rows log unread_is row_is rows_is log_is =
+    → record { rows = rows; schema = e.schema; log = log; made = e.made; footprint = e.footprint } ≡ both e (touch d)
+touched_added e d row rows log row_is rows_is log_is =
     let rows_now : rows ≡ e.rows ++ named_id (codes "documentId") d.id.raw ∷ [] = rows_is ∙ ap (λ (x : Value). e.rows ++ x ∷ []) row_is in
-    let read_now : [] ≡ e.footprint ++ [] = sym (ap (λ (xs : List Item). xs ++ []) unread_is) in
-    λ i. record { rows = rows_now i; schema = sym (append-nil e.schema) i; log = log_is i; made = sym (add-zero e.made) i; footprint = read_now i }
+    λ i. record {
+      rows = rows_now i;
+      schema = sym (append-nil e.schema) i;
+      log = log_is i;
+      made = sym (add-zero e.made) i;
+      footprint = sym (append-nil e.footprint) i;
+    }
 
 -- ---- what is held after a touch
 

@@ -1,5 +1,5 @@
 -- An open transaction, and what a statement does to it, by its answer.
-use Rattle.std.specs.Prelude.{◌≡◌, ◌⊎◌, ℕ, Bool, true, false, refl, List, [], ◌∷◌, ◌++◌, Option, Some, option_map, Result, Ok, Err}
+use Rattle.std.specs.Prelude.{◌≡◌, ◌⊎◌, ℕ, Bool, true, false, refl, List, [], ◌∷◌, ◌++◌, Result, Ok, Err}
 use Rattle.std.specs.Coded.{Coded, code_by, coded×, coded_ℕ, coded_bool, coded_list}
 use Rattle.ion_values.specs.declared.value.Value.{Value}
 use Rattle.pql_model.specs.declared.Answer.{Answer}
@@ -18,7 +18,7 @@ use Rattle.ledger_model.specs.declared.outcome.Refusal.{Refusal}
 use Rattle.ledger_model.specs.declared.outcome.Refusal.TheVariants.{Ended, OutOfMemory}
 use Rattle.ledger_model.specs.declared.script.Request.{Request}
 use Rattle.ledger_model.specs.State.{State}
-use Rattle.ledger_model.specs.Run.{Begun, Effect, Progress, recorded, step, unread_result}
+use Rattle.ledger_model.specs.Run.{Begun, Effect, Progress, recorded, step}
 use Rattle.txn_core.specs.declared.stopped.Stopped.{Stopped}
 use Rattle.txn_core.specs.declared.stopped.Stopped.TheVariants as stopped
 
@@ -54,23 +54,23 @@ asked text params = record { text = text; params = params }
 
 -- ---- one statement
 
--- the statement, as a step of the run, but for what it reads, which a running transaction doesn't keep so far
-abbrev pub step_of : Opened → Request → Option (Result Progress Refusal)
-step_of t r = option_map unread_result (step t.begun t.base t.done r)
+-- the statement, as a step of the run
+abbrev pub step_of : Opened → Request → Result Progress Refusal
+step_of t r = step t.begun t.base t.done r
 
 -- the statement is put behind those so far, with what it does
 pub record Adds (t : Opened) (r : Request) (e : Effect) (now : Opened) : Type 0 where
-  pub done : unread_result (recorded t.done r (Ok e)) ≡ Ok now.done
+  pub done : recorded t.done r (Ok e) ≡ Ok now.done
   pub rest : now ≡ record t { done = now.done }
 
 -- the statement is the transaction's next step, and nothing else is changed
 pub record Steps (t : Opened) (r : Request) (now : Opened) : Type 0 where
-  pub step : step_of t r ≡ Some (Ok now.done)
+  pub step : step_of t r ≡ Ok now.done
   pub rest : now ≡ record t { done = now.done }
 
 -- the statement isn't done, for the step's cause or for want of memory, and the transaction is as before
 abbrev pub IsStopped : Opened → Request → Stopped → Opened → Type 0
-IsStopped t r (stopped.Refused cause) now = (step_of t r ≡ Some (Err cause)) × (now ≡ t)
+IsStopped t r (stopped.Refused cause) now = (step_of t r ≡ Err cause) × (now ≡ t)
 IsStopped t r stopped.OutOfMemory now = now ≡ t
 
 -- what is done, or why it isn't
@@ -93,4 +93,4 @@ abbrev pub Executed : Opened → Request → Result Answer Refusal → Opened �
 Executed t r (Ok answer) now = (t.ended ≡ false) × Steps t r now × IsSaid t r answer.rows now
 Executed t r (Err cause) now =
     ((t.ended ≡ true) × (cause ≡ Ended) × (now ≡ t)) ⊎ ((t.ended ≡ false) × (cause ≡ OutOfMemory) × (now ≡ t))
-    ⊎ ((t.ended ≡ false) × (step_of t r ≡ Some (Err cause)) × (now ≡ record t { ended = true }))
+    ⊎ ((t.ended ≡ false) × (step_of t r ≡ Err cause) × (now ≡ record t { ended = true }))

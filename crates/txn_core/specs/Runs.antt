@@ -1,14 +1,13 @@
 -- How all statements of a transaction end.
 use Rattle.std.specs.Prelude.{◌≡◌}
 use Rattle.ledger_model.specs.Run as run
-use Rattle.ledger_model.specs.Run.{ran, refused, unread}
+use Rattle.ledger_model.specs.Run.{ran, refused}
 use Rattle.txn_core.specs.declared.runs.Ran as held
 use Rattle.txn_core.specs.declared.runs.Ran.TheVariants as end
 use Rattle.txn_core.specs.Opened.{Opened}
 
--- but for what was read, which a running transaction doesn't keep so far
 abbrev pub ran_of : held.Ran → run.Ran
-ran_of (end.Done t) = ran (unread t.done)
+ran_of (end.Done t) = ran t.done
 ran_of (end.Refused statement cause) = refused statement cause
 
 -- it is the same transaction, but for what its statements did

@@ -1,5 +1,5 @@
 -- How a part of a statement comes out where it may be stopped.
-use Rattle.std.specs.Prelude.{◌≡◌, Option, Some, Result, Ok, Err}
+use Rattle.std.specs.Prelude.{◌≡◌, Result, Ok, Err}
 use Rattle.ledger_model.specs.declared.outcome.Refusal.{Refusal}
 use Rattle.ledger_model.specs.Run.{Effect}
 use Rattle.txn_core.specs.Effects.{effect_of}
@@ -21,8 +21,3 @@ Comes (Err stopped) wanted = StopsFor stopped (λ cause. wanted ≡ Err cause)
 abbrev pub Does : Result held.Effect Stopped → Result Effect Refusal → Type 0
 Does (Ok e) wanted = wanted ≡ Ok (effect_of e)
 Does (Err stopped) wanted = StopsFor stopped (λ cause. wanted ≡ Err cause)
-
--- the same where a statement may be one that isn't served so far, which isn't done
-abbrev pub DoesServed : Result held.Effect Stopped → Option (Result Effect Refusal) → Type 0
-DoesServed (Ok e) wanted = wanted ≡ Some (Ok (effect_of e))
-DoesServed (Err stopped) wanted = StopsFor stopped (λ cause. wanted ≡ Some (Err cause))

@@ -1,12 +1,13 @@
 //! One statement of a transaction, from its text on.
-ghost use Rattle.std.specs.Prelude.{◌≡◌};
+ghost use Rattle.ledger_model.specs.Run as run;
+ghost use Rattle.ledger_model.specs.Run.{done_by_statement};
 ghost use Rattle.txn_core.specs.Effects.{asked_effect, done_as};
 ghost use Rattle.txn_core.specs.Opened.{Executed, Performed, Told, asked};
-ghost use Rattle.txn_core.specs.Stops.{DoesServed};
+ghost use Rattle.txn_core.specs.Stops.{Does};
 
 use crate::effect::Effect;
 use crate::limits::first_deep;
-use crate::statements::{Served, read_statement, served_of};
+use crate::statements::{miscounted, read_statement};
 use crate::stopped::Stopped;
 use crate::transaction::Txn;
 use ion_values::{Value, Values, copy_values};
@@ -73,7 +74,7 @@ impl Txn {
 
     /// What the statement of this text does with these parameters.
     fn effect(&self, alloc: Global, text: &str, params: &[Value]) -> Result<Effect, Stopped>
-        ensures { DoesServed result (asked_effect self.now (asked text.now params.now)) }
+        ensures { Does result (asked_effect self.now (asked text.now params.now)) }
     {
         let statement = read_statement(alloc, text)?;
         let effect = self.effect_of(alloc, &statement, params);
@@ -81,33 +82,61 @@ impl Txn {
         effect
     }
 
-    /// What the statement does with these parameters.
+    /// What the statement does with these parameters. It stops with `ParameterCount` where they are too few or too many, and with
+    /// `TooDeep` where one of them is.
     fn effect_of(
         &self,
         alloc: Global,
         statement: &Statement,
         params: &[Value],
     ) -> Result<Effect, Stopped>
-        ensures { DoesServed result (done_as self.now params.now statement.now) }
+        ensures { Does result (done_as self.now params.now statement.now) }
     {
-        let served = match served_of(statement, params) {
-            Some(Ok(served)) => served,
-            Some(Err(cause)) => return Err(Stopped::Refused(cause)),
-            // No script with such a statement is run.
-            None => return Err(Stopped::OutOfMemory),
-        };
+        if let Some(cause) = miscounted(statement, params) {
+            return Err(Stopped::Refused(cause));
+        }
         if let Some(depth) = first_deep(params) {
             return Err(Stopped::Refused(Refusal::TooDeep { depth }));
         }
-        match served {
-            Served::CreateTable { name } => self.create(alloc, name),
-            Served::InsertInto { table, value } => self.insert(alloc, table, value, params),
-            Served::Select { select, from } => self.select(alloc, select, from, params),
-            Served::Update { from, change } => self.change(alloc, from, change, params),
-            Served::From { from, change } => self.change(alloc, from, change, params),
-            Served::Delete { from } => self.delete(alloc, from, params),
-            Served::CreateIndex { table, field } => self.create_index(alloc, table, field),
-            Served::DropTable { name } => self.drop_table(alloc, name),
+        self.whole_effect(alloc, statement, params)
+    }
+
+    /// What the statement does with parameters that it takes, and what it reads.
+    #[tactic(auto, using(crate::proofs::Effects::read_besides))]
+    fn whole_effect(
+        &self,
+        alloc: Global,
+        statement: &Statement,
+        params: &[Value],
+    ) -> Result<Effect, Stopped>
+        ensures { Does result (run.effect_of self.now.begun self.now.base self.now.done params.now statement.now) }
+    {
+        let mut effect = match self.done_by(alloc, statement, params) {
+            Ok(effect) => effect,
+            Err(stopped) => return Err(stopped),
+        };
+        effect.footprint = self.read_by(alloc, statement, params)?;
+        Ok(effect)
+    }
+
+    /// The same but for what it reads.
+    fn done_by(
+        &self,
+        alloc: Global,
+        statement: &Statement,
+        params: &[Value],
+    ) -> Result<Effect, Stopped>
+        ensures { Does result (done_by_statement self.now.begun self.now.base self.now.done params.now statement.now) }
+    {
+        match statement {
+            Statement::Create { table } => self.create(alloc, table),
+            Statement::Index { table, field } => self.create_index(alloc, table, field),
+            Statement::Drop { table } => self.drop_table(alloc, table),
+            Statement::Insert { table, value } => self.insert(alloc, table, value, params),
+            Statement::Select { select, from } => self.select(alloc, select, from, params),
+            Statement::Update { from, change } => self.change(alloc, from, change, params),
+            Statement::From { from, change } => self.change(alloc, from, change, params),
+            Statement::Delete { from } => self.delete(alloc, from, params),
         }
     }
 }

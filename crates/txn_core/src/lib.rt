@@ -13,6 +13,7 @@ mod inserting;
 mod limits;
 mod progress;
 mod ranges;
+mod reading;
 mod roots;
 mod runs;
 mod schema_changes;
@@ -27,6 +28,5 @@ mod values;
 mod views;
 
 pub use runs::{Ran, run_statements};
-pub use statements::is_served;
 pub use table_views::TableViews;
 pub use transaction::{Finished, Txn, start_txn};

@@ -5,16 +5,18 @@ ghost use Rattle.ledger_model.specs.Run.{start};
 ghost use Rattle.txn_core.specs.Effects.{progress_of};
 
 use ion_values::OutOfMemory;
-use ledger_model::{Draft, Said, Schema};
+use ledger_model::{Draft, Item, Said, Schema};
 use std::alloc::Global;
 
-/// What was said and changed so far, the pending revisions in order, and how many ids were made.
+/// What was said and changed so far, the pending revisions in order, how many ids were made, and what was read, statement by
+/// statement, repeats kept.
 #[derive(Drop)]
 pub(crate) struct Progress {
     pub said: Vec<Said>,
     pub schema: Vec<Schema>,
     pub log: Vec<Draft>,
     pub made: u32,
+    pub footprint: Vec<Item>,
 }
 
 impl Progress {
@@ -27,43 +29,54 @@ impl Progress {
             schema: Vec::new(alloc),
             log: Vec::new(alloc),
             made: 0,
+            footprint: Vec::new(alloc),
         }
     }
 
-    /// Puts a statement and what it changed behind those so far. After want of memory all is as before.
+    /// Puts a statement, what it changed and what it read behind those so far. After want of memory all is as before.
     pub(crate) fn add(
         &mut self,
         said: Said,
         schema: Vec<Schema>,
         log: Vec<Draft>,
         made: u32,
+        footprint: Vec<Item>,
     ) -> Result<(), OutOfMemory>
         ensures said { OnOk result (self.new.said.items ≡ self.old.said.items ++ said ∷ []) }
         ensures schema { OnOk result (self.new.schema.items ≡ self.old.schema.items ++ schema.items) }
         ensures log { OnOk result (self.new.log.items ≡ self.old.log.items ++ log.items) }
         ensures made { OnOk result (self.new.made ≡ self.old.made + made) }
+        ensures footprint { OnOk result (self.new.footprint.items ≡ self.old.footprint.items ++ footprint.items) }
         ensures same { OnErr result (progress_of self.new ≡ progress_of self.old) }
     {
-        let (mut schema, mut log) = (schema, log);
+        let (mut schema, mut log, mut footprint) = (schema, log, footprint);
         let sum = self.made.checked_add(made).ok_or(OutOfMemory)?;
-        self.make_room(schema.len(), log.len())?;
+        self.make_room(schema.len(), log.len(), footprint.len())?;
         self.said.push_reserved(said);
         self.schema.append(&mut schema).unwrap();
         self.log.append(&mut log).unwrap();
+        self.footprint.append(&mut footprint).unwrap();
         self.made = sum;
         Ok(())
     }
 
-    /// Makes room for one statement more, and for so many changes and revisions.
-    fn make_room(&mut self, changes: usize, revisions: usize) -> Result<(), OutOfMemory>
+    /// Makes room for one statement more, and for so many changes, revisions and items that it read.
+    fn make_room(
+        &mut self,
+        changes: usize,
+        revisions: usize,
+        items: usize,
+    ) -> Result<(), OutOfMemory>
         ensures same { progress_of self.new ≡ progress_of self.old }
         ensures said { OnOk result (vec_len self.new.said + 1 ≤ vec_capacity self.new.said) }
         ensures schema { OnOk result (vec_len self.new.schema + changes ≤ vec_capacity self.new.schema) }
         ensures log { OnOk result (vec_len self.new.log + revisions ≤ vec_capacity self.new.log) }
+        ensures footprint { OnOk result (vec_len self.new.footprint + items ≤ vec_capacity self.new.footprint) }
     {
         self.said.reserve(1)?;
         self.schema.reserve(changes)?;
         self.log.reserve(revisions)?;
+        self.footprint.reserve(items)?;
         Ok(())
     }
 }

@@ -1,6 +1,6 @@
 //! A transaction's statements, one after another.
 ghost use Rattle.std.specs.Prelude.{◌≡◌, false, IfOk};
-ghost use Rattle.ledger_model.specs.Run.{run, start, unread_ran};
+ghost use Rattle.ledger_model.specs.Run.{run, start};
 ghost use Rattle.txn_core.specs.Runs.{IsRunOf, ran_of};
 
 use crate::stopped::Stopped;
@@ -20,7 +20,7 @@ pub enum Ran {
 /// tables and documents, or has more than 2^32 - 1 statements.
 pub fn run_statements(alloc: Global, txn: Txn, asked: &[Request]) -> Result<Ran, OutOfMemory>
     requires { txn.done ≡ start }
-    ensures ran { IfOk result (λ r. ran_of r ≡ unread_ran (run txn.begun txn.base asked.now)) }
+    ensures ran { IfOk result (λ r. ran_of r ≡ run txn.begun txn.base asked.now) }
     ensures of { IfOk result (λ r. IsRunOf txn r) }
 {
     let mut txn = txn;

@@ -14,7 +14,7 @@ use crate::progress::Progress;
 use crate::stopped::Stopped;
 use crate::views::left_of;
 use ion_values::{OutOfMemory, Text, Value, copy_values};
-use ledger_model::{Answer, Drafts, Refusal, Said, SaidList, SchemaList};
+use ledger_model::{Answer, Drafts, Item, Refusal, Said, SaidList, SchemaList};
 use lists::Sequence;
 use ql_types::{IdMask, Place, TableId, TxId, id_raw};
 use std::alloc::Global;
@@ -118,6 +118,13 @@ impl Txn {
         ensures { result.now ≡ self.now.done.said }
     {
         self.done.said.as_slice()
+    }
+
+    /// What the statements that were done read, in order, repeats kept. It takes no memory.
+    pub fn footprint(&self) -> &[Item]
+        ensures { result.now ≡ self.now.done.footprint }
+    {
+        self.done.footprint.as_slice()
     }
 
     /// Whether a statement was refused.
@@ -228,14 +235,20 @@ impl Txn {
             schema,
             log,
             made,
+            footprint,
         } = effect;
         let said = Said {
             text: Text::from_text(alloc, text)?,
             params: copy_values(alloc, params)?,
             answer: Answer { rows },
         };
-        self.done
-            .add(said, schema.into_vec(), log.into_vec(), made)?;
+        self.done.add(
+            said,
+            schema.into_vec(),
+            log.into_vec(),
+            made,
+            footprint.into_vec(),
+        )?;
         Ok(())
     }
 }

@@ -57,7 +57,8 @@ fn put_answer(alloc: Global, out: &mut Text, said: &Said) -> Result<(), OutOfMem
     out.push_str("]")
 }
 
-fn put_rows(alloc: Global, out: &mut Text, rows: &[Value]) -> Result<(), OutOfMemory>
+/// Puts the texts of values with commas between them.
+pub fn put_rows(alloc: Global, out: &mut Text, rows: &[Value]) -> Result<(), OutOfMemory>
     ensures { OnOk result (out.new ≡ out.old ++ joined (map value_text rows.now)) }
 {
     let [first, more @ ..] = rows else {
