@@ -1,197 +1,151 @@
--- The outcomes of one transaction, case by case: what is drawn, run and committed is what an attempt is to do.
-use Rattle.std.proofs.Common.{◌≡◌, ℕ, ◌+◌, ◌-◌, ◌^◌, ◌<◌, ◌≤◌, ◌⊎◌, ◌&&◌, inl, inr, false, List, [], ◌∷◌, ◌++◌, length, Option, Some, None, refl, sym, ap, subst, ◌∙◌, arith, append-nil, length-append, leb-true}
-use Rattle.std.specs.Prelude.{nat_le, nat_lt, ◌==◌, IsTrue, true}
-use Rattle.std.proofs.lemmas.Bool.{and_from, and_parts, lt-ltb}
+-- An attempt whose statements are all done ends as its commit does, case by case.
+use Rattle.std.proofs.Common.{◌≡◌, ◌∙◌, ℕ, ◌+◌, ◌^◌, ◌<◌, ◌⊎◌, inl, inr, true, false, List, [], ◌∷◌, length, drop, Option, Some, None, refl, sym, ap, subst, true≢false}
+use Rattle.std.specs.Prelude.{IfErr, OnErr, OnOk, Result, Ok, Err, take}
 use Rattle.ion_values.specs.declared.time.TimeParts.{TimeParts}
-use Rattle.ion_values.specs.Time.{is_time}
 use Rattle.ql_types.specs.Ids.{raw_id}
 use Rattle.ql_types.specs.declared.Place.{Place}
 use Rattle.ql_types.specs.declared.TxId.{TxId}
 use Rattle.ledger_model.specs.declared.block.Block.{Block}
-use Rattle.ledger_model.specs.declared.outcome.Outcome.{Outcome}
-use Rattle.ledger_model.specs.declared.outcome.Outcome.TheVariants.{Committed, Conflict, Refused, DigestDiffers, StoreFault, JournalFull, IdsSpent, Aborted, OutOfMemory}
-use Rattle.ledger_model.specs.declared.outcome.Refusal.{Refusal}
-use Rattle.ledger_model.specs.Run.{Begun, Progress, Ran, ran, refused, unserved, unread, unread_ran}
-use Rattle.ledger_model.specs.Making.{block_of}
-use Rattle.ledger_model.specs.Damages.{Undamaged, UndamagedBehind, strand_of}
-use Rattle.ledger_model.specs.Journal.{journal_bytes}
+use Rattle.ledger_model.specs.declared.outcome.Item.{Item}
+use Rattle.ledger_model.specs.declared.outcome.Named.{Named}
+use Rattle.ledger_model.specs.Making.{IsMadeOf}
+use Rattle.ledger_model.specs.Run.{Begun, ran, run}
 use Rattle.ledger_model.specs.Script.{Placed}
-use Rattle.ledger_model.specs.Whole.{place_fits}
-use Rattle.ledger_claims.specs.Attempts.{Standing, IsStanding, IsNext, IsNextBlock, Seals, Draws, Attempted, LeavesStore, HoldsBehind, LeavesPart, next, ran_next}
-use Rattle.made_blocks.specs.Makes.{CanMake, IsWithinAll}
-use Rattle.ledger_claims.specs.Stores.{Holding}
-use Rattle.made_blocks.proofs.Journals.{passes_all}
-use Rattle.ledger_claims.proofs.NextUndamaged.{next_is_undamaged}
-use Rattle.ledger_claims.proofs.Standings.{Attempted-IsStanding}
-use Rattle.ledger_core.specs.Tails.{MayHoldPart, joined}
+use Rattle.ledger_model.specs.State.{state}
+use Rattle.frame_laws.specs.Touches.{conflict, conflict_from}
+use Rattle.ledger_claims.specs.Attempts.{IsNext, Standing, TellsFaults, next}
+use Rattle.ledger_claims.specs.Stores.{Holding, IsSynced}
+use Rattle.outside.specs.Told.{StoreTold}
 use Rattle.txn_core.specs.Opened.{Opened}
-use Rattle.ledger_core.specs.Attempting.{Commits, CommitLeaves, HasRoom, next_block}
+use Rattle.ledger_core.specs.declared.appending.Receipt.{Receipt}
+use Rattle.ledger_core.specs.declared.commit.CommitFault.{CommitFault}
+use Rattle.ledger_core.specs.declared.commit.CommitFault.TheVariants.{EndedTxn, DigestDiffers, Conflict, JournalFull, StoreFault, OutOfMemory}
+use Rattle.ledger_core.specs.Attempting.{AttemptEnds, AttemptLeaves, Comes, Draws, IsReady, LeavesLine}
 use Rattle.ledger_core.specs.Beginning.{drawn}
+use Rattle.ledger_core.specs.Committing.{CommitEnds, ComesTo, IsCommitFault, IsService, MayHoldPartOf, tx_of}
+use Rattle.ledger_core.specs.Outcomes.{outcome_of}
+use Rattle.ledger_core.specs.Tails.{EndsSynced, TailHeld}
+use Rattle.ledger_core.proofs.Digests.{hash_differs, own_is, sends_own}
 
--- ---- at most 2^32 - 1 blocks
+-- ---- no block stands behind all blocks
 
-bound_behind : (bs before : List Block) → UndamagedBehind before bs → length before ≤ 2 ^ 32 - 1 → length before + length bs ≤ 2 ^ 32 - 1
-bound_behind [] before u h = omega (arith, h)
-bound_behind (b ∷ bs) before u h =
-    let address = (passes_all before b u.1).address in
-    let two = and_parts ((b.header.address.sequence == length before) && nat_le (length before) (2 ^ 32 - 2)) (b.header.address.strand.raw == strand_of before b) address in
-    let one = and_parts (b.header.address.sequence == length before) (nat_le (length before) (2 ^ 32 - 2)) two.0 in
-    let low : length before ≤ 2 ^ 32 - 2 = leb-true (length before) (2 ^ 32 - 2) one.1 in
-    let long : length (before ++ b ∷ []) ≡ length before + 1 = length-append before (b ∷ []) in
-    let rest = bound_behind bs (before ++ b ∷ []) u.2 (omega (arith, low, long)) in
-    omega (arith, rest, long)
+none_left : {A : Type 0} (xs : List A) → drop (length xs) xs ≡ []
+none_left [] = refl
+none_left (x ∷ xs) = none_left xs
 
-pub bound : (s : Standing) → IsStanding s → length s.blocks ≤ 2 ^ 32 - 1
-bound s is = let h = bound_behind s.blocks [] is.undamaged (omega arith) in omega (arith, h)
+no_conflict : (blocks : List Block) (since : ℕ) (items : List Item) (named : Named) → since ≡ length blocks → conflict blocks since items ≡ Some named → ⊥
+no_conflict blocks since items named all finds =
+    let none : drop since blocks ≡ [] = ap (λ n. drop n blocks) all ∙ none_left blocks in
+    let same : conflict blocks since items ≡ None = ap (λ (bs : List Block). conflict_from since (state (take since blocks)) bs items) none in
+    cc (same, finds)
 
--- ---- the number is drawn
+-- ---- a job's transaction, all of whose statements are done, and which is to be committed
 
-pub draws : (s now : Standing) → now ≡ drawn s → Draws s now
-draws s now e = subst (λ (x : Standing). Draws s x) (sym e) (record { mask = refl; last = refl; blocks = refl })
+pub record IsDone (s : Standing) (p : Placed) (t : Opened) : Type 0 where
+  pub counted : s.last + 1 < 2 ^ 64
+  pub begun : t.begun ≡ next s
+  pub placed : t.place ≡ p.place
+  pub stood : t.since ≡ length s.blocks
+  pub base : t.base ≡ state s.blocks
+  pub goes_on : t.ended ≡ false
+  pub runs : run t.begun t.base p.job.statements ≡ ran t.done
+  pub commits : p.job.abort ≡ false
 
--- ---- what a commit does and leaves
+module _ (s : Standing) (told : TimeParts → Type 0) (p : Placed) (t : Opened) (d : IsDone s p t) where
+  is_next : IsNext s (tx_of t)
+  is_next = record { id = ap (λ (b : Begun). raw_id b.mask b.number 0) d.begun; counted = d.counted }
 
-holds_alone : (blocks : List Block) (held : Option (List ℕ)) → Holding blocks held → HoldsBehind blocks [] held
-holds_alone blocks None h = tt
-holds_alone blocks (Some bytes) h = h ∙ sym (append-nil (journal_bytes blocks))
+  draws : (now : Standing) → now ≡ drawn s → Draws s (tx_of t) now
+  draws now e = record { is_next = is_next; now_is = e }
 
-module _ (s : Standing) (time : TimeParts) (p : Placed) (progress : Progress) (is : IsStanding s) (can : CanMake s.mask time p.place) (counted : s.last + 1 < 2 ^ 64)
-    (ranges : IsWithinAll progress) (runs : ran_next s p ≡ ran progress) (commits : p.job.abort ≡ false) (b : Block) (b_is : b ≡ block_of (next s) s.blocks p.place time progress) where
-  next_made : HasRoom s → IsNextBlock s time p b
-  next_made room = record {
-    made = record { progress = progress; runs = runs; block_is = b_is };
-    undamaged = subst (λ (x : Block). Undamaged (s.blocks ++ x ∷ [])) (sym b_is) (next_is_undamaged s time p progress is can ranges counted room runs);
-    commits = commits;
-    room = room;
-    counted = counted;
+  is_ready : IsReady s p
+  is_ready = record {
+    progress = t.done;
+    ends = (λ i. run (sym d.begun i) (sym d.base i) p.job.statements) ∙ d.runs;
+    commits = d.commits;
   }
 
-  block_id : b.header.tx ≡ record { raw = raw_id s.mask (s.last + 1) 0 }
-  block_id = ap (λ (x : Block). x.header.tx) b_is
+  made_next : (b : Block) (time : TimeParts) → IsMadeOf t.begun s.blocks t.place time p.job.statements b → IsMadeOf (next s) s.blocks p.place time p.job.statements b
+  made_next b time made =
+      subst (λ (x : Place). IsMadeOf (next s) s.blocks x time p.job.statements b) d.placed
+      (subst (λ (x : Begun). IsMadeOf x s.blocks t.place time p.job.statements b) d.begun made)
 
-  id_is : (id : TxId) → IsNext s id → id ≡ record { raw = raw_id s.mask (s.last + 1) 0 }
-  id_is id is_next = λ i. record { raw = is_next.id i }
-
-  sealed_next : (id : TxId) → IsNext s id → HasRoom s → Seals s time p id (length s.blocks) (joined (drawn s) b)
-  sealed_next id is_next room = record {
-    sealed = b;
-    is_next = next_made room;
-    id = id_is id is_next ∙ sym block_id;
-    place = refl;
-    mask = refl;
-    last = refl;
-    blocks = refl;
+  comes : (b : Block) → ComesTo (drawn s) t p.job.digest told b → Comes s told p (tx_of t) b
+  comes b c = record {
+    id = sym (ap (λ (x : Block). x.header.tx) c.block_is);
+    digest = sends_own t p.job d.runs c.checks.digest_is;
+    time = c.time;
+    is_told = c.is_told;
+    is_next = record {
+      made = made_next b c.time (c.made p.job.statements d.runs);
+      undamaged = c.undamaged;
+      commits = d.commits;
+      room = c.checks.room;
+      counted = d.counted;
+    };
   }
 
-  pub next_stands : (id : TxId) → IsNext s id → HasRoom s → IsStanding (joined (drawn s) b)
-  next_stands id is_next room =
-      Attempted-IsStanding s time p (Committed id (length s.blocks)) (joined (drawn s) b) is (sealed_next id is_next room)
+  pub ended : (answer : Result Receipt CommitFault) (now : Standing) → CommitEnds (drawn s) t p.job.digest told answer now
+      → AttemptEnds s told p (outcome_of (tx_of t) t.since answer) now
+  ended (Ok receipt) now c = (
+    is_next,
+    (c.block, comes c.block c.comes, c.now_is),
+    ap (λ (x : Receipt). x.block) c.receipt_is ∙ ap (λ (x : Block). x.header.address.sequence) c.comes.block_is,
+  )
+  ended (Err EndedTxn) now c = absurd (true≢false (sym c.0 ∙ d.goes_on))
+  ended (Err (DigestDiffers mine given)) now c = (
+    draws now c.1,
+    is_ready,
+    d.stood,
+    record {
+      mine_is = c.0.1 ∙ own_is t p.job.statements d.runs;
+      given_is = c.0.2;
+      differ = hash_differs mine given c.0.3;
+    },
+  )
+  ended (Err (Conflict since named)) now c = absurd (no_conflict s.blocks t.since t.done.footprint named d.stood c.0.3)
+  ended (Err (JournalFull blocks)) now c = (draws now c.1, is_ready, sends_own t p.job d.runs c.0.1, c.0.3, c.0.4)
+  ended (Err (StoreFault count)) now c = (draws now c.now_is, (c.block, comes c.block c.comes))
+  ended (Err OutOfMemory) now c = inr (tx_of t, draws now c.1)
 
-  same_id : (id tx : TxId) → id ≡ tx → IsNext s tx → IsNext s id
-  same_id id tx e is_next = subst (λ (x : TxId). IsNext s x) (sym e) is_next
+  left : (before after : Option (List ℕ)) → MayHoldPartOf (drawn s) t p.job.digest told before after → (after ≡ before) ⊎ LeavesLine s told p after
+  left before after (inl same) = inl same
+  left before after (inr (b, c, inl same)) = inl same
+  left before after (inr (b, c, inr (kept, holds))) =
+      inr (record { tx = tx_of t; stopped = b; comes = comes b c; kept = kept; holds = holds })
 
-  seals : (id tx : TxId) (at : ℕ) (now : Standing) → id ≡ tx → at ≡ length s.blocks → HasRoom s → now ≡ joined (drawn s) b → IsNext s tx → Seals s time p id at now
-  seals id tx at now e place room e_now is_next =
-      subst (λ (n : Standing). Seals s time p id at n) (sym e_now)
-      (subst (λ (k : ℕ). Seals s time p id k (joined (drawn s) b)) (sym place) (sealed_next id (same_id id tx e is_next) room))
+  pub left_by : {S C : Type 0} (bytes : S → Option (List ℕ)) (n m : TailHeld S C) (answer : Result Receipt CommitFault)
+      → OnOk answer (Holding m.standing.blocks (bytes m.store)) → OnErr answer (MayHoldPartOf (drawn s) t p.job.digest told (bytes n.store) (bytes m.store))
+      → IfErr answer (λ fault. IsService fault ⊎ (m ≡ n))
+      → AttemptLeaves s told p (outcome_of (tx_of t) t.since answer) m.standing (bytes n.store) (bytes m.store)
+  left_by bytes n m (Ok receipt) holds part same = holds
+  left_by bytes n m (Err EndedTxn) holds part same = left (bytes n.store) (bytes m.store) part
+  left_by bytes n m (Err (DigestDiffers mine given)) holds part (inl bad) = absurd bad
+  left_by {S} {C} bytes n m (Err (DigestDiffers mine given)) holds part (inr same) = ap (λ (x : TailHeld S C). bytes x.store) same
+  left_by bytes n m (Err (Conflict since named)) holds part (inl bad) = absurd bad
+  left_by {S} {C} bytes n m (Err (Conflict since named)) holds part (inr same) = ap (λ (x : TailHeld S C). bytes x.store) same
+  left_by bytes n m (Err (JournalFull blocks)) holds part (inl bad) = absurd bad
+  left_by {S} {C} bytes n m (Err (JournalFull blocks)) holds part (inr same) = ap (λ (x : TailHeld S C). bytes x.store) same
+  left_by bytes n m (Err (StoreFault count)) holds part same = left (bytes n.store) (bytes m.store) part
+  left_by bytes n m (Err OutOfMemory) holds part same = left (bytes n.store) (bytes m.store) part
 
-  pub commit_is : (tx : TxId) (o : Outcome) (now : Standing) → IsNext s tx → Commits tx (drawn s) b o now → Attempted s time p o now
-  commit_is tx (Committed id at) now n c = seals id tx at now c.0 c.1 c.2 c.3 n
-  commit_is tx (Conflict id since named) now n c = absurd c
-  commit_is tx (Refused id since statement cause) now n c = absurd c
-  commit_is tx (DigestDiffers id since mine given) now n c = absurd c
-  commit_is tx (StoreFault id count) now n c = (same_id id tx c.0 n, draws s now c.2, commits)
-  commit_is tx (JournalFull id blocks) now n c = (same_id id tx c.0 n, draws s now c.3, commits, c.1, c.2)
-  commit_is tx (IdsSpent last) now n c = absurd c
-  commit_is tx (Aborted id since) now n c = absurd c
-  commit_is tx OutOfMemory now n c = (draws s now c.1, counted)
+-- ---- the count of failures, and what is synced
 
-  left_part : (held after : Option (List ℕ)) → HasRoom s → MayHoldPart s.blocks b held after → (after ≡ held) ⊎ LeavesPart s time p after
-  left_part held after room (inl same) = inl same
-  left_part held after room (inr part) = inr (record { stopped = b; is_next = next_made room; kept = part.0; holds = part.1 })
+pub told_faults : (tx : TxId) (since : ℕ) (answer : Result Receipt CommitFault) (before after : StoreTold) → OnOk answer (after.faults ≡ before.faults)
+    → IfErr answer (λ fault. IsCommitFault fault before after) → TellsFaults before.faults (outcome_of tx since answer) after.faults
+told_faults tx since (Ok receipt) before after fine fault = fine
+told_faults tx since (Err EndedTxn) before after fine fault = fault
+told_faults tx since (Err (DigestDiffers mine given)) before after fine fault = fault
+told_faults tx since (Err (Conflict from named)) before after fine fault = fault
+told_faults tx since (Err (JournalFull blocks)) before after fine fault = fault
+told_faults tx since (Err (StoreFault count)) before after fine fault =
+    (subst (λ n. before.faults < n) fault.count_is fault.rose, fault.count_is)
+told_faults tx since (Err OutOfMemory) before after fine fault = fault
 
-  pub commit_leaves : (tx : TxId) (o : Outcome) (now : Standing) (held held_after : Option (List ℕ)) → Commits tx (drawn s) b o now → CommitLeaves s.blocks b o held held_after
-      → LeavesStore s time p o now held held_after
-  commit_leaves tx (Committed id at) now held held_after c l =
-      holds_alone now.blocks held_after (subst (λ (x : List Block). Holding x held_after) (sym (ap (λ (n : Standing). n.blocks) c.3)) l)
-  commit_leaves tx (Conflict id since named) now held held_after c l = l
-  commit_leaves tx (Refused id since statement cause) now held held_after c l = l
-  commit_leaves tx (DigestDiffers id since mine given) now held held_after c l = l
-  commit_leaves tx (StoreFault id count) now held held_after c l = left_part held held_after c.1 l
-  commit_leaves tx (JournalFull id blocks) now held held_after c l = l
-  commit_leaves tx (IdsSpent last) now held held_after c l = l
-  commit_leaves tx (Aborted id since) now held held_after c l = l
-  commit_leaves tx OutOfMemory now held held_after c l = left_part held held_after c.0 l
-
--- ---- a transaction whose statements are all done
-
-pub place_within : (p : Place) → p.session < 2 ^ 32 → p.transaction < 2 ^ 32 → IsTrue (place_fits p)
-place_within p session transaction =
-    and_from (nat_lt p.session (2 ^ 32)) (nat_lt p.transaction (2 ^ 32)) (lt-ltb p.session (2 ^ 32) session) (lt-ltb p.transaction (2 ^ 32) transaction)
-
-pub can_make : (s : Standing) (time : TimeParts) (p : Placed) → s.mask < 2 ^ 128 → IsTrue (is_time time) → IsTrue (place_fits p.place)
-    → CanMake s.mask time p.place
-can_make s time p mask timed placed = record { mask_fits = mask; timed = timed; placed = placed }
-
--- how the statements ended, with what they read
-pub read_in : (p : Progress) (r : Ran) → ran p ≡ unread_ran r → (q : Progress) × (r ≡ ran q) × (p ≡ unread q)
-read_in p (ran q) e = let same : p ≡ unread q = cc in (q, refl, same)
-read_in p (refused statement cause) e = let bad : ⊥ = cc in absurd bad
-read_in p unserved e = let bad : ⊥ = cc in absurd bad
-
-refused_in : (statement : ℕ) (cause : Refusal) (r : Ran) → refused statement cause ≡ unread_ran r → r ≡ refused statement cause
-refused_in statement cause (ran q) e = let bad : ⊥ = cc in absurd bad
-refused_in statement cause (refused other why) e = sym e
-refused_in statement cause unserved e = let bad : ⊥ = cc in absurd bad
-
-pub within_read : (p q : Progress) → unread p ≡ unread q → IsWithinAll p → IsWithinAll q
-within_read p q e h =
-    let r : IsWithinAll (unread q) = subst IsWithinAll e (record { said = h.said; schema = h.schema; log = h.log }) in
-    record { said = r.said; schema = r.schema; log = r.log }
-
-module _ (s : Standing) (time : TimeParts) (p : Placed) (t : Opened) (tx : TxId) (is : IsStanding s) (can : CanMake s.mask time p.place) (n : IsNext s tx)
-    (ranges : IsWithinAll t.done) (runs : ran (unread t.done) ≡ unread_ran (ran_next s p)) (begun : t.begun ≡ next s) (placed : t.place ≡ p.place) (commits : p.job.abort ≡ false) where
-  whole : (q : Progress) × (ran_next s p ≡ ran q) × (unread t.done ≡ unread q)
-  whole = read_in (unread t.done) (ran_next s p) runs
-
-  read : Progress
-  read = whole.0
-
-  read_ranges : IsWithinAll read
-  unfolding read
-  read_ranges = within_read t.done whole.0 whole.2 ranges
-
-  read_runs : ran_next s p ≡ ran read
-  unfolding read
-  read_runs = whole.1
-
-  block_is : next_block t s.blocks time ≡ block_of (next s) s.blocks p.place time read
-  unfolding read
-  block_is =
-      ap (λ (b : Begun). block_of b s.blocks t.place time t.done) begun ∙ ap (λ (x : Place). block_of (next s) s.blocks x time t.done) placed
-      ∙ ap (λ (q : Progress). block_of (next s) s.blocks p.place time q) whole.2
-
-  pub done_stands : HasRoom s → IsStanding (joined (drawn s) (next_block t s.blocks time))
-  done_stands room =
-      next_stands s time p read is can n.counted read_ranges read_runs commits (next_block t s.blocks time) block_is tx n room
-
-  pub done_attempted : (o : Outcome) (now : Standing) → Commits tx (drawn s) (next_block t s.blocks time) o now → Attempted s time p o now
-  done_attempted o now c =
-      commit_is s time p read is can n.counted read_ranges read_runs commits (next_block t s.blocks time) block_is tx o now n c
-
-  pub done_leaves : (o : Outcome) (now : Standing) (held held_after : Option (List ℕ)) → Commits tx (drawn s) (next_block t s.blocks time) o now
-      → CommitLeaves s.blocks (next_block t s.blocks time) o held held_after → LeavesStore s time p o now held held_after
-  done_leaves o now held held_after c l =
-      commit_leaves s time p read is can n.counted read_ranges read_runs commits (next_block t s.blocks time) block_is tx o now held held_after c l
-
--- ---- a transaction that isn't committed
-
-pub aborted : (s now : Standing) (time : TimeParts) (p : Placed) (t : Opened) (tx : TxId) (since : ℕ) → IsNext s tx → now ≡ drawn s
-    → since ≡ length s.blocks → p.job.abort ≡ true → ran (unread t.done) ≡ unread_ran (ran_next s p) → Attempted s time p (Aborted tx since) now
-aborted s now time p t tx since n e place aborts runs =
-    let whole = read_in (unread t.done) (ran_next s p) runs in
-    (n, draws s now e, place, aborts, (whole.0, whole.1))
-
-pub refused_at : (s now : Standing) (time : TimeParts) (p : Placed) (tx : TxId) (since statement : ℕ) (cause : Refusal) → IsNext s tx
-    → now ≡ drawn s → since ≡ length s.blocks → refused statement cause ≡ unread_ran (ran_next s p) → Attempted s time p (Refused tx since statement cause) now
-refused_at s now time p tx since statement cause n e place runs = (n, draws s now e, place, refused_in statement cause (ran_next s p) runs)
+pub ends_synced : {S C : Type 0} (told : S → StoreTold) (n m : TailHeld S C) (clock : C) (answer : Result Receipt CommitFault)
+    → OnOk answer (IsSynced (told m.store)) → OnErr answer ((m ≡ record n { clock = clock }) ⊎ (m.marked ≡ true))
+    → EndsSynced n.marked (told n.store) m.marked (told m.store)
+ends_synced told n m clock (Ok receipt) synced marked = inr (inr synced)
+ends_synced {S} {C} told n m clock (Err fault) synced (inl same) =
+    inl (ap (λ (x : TailHeld S C). x.marked) same, ap (λ (x : TailHeld S C). told x.store) same)
+ends_synced told n m clock (Err fault) synced (inr marked) = inr (inl marked)

@@ -1,9 +1,14 @@
-mod Attempts
-mod Drawn
+pub mod Attempts
+pub mod Bounds
+pub mod Commits
+pub mod Digests
+pub mod Drawn
+pub mod Entering
 mod Joined
 mod Kept
+pub mod LastBlock
 pub mod Openings
 mod Read
 mod Standings
+mod Steps
 mod Syncs
-pub mod LastBlock

@@ -1,6 +1,6 @@
--- The commit of an open transaction, by its answer. Its checks come in this order: whether it is ended, the digest that is given,
--- room for a block; then memory and the store.
-use Rattle.std.specs.Prelude.{◌≡◌, ◌-◌, ◌^◌, ◌≤◌, ◌⊎◌, ℕ, ℤ, true, false, List, length, fold, Option, IfSome, Result, Ok, Err}
+-- The commit of an open transaction, by its answer. Its checks come in this order: whether it is ended, the digest
+-- that is sent, whether a later block touched what it read, room for a block; then memory and the store.
+use Rattle.std.specs.Prelude.{◌≡◌, ◌-◌, ◌^◌, ◌≤◌, ◌⊎◌, ℕ, ℤ, Bool, true, false, List, [], ◌∷◌, ◌++◌, length, fold, take, Option, Some, None, IfSome, Result, Ok, Err}
 use Rattle.outside.specs.Clocks.{AddsAnswer}
 use Rattle.ion_time.specs.Millis.{BeginsAt, nearest}
 use Rattle.ion_values.specs.declared.time.TimeParts.{TimeParts}
@@ -8,17 +8,21 @@ use Rattle.ql_types.specs.Ids.{raw_id}
 use Rattle.ql_types.specs.declared.Hash32.{Hash32}
 use Rattle.ql_types.specs.declared.TxId.{TxId}
 use Rattle.made_blocks.specs.Before.{IsUnused}
+use Rattle.ledger_model.specs.declared.block.Block.{Block}
 use Rattle.ledger_model.specs.declared.block.Said.{Said}
+use Rattle.ledger_model.specs.declared.outcome.Named.{Named}
 use Rattle.ledger_model.specs.declared.script.Request.{Request}
 use Rattle.ledger_model.specs.CommitDigest.{first_digest, with_statement}
-use Rattle.ledger_model.specs.Damages.{same_hash}
-use Rattle.ledger_model.specs.Run.{ran, run, unread, unread_ran}
+use Rattle.ledger_model.specs.Damages.{Undamaged, same_hash}
+use Rattle.ledger_model.specs.Making.{IsMadeOf}
+use Rattle.ledger_model.specs.Run.{ran, run}
 use Rattle.ledger_model.specs.State.{state}
+use Rattle.frame_laws.specs.Touches.{conflict}
 use Rattle.ledger_claims.specs.Attempts.{Standing}
 use Rattle.txn_core.specs.Opened.{Opened}
 use Rattle.ledger_core.specs.declared.appending.Receipt.{Receipt}
 use Rattle.ledger_core.specs.declared.commit.CommitFault.{CommitFault}
-use Rattle.ledger_core.specs.declared.commit.CommitFault.TheVariants.{EndedTxn, DigestDiffers, JournalFull, StoreFault, OutOfMemory}
+use Rattle.ledger_core.specs.declared.commit.CommitFault.TheVariants.{EndedTxn, DigestDiffers, Conflict, JournalFull, StoreFault, OutOfMemory}
 use Rattle.ledger_core.specs.declared.keeping.SettleFault.{SettleFault}
 use Rattle.ledger_core.specs.declared.keeping.SettleFault.TheVariants as settle
 use Rattle.outside.specs.Told.{StoreTold}
@@ -39,20 +43,31 @@ digest_of tx said = fold (λ digest x. with_statement digest x.text x.params) (f
 abbrev pub own_digest : Opened → Hash32
 own_digest t = digest_of (tx_of t) t.done.said
 
--- It was begun here on all blocks that stand, no block is of its number, and what it has done is what some statements come to.
+-- the digest that is sent is its own, where one is sent
+abbrev pub is_own : Opened → Option Hash32 → Bool
+is_own t None = true
+is_own t (Some digest) = same_hash (own_digest t) digest
+
+-- The first blocks that stand are those on which it began, no block is of its number, and what it has done is what some
+-- statements come to on those first blocks.
 pub record IsOpenOn (s : Standing) (t : Opened) : Type 0 where
   pub mask : t.begun.mask ≡ s.mask
   pub first : 1 ≤ t.begun.number
   pub drawn : t.begun.number ≤ s.last
   pub unused : IsUnused s.mask t.begun.number s.blocks
-  pub base : t.base ≡ state s.blocks
+  pub stood : t.since ≤ length s.blocks
+  pub base : t.base ≡ state (take t.since s.blocks)
   pub asked : List Request
-  pub runs : unread_ran (run t.begun t.base asked) ≡ ran (unread t.done)
+  pub runs : run t.begun t.base asked ≡ ran t.done
+
+-- the first later block that touches something that it read
+abbrev pub conflict_of : Standing → Opened → Option Named
+conflict_of s t = conflict s.blocks t.since t.done.footprint
 
 -- ---- the clock
 
--- The clock was asked once, and the time is that of its answer in UTC, in milliseconds, or the nearest one of the years 0001 to
--- 9999.
+-- The clock was asked once, and the time is that of its answer in UTC, in milliseconds, or the nearest one of the
+-- years 0001 to 9999.
 pub record IsAnswer (before now : Option (List ℤ)) (always : Option ℤ) (time : TimeParts) : Type 0 where
   pub answer : ℤ
   pub adds : AddsAnswer before now answer
@@ -62,38 +77,61 @@ pub record IsAnswer (before now : Option (List ℤ)) (always : Option ℤ) (time
 -- ---- the answers
 
 -- the checks before memory and the store find nothing
-pub record PassesChecks (s : Standing) (t : Opened) (digest : Hash32) : Type 0 where
+pub record PassesChecks (s : Standing) (t : Opened) (sent : Option Hash32) : Type 0 where
   pub goes_on : t.ended ≡ false
-  pub digest_is : same_hash (own_digest t) digest ≡ true
+  pub digest_is : is_own t sent ≡ true
+  pub free : conflict_of s t ≡ None
   pub room : HasRoom s
 
 -- the first check that finds something, or want of memory
-abbrev pub IsFound : Standing → Opened → Hash32 → CommitFault → Type 0
-IsFound s t digest EndedTxn = t.ended ≡ true
-IsFound s t digest (DigestDiffers mine given) =
-    (t.ended ≡ false) × (mine ≡ own_digest t) × (given ≡ digest) × (same_hash mine given ≡ false)
-IsFound s t digest (JournalFull blocks) =
-    (t.ended ≡ false) × (same_hash (own_digest t) digest ≡ true) × (length s.blocks ≡ 2 ^ 32 - 1) × (blocks ≡ 2 ^ 32 - 1)
-IsFound s t digest OutOfMemory = t.ended ≡ false
-IsFound s t digest other = ⊥
+abbrev pub IsFound : Standing → Opened → Option Hash32 → CommitFault → Type 0
+IsFound s t sent EndedTxn = t.ended ≡ true
+IsFound s t sent (DigestDiffers mine given) =
+    (t.ended ≡ false) × (mine ≡ own_digest t) × (sent ≡ Some given) × (same_hash mine given ≡ false)
+IsFound s t sent (Conflict since named) =
+    (t.ended ≡ false) × (is_own t sent ≡ true) × (since ≡ t.since) × (conflict_of s t ≡ Some named)
+IsFound s t sent (JournalFull blocks) =
+    (t.ended ≡ false) × (is_own t sent ≡ true) × (conflict_of s t ≡ None) × (length s.blocks ≡ 2 ^ 32 - 1)
+    × (blocks ≡ 2 ^ 32 - 1)
+IsFound s t sent OutOfMemory = t.ended ≡ false
+IsFound s t sent other = ⊥
 
-abbrev pub Checked : Standing → Opened → Hash32 → Result (Unit {0}) CommitFault → Type 0
-Checked s t digest (Ok done) = PassesChecks s t digest
-Checked s t digest (Err fault) = IsFound s t digest fault
+abbrev pub Checked : Standing → Opened → Option Hash32 → Result (Unit {0}) CommitFault → Type 0
+Checked s t sent (Ok done) = PassesChecks s t sent
+Checked s t sent (Err fault) = IsFound s t sent fault
 
--- the transaction's block stands behind the others, made at a time that the clock told
-pub record Seals (s : Standing) (t : Opened) (digest : Hash32) (told : TimeParts → Type 0) (receipt : Receipt) (now : Standing) : Type 0 where
-  pub checks : PassesChecks s t digest
+-- This is the transaction's block behind all blocks, made at a time that the clock told. It is that of the statements
+-- by which the transaction came to what it has done, as they run on all blocks, and it is undamaged there.
+pub record ComesTo (s : Standing) (t : Opened) (sent : Option Hash32) (told : TimeParts → Type 0)
+    (b : Block) : Type 0 where
+  pub checks : PassesChecks s t sent
   pub time : TimeParts
   pub is_told : told time
-  pub receipt_is : receipt ≡ receipt_of (next_block t s.blocks time)
-  pub now_is : now ≡ joined s (next_block t s.blocks time)
+  pub block_is : b ≡ next_block t s.blocks time
+  pub made : (asked : List Request) → run t.begun t.base asked ≡ ran t.done
+      → IsMadeOf t.begun s.blocks t.place time asked b
+  pub undamaged : Undamaged (s.blocks ++ b ∷ [])
 
--- a fault that no check finds comes of the store
-abbrev pub CommitEnds : Standing → Opened → Hash32 → (TimeParts → Type 0) → Result Receipt CommitFault → Standing → Type 0
-CommitEnds s t digest told (Ok receipt) now = Seals s t digest told receipt now
-CommitEnds s t digest told (Err (StoreFault count)) now = PassesChecks s t digest × (now ≡ s)
-CommitEnds s t digest told (Err fault) now = IsFound s t digest fault × (now ≡ s)
+-- it stands behind the others
+pub record Seals (s : Standing) (t : Opened) (sent : Option Hash32) (told : TimeParts → Type 0) (receipt : Receipt)
+    (now : Standing) : Type 0 where
+  pub block : Block
+  pub comes : ComesTo s t sent told block
+  pub receipt_is : receipt ≡ receipt_of block
+  pub now_is : now ≡ joined s block
+
+-- the store failed at it
+pub record Fails (s : Standing) (t : Opened) (sent : Option Hash32) (told : TimeParts → Type 0)
+    (now : Standing) : Type 0 where
+  pub block : Block
+  pub comes : ComesTo s t sent told block
+  pub now_is : now ≡ s
+
+abbrev pub CommitEnds : Standing → Opened → Option Hash32 → (TimeParts → Type 0) → Result Receipt CommitFault
+    → Standing → Type 0
+CommitEnds s t sent told (Ok receipt) now = Seals s t sent told receipt now
+CommitEnds s t sent told (Err (StoreFault count)) now = Fails s t sent told now
+CommitEnds s t sent told (Err fault) now = IsFound s t sent fault × (now ≡ s)
 
 -- ---- the store
 
@@ -114,5 +152,7 @@ fault_of (settle.StoreFault count) = StoreFault count
 fault_of settle.OutOfMemory = OutOfMemory
 
 -- the bytes are as before, or a part of the line of the transaction's block stands behind the lines of the blocks
-abbrev pub MayHoldPartOf : Standing → Opened → (TimeParts → Type 0) → Option (List ℕ) → Option (List ℕ) → Type 0
-MayHoldPartOf s t told before after = (after ≡ before) ⊎ ((time : TimeParts) × told time × MayHoldPart s.blocks (next_block t s.blocks time) before after)
+abbrev pub MayHoldPartOf : Standing → Opened → Option Hash32 → (TimeParts → Type 0) → Option (List ℕ)
+    → Option (List ℕ) → Type 0
+MayHoldPartOf s t sent told before after =
+    (after ≡ before) ⊎ ((b : Block) × ComesTo s t sent told b × MayHoldPart s.blocks b before after)

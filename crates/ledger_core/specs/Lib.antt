@@ -1,7 +1,10 @@
 pub mod Attempting
 pub mod Beginning
 pub mod Committing
+pub mod Entering
 pub mod Faults
 pub mod Known
 pub mod Loads
+pub mod Outcomes
+pub mod Steps
 pub mod Tails

@@ -1,11 +1,13 @@
 -- The tail of a journal: the blocks that its store has taken, the numbers that its transactions have, and what stands behind
 -- the lines of the blocks in the store. A store keeps the journal as the lines of its blocks, one behind another.
-use Rattle.std.specs.Prelude.{◌≡◌, ◌⊎◌, ℕ, Bool, false, refl, List, [], ◌∷◌, ◌++◌, length, take, Option, IfSome, option_map, if◌then◌else◌}
+use Rattle.std.specs.Prelude.{◌≡◌, ◌⊎◌, ℕ, Bool, true, false, refl, List, [], ◌∷◌, ◌++◌, length, take, Option, IfSome, option_map, if◌then◌else◌}
 use Rattle.std.specs.Coded.{Coded, code_by, coded×, coded_ℕ, coded_bool, coded_list}
 use Rattle.ledger_model.specs.declared.block.Block.{Block}
 use Rattle.ledger_model.specs.contracts.block.Block as block
 use Rattle.ledger_model.specs.Journal.{line, journal_bytes}
 use Rattle.ledger_claims.specs.Attempts.{Standing, IsStanding, HoldsBehind}
+use Rattle.ledger_claims.specs.Stores.{IsSynced}
+use Rattle.outside.specs.Told.{StoreTold}
 
 -- the store and the clock, what the ledger stands for between two transactions, and whether the store is to be cut to the
 -- lines of the blocks before it takes another one
@@ -54,3 +56,7 @@ HoldsPart marked size line before now = (kept : ℕ) × (now ≡ option_map (λ 
 -- the bytes are as before, or a part of the block's line stands behind the lines of the blocks, perhaps none of it or all
 abbrev pub MayHoldPart : List Block → Block → Option (List ℕ) → Option (List ℕ) → Type 0
 MayHoldPart blocks b before now = (now ≡ before) ⊎ ((kept : ℕ) × HoldsBehind blocks (take kept (line b)) now)
+
+-- after a call nothing of the store was changed, a cut is marked, or all bytes are synced
+abbrev pub EndsSynced : Bool → StoreTold → Bool → StoreTold → Type 0
+EndsSynced was before marked after = ((marked ≡ was) × (after ≡ before)) ⊎ (marked ≡ true) ⊎ IsSynced after

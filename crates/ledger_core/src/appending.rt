@@ -1,6 +1,5 @@
 //! Putting a transaction's block behind the others.
 ghost use Rattle.std.specs.Prelude.{◌≡◌, ◌≤◌, ◌⊎◌, true, IfOk, OnOk, OnErr, IfErr, IsTrue};
-ghost use Rattle.ion_values.specs.Time.{is_time};
 ghost use Rattle.ledger_model.specs.Whole.{place_fits};
 ghost use Rattle.ledger_claims.specs.Attempts.{IsStanding};
 ghost use Rattle.ledger_claims.specs.Stores.{Holding, IsSynced};
@@ -70,11 +69,10 @@ fn receipt_of(block: &Block) -> Receipt
     }
 }
 
-/// That a place and a time are within their ranges, as the values of their types are. It does nothing.
-#[tactic(auto, using(crate::proofs::Attempts::place_within))]
-pub(crate) fn are_within(place: Place, time: IonTime)
-    ensures placed { IsTrue (place_fits place) }
-    ensures timed { IsTrue (is_time time) }
+/// That a place is within its range, as the values of its type are. It does nothing.
+#[tactic(auto, using(crate::proofs::Bounds::place_within))]
+pub(crate) fn is_within(place: Place)
+    ensures { IsTrue (place_fits place) }
 {
-    let _ = (place.session, place.transaction, time.parts());
+    let _ = (place.session, place.transaction);
 }

@@ -2,6 +2,7 @@
 ghost use Rattle.std.specs.Prelude.{◌≡◌, ◌+◌, ◌<◌, ◌^◌, IfOk, OnOk, OnErr, IfErr};
 ghost use Rattle.ledger_core.specs.Beginning.{IsBeginFault, begun_on, drawn};
 ghost use Rattle.ledger_core.specs.Committing.{IsOpenOn};
+ghost use Rattle.txn_core.specs.Opened.{Opened};
 
 use crate::tail::Tail;
 use ion_values::OutOfMemory;
@@ -33,11 +34,13 @@ impl From<OutOfMemory> for BeginFault {
 }
 
 impl<S: JournalStore, C> Tail<S, C> {
-    /// Begins the transaction of the next number at this place of the script. It runs on the blocks so far. `IdsSpent` comes where
-    /// the last number that was drawn or found is 2^64 - 1. After a fault the tail is as before.
+    /// Begins the transaction of the next number at this place of the script. It runs on the blocks so far.
+    /// `IdsSpent` comes where the last number that was drawn or found is 2^64 - 1. After a fault the tail is as
+    /// before.
     pub fn begin(&mut self, alloc: Global, place: Place) -> Result<Txn, BeginFault>
         ensures begun { IfOk result (λ txn. txn ≡ begun_on self.old.standing place) }
         ensures opens { IfOk result (λ txn. IsOpenOn self.new.standing txn) }
+        ensures still { (other : Opened) → IsOpenOn self.old.standing other → IsOpenOn self.new.standing other }
         ensures drawn { OnOk result (self.new ≡ record self.old { standing = drawn self.old.standing }) }
         ensures counted { OnOk result (self.old.standing.last + 1 < 2 ^ 64) }
         ensures fault { IfErr result (λ fault. IsBeginFault self.old.standing fault) }

@@ -6,6 +6,7 @@ mod attempt;
 mod begin;
 mod commit;
 mod keeping;
+mod laws;
 mod reload;
 mod sealing;
 mod settle;
@@ -14,7 +15,10 @@ mod tail;
 pub use appending::Receipt;
 pub use begin::BeginFault;
 pub use commit::CommitFault;
+pub use core_machine::{commits_stand_once, conflict_comes_exactly, history_stays_legal};
 pub use keeping::SettleFault;
+pub use laws::{
+    begins_are_steps, commits_are_steps, spent_numbers_are_steps, statements_are_steps,
+};
 pub use reload::{LoadCause, LoadFault};
 pub use tail::Tail;
-pub use txn_core::is_served;

@@ -1,0 +1,121 @@
+-- How a commit ends that has passed its checks, case by case.
+use Rattle.std.proofs.Common.{◌≡◌, ◌∙◌, ℕ, ◌^◌, ◌<◌, inr, List, Option, refl, sym, ap, subst}
+use Rattle.std.specs.Prelude.{IsTrue, ℤ, Result, Ok, Err}
+use Rattle.ion_values.specs.declared.time.TimeParts.{TimeParts}
+use Rattle.ion_values.specs.Time.{is_time}
+use Rattle.ql_types.specs.declared.Hash32.{Hash32}
+use Rattle.ql_types.specs.declared.Place.{Place}
+use Rattle.ledger_model.specs.declared.block.Block.{Block}
+use Rattle.ledger_model.specs.Whole.{place_fits}
+use Rattle.made_blocks.specs.Makes.{IsWithinAll}
+use Rattle.ledger_claims.specs.Attempts.{Standing, IsStanding}
+use Rattle.outside.specs.Told.{StoreTold, held}
+use Rattle.txn_core.specs.Opened.{Opened}
+use Rattle.ledger_core.specs.declared.appending.Receipt.{Receipt}
+use Rattle.ledger_core.specs.declared.commit.CommitFault.{CommitFault}
+use Rattle.ledger_core.specs.declared.commit.CommitFault.TheVariants.{EndedTxn, DigestDiffers, Conflict, JournalFull, StoreFault, OutOfMemory}
+use Rattle.ledger_core.specs.declared.keeping.SettleFault.{SettleFault}
+use Rattle.ledger_core.specs.declared.keeping.SettleFault.TheVariants as settle
+use Rattle.ledger_core.specs.Attempting.{next_block, receipt_of}
+use Rattle.ledger_core.specs.Committing.{CommitEnds, ComesTo, IsAnswer, IsOpenOn, MayHoldPartOf, PassesChecks, Seals, fault_of}
+use Rattle.ledger_core.specs.Tails.{MayHoldPart, TailHeld, joined}
+use Rattle.ledger_core.proofs.Openings.{joined_open, open_made, open_stands, open_undamaged}
+
+-- what is known of a transaction that has passed the checks
+pub record IsReady (s : Standing) (t : Opened) (sent : Option Hash32) : Type 0 where
+  pub stands : IsStanding s
+  pub opened : IsOpenOn s t
+  pub mask : s.mask < 2 ^ 128
+  pub placed : IsTrue (place_fits t.place)
+  pub ranges : IsWithinAll t.done
+  pub checks : PassesChecks s t sent
+
+pub ready : (s : Standing) (t : Opened) (sent : Option Hash32) (place : Place) → IsStanding s → IsOpenOn s t → s.mask < 2 ^ 128
+    → place ≡ t.place → IsTrue (place_fits place) → IsWithinAll t.done → PassesChecks s t sent → IsReady s t sent
+ready s t sent place stands opened mask same placed ranges checks = record {
+  stands = stands;
+  opened = opened;
+  mask = mask;
+  placed = subst (λ (x : Place). IsTrue (place_fits x)) same placed;
+  ranges = ranges;
+  checks = checks;
+}
+
+comes_to : (s : Standing) (t : Opened) (sent : Option Hash32) (told : TimeParts → Type 0) (time : TimeParts) (n : List Block) → IsReady s t sent
+    → IsTrue (is_time time) → told time → n ≡ s.blocks → ComesTo s t sent told (next_block t n time)
+comes_to s t sent told time n r timed is_told same =
+    subst (λ (bs : List Block). ComesTo s t sent told (next_block t bs time)) (sym same)
+    (record {
+      checks = r.checks;
+      time = time;
+      is_told = is_told;
+      block_is = refl;
+      made = open_made s t time r.stands r.opened r.mask timed r.placed r.ranges r.checks.free r.checks.room;
+      undamaged = open_undamaged s t time r.stands r.opened r.mask timed r.placed r.ranges r.checks.free r.checks.room;
+    })
+
+-- the tail before, once the clock was asked, and once the block was to be put behind the others
+module _ {S C : Type 0} (told : S → StoreTold) (answers : C → Option (List ℤ)) (always : C → Option ℤ) (h n m : TailHeld S C) (clock : C) (t : Opened)
+    (sent : Option Hash32) (time : TimeParts) (r : IsReady h.standing t sent) (e : n ≡ record h { clock = clock }) where
+  same : n.standing ≡ h.standing
+  same = ap (λ (x : TailHeld S C). x.standing) e
+
+  module _ (answer : IsAnswer (answers h.clock) (answers n.clock) (always h.clock) time) where
+    pub put_stands : IsStanding (joined n.standing (next_block t n.standing.blocks time))
+    put_stands =
+        subst (λ (x : Standing). IsStanding (joined x (next_block t x.blocks time))) (sym same)
+        (open_stands h.standing t time r.stands r.opened r.mask answer.begins.is_time r.placed r.ranges r.checks.free r.checks.room)
+
+    module _ (clocks : m.clock ≡ n.clock) where
+      abbrev Told : TimeParts → Type 0
+      Told = IsAnswer (answers h.clock) (answers m.clock) (always h.clock)
+
+      is_told : Told time
+      is_told = subst (λ (x : C). IsAnswer (answers h.clock) (answers x) (always h.clock) time) (sym clocks) answer
+
+      comes : ComesTo h.standing t sent Told (next_block t n.standing.blocks time)
+      comes = comes_to h.standing t sent Told time n.standing.blocks r answer.begins.is_time is_told (ap (λ (x : Standing). x.blocks) same)
+
+      pub put_seals : (receipt : Receipt) → receipt ≡ receipt_of (next_block t n.standing.blocks time)
+          → m.standing ≡ joined n.standing (next_block t n.standing.blocks time) → Seals h.standing t sent Told receipt m.standing
+      put_seals receipt is now = record {
+        block = next_block t n.standing.blocks time;
+        comes = comes;
+        receipt_is = is;
+        now_is = now ∙ ap (λ (x : Standing). joined x (next_block t n.standing.blocks time)) same;
+      }
+
+      pub put_faulted : (fault : SettleFault) → m.standing ≡ n.standing → CommitEnds h.standing t sent Told (Err (fault_of fault)) m.standing
+      put_faulted (settle.StoreFault count) kept = record { block = next_block t n.standing.blocks time; comes = comes; now_is = kept ∙ same }
+      put_faulted settle.OutOfMemory kept = (r.checks.goes_on, kept ∙ same)
+
+      pub put_part : MayHoldPart n.standing.blocks (next_block t n.standing.blocks time) (held (told n.store)) (held (told m.store))
+          → MayHoldPartOf h.standing t sent Told (held (told h.store)) (held (told m.store))
+      put_part part =
+          inr (
+            next_block t n.standing.blocks time,
+            comes,
+            subst (λ (bs : List Block). MayHoldPart bs (next_block t n.standing.blocks time) (held (told h.store)) (held (told m.store)))
+                (ap (λ (x : Standing). x.blocks) same)
+                (subst (λ (b : Option (List ℕ)). MayHoldPart n.standing.blocks (next_block t n.standing.blocks time) b (held (told m.store)))
+                (ap (λ (x : TailHeld S C). held (told x.store)) e) part),
+          )
+
+-- ---- other transactions
+
+module _ (s now : Standing) (t other : Opened) (sent : Option Hash32) (told : TimeParts → Type 0) (masks : t.begun.mask ≡ s.mask)
+    (differ : other.begun.number ≡ t.begun.number → ⊥) (o : IsOpenOn s other) where
+  as_before : now ≡ s → IsOpenOn now other
+  as_before e = subst (λ (x : Standing). IsOpenOn x other) (sym e) o
+
+  -- they stay open, whatever is answered
+  pub still_open : (answer : Result Receipt CommitFault) → CommitEnds s t sent told answer now → IsOpenOn now other
+  still_open (Ok receipt) c =
+      subst (λ (x : Standing). IsOpenOn x other) (sym c.now_is)
+      (subst (λ (b : Block). IsOpenOn (joined s b) other) (sym c.comes.block_is) (joined_open s t other c.comes.time masks differ o))
+  still_open (Err EndedTxn) c = as_before c.1
+  still_open (Err (DigestDiffers mine given)) c = as_before c.1
+  still_open (Err (Conflict since named)) c = as_before c.1
+  still_open (Err (JournalFull blocks)) c = as_before c.1
+  still_open (Err (StoreFault count)) c = as_before c.now_is
+  still_open (Err OutOfMemory) c = as_before c.1

@@ -1,0 +1,109 @@
+-- The calls of a tail and of its transactions as events of the machine of all interleavings: what they answer is what
+-- the machine answers, and what they leave is what it leaves. A call that is answered want of memory is left out.
+use Rattle.std.specs.Prelude.{◌≡◌, ◌+◌, ◌<◌, ◌^◌, ◌⊎◌, ℤ, true, false, List, length, take, Option, Some, Result, Ok, Err}
+use Rattle.ion_values.specs.declared.time.TimeParts.{TimeParts}
+use Rattle.pql_model.specs.declared.Answer as model
+use Rattle.ql_types.specs.declared.Hash32.{Hash32}
+use Rattle.ql_types.specs.declared.Place.{Place}
+use Rattle.ledger_model.specs.declared.block.Block.{Block}
+use Rattle.ledger_model.specs.declared.outcome.Refusal.{Refusal}
+use Rattle.ledger_model.specs.declared.outcome.Refusal.TheVariants.{OutOfMemory}
+use Rattle.ledger_model.specs.declared.script.Request.{Request}
+use Rattle.ledger_model.specs.Legal.{asked_in}
+use Rattle.ledger_model.specs.Run.{Ran, ran, refused}
+use Rattle.ledger_model.specs.State.{state}
+use Rattle.core_machine.specs.Machine.{Answer, Commit, Machine, Transaction, begin, begun, commit, conflicts, differs, ended, ends, execute, fails, full, happens, named, refuses, rows, seals, spent}
+use Rattle.ledger_claims.specs.Attempts.{Standing}
+use Rattle.txn_core.specs.Opened.{Executed, Opened}
+use Rattle.ledger_core.specs.declared.appending.Receipt.{Receipt}
+use Rattle.ledger_core.specs.declared.begin.BeginFault.TheVariants as begins
+use Rattle.ledger_core.specs.declared.commit.CommitFault.{CommitFault}
+use Rattle.ledger_core.specs.declared.commit.CommitFault.TheVariants as fault
+use Rattle.ledger_core.specs.Attempting.{receipt_of}
+use Rattle.ledger_core.specs.Beginning.{IsBeginFault, begun_on, drawn}
+use Rattle.ledger_core.specs.Committing.{CommitEnds, IsAnswer}
+
+-- the machine has the tail's mask, blocks and last number
+pub record StandsFor (m : Machine) (s : Standing) : Type 0 where
+  pub mask : m.mask ≡ s.mask
+  pub blocks : m.blocks ≡ s.blocks
+  pub last : m.last ≡ s.last
+
+-- this is what the transaction's statements came to
+abbrev pub CameTo : Opened → Ran → Type 0
+CameTo t (ran p) = (t.ended ≡ false) × (t.done ≡ p)
+CameTo t (refused statement cause) = t.ended ≡ true
+
+-- the transaction is open there
+pub record IsUnderway (m : Machine) (t : Opened) : Type 0 where
+  pub own : Transaction
+  pub names : named t.begun.number m.underway ≡ Some own
+  pub number : own.number ≡ t.begun.number
+  pub mask : m.mask ≡ t.begun.mask
+  pub place : own.place ≡ t.place
+  pub since : own.since ≡ t.since
+  pub base : state (take own.since m.blocks) ≡ t.base
+  pub asked : t.ended ≡ false → own.asked ≡ asked_in t.done.said
+  pub came : CameTo t own.done
+
+-- ---- begin
+
+pub record Began (m : Machine) (s : Standing) (place : Place) : Type 0 where
+  pub answer : (happens m (begin place)).answer ≡ begun (s.last + 1) (length s.blocks)
+  pub stands : StandsFor (happens m (begin place)).now (drawn s)
+  pub underway : IsUnderway (happens m (begin place)).now (begun_on s place)
+
+abbrev pub BeginIsStep : Type 0
+BeginIsStep =
+    (m : Machine) (s : Standing) (place : Place) → StandsFor m s → s.last + 1 < 2 ^ 64 → Began m s place
+
+-- no number is left
+abbrev pub SpentIsStep : Type 0
+SpentIsStep =
+    (m : Machine) (s : Standing) (place : Place) → StandsFor m s → IsBeginFault s (begins.IdsSpent s.last)
+    → happens m (begin place) ≡ record { answer = spent s.last; now = m }
+
+-- ---- execute
+
+-- the statement's answer, which is the machine's, and what it leaves
+abbrev pub IsAnswered : Machine → Opened → Request → Result model.Answer Refusal → Opened → Type 0
+IsAnswered m t r (Ok answer) now =
+    ((happens m (execute t.begun.number r)).answer ≡ rows answer.rows)
+    × IsUnderway (happens m (execute t.begun.number r)).now now
+IsAnswered m t r (Err cause) now =
+    (cause ≡ OutOfMemory)
+    ⊎ (((happens m (execute t.begun.number r)).answer ≡ refuses cause)
+    × IsUnderway (happens m (execute t.begun.number r)).now now)
+
+abbrev pub ExecuteIsStep : Type 0
+ExecuteIsStep =
+    (m : Machine) (t now : Opened) (r : Request) (answer : Result model.Answer Refusal)
+    → IsUnderway m t → Executed t r answer now → IsAnswered m t r answer now
+
+-- ---- commit
+
+-- the commit's answer is the machine's
+abbrev pub TellsEnd : Result Receipt CommitFault → Answer → Type 0
+TellsEnd (Ok receipt) a = (b : Block) × (a ≡ ends (seals b)) × (receipt ≡ receipt_of b)
+TellsEnd (Err fault.EndedTxn) a = a ≡ ends ended
+TellsEnd (Err (fault.DigestDiffers mine given)) a = a ≡ ends (differs mine given)
+TellsEnd (Err (fault.Conflict since named)) a = a ≡ ends (conflicts since named)
+TellsEnd (Err (fault.JournalFull blocks)) a = a ≡ ends (full blocks)
+TellsEnd (Err (fault.StoreFault count)) a = (b : Block) × (a ≡ ends (fails count b))
+TellsEnd (Err fault.OutOfMemory) a = Unit {0}
+
+-- It is that of a commit with the digest, which leaves what the tail leaves. A commit that is refused before it asks
+-- the clock has any time.
+pub record Ended (m : Machine) (t : Opened) (digest : Hash32) (answer : Result Receipt CommitFault)
+    (now : Standing) : Type 0 where
+  pub event : Commit
+  pub digest_is : event.digest ≡ digest
+  pub tells : TellsEnd answer (happens m (commit t.begun.number event)).answer
+  pub stands : (answer ≡ Err fault.OutOfMemory) ⊎ StandsFor (happens m (commit t.begun.number event)).now now
+
+abbrev pub CommitIsStep : Type 0
+CommitIsStep =
+    (m : Machine) (s : Standing) (t : Opened) (digest : Hash32) (before after : Option (List ℤ)) (always : Option ℤ)
+    (unasked : TimeParts) (answer : Result Receipt CommitFault) (now : Standing)
+    → StandsFor m s → IsUnderway m t → CommitEnds s t (Some digest) (IsAnswer before after always) answer now
+    → Ended m t digest answer now
