@@ -1,38 +1,18 @@
 //! Transactions of which each call of the store fails in turn.
-use crate::stores::{LINE, joined, store_of};
-use ion_values::{IonTime, Precision, Text, TimeParts};
+use crate::tails::{PLACE, store_behind, store_of, tail_of};
+use ion_values::Text;
 use ledger_core::Tail;
 use ledger_model::{Job, Outcome, Request};
 use lists::Sequence;
-use outside::MemoryStore;
-use ql_types::{IdMask, Place};
+use outside::{MemoryStore, SetClock};
 use std::alloc::Global;
 use std::test::Fail;
 
-const MASK: IdMask = IdMask { bits: 0 };
-
-/// The beginning of 2020 in UTC.
-fn new_year() -> Option<IonTime> {
-    IonTime::new(TimeParts {
-        precision: Precision::Second,
-        year: 2020,
-        month: 1,
-        day: 1,
-        hour: 0,
-        minute: 0,
-        second: 0,
-        digits: 3,
-        nanos: 0,
-        offset: Some(0),
-    })
-    .ok()
-}
-
 /// The job of one statement without parameters.
 fn job(alloc: Global, text: &str, abort: bool) -> Option<Job> {
-    let mut statements = Sequence::new(alloc);
     let text = Text::from_text(alloc, text).ok()?;
     let params = Sequence::new(alloc);
+    let mut statements = Sequence::new(alloc);
     statements.push(Request { text, params }).ok()?;
     Some(Job {
         statements,
@@ -43,16 +23,13 @@ fn job(alloc: Global, text: &str, abort: bool) -> Option<Job> {
 }
 
 /// Runs a statement as a transaction; one that begins with `-` is given up.
-fn attempt(alloc: Global, tail: &mut Tail<MemoryStore, u64>, text: &str) -> Option<Outcome> {
-    let job = match text.strip_prefix("-") {
-        Some(text) => job(alloc, text, true)?,
-        None => job(alloc, text, false)?,
+fn attempt(alloc: Global, tail: &mut Tail<MemoryStore, SetClock>, text: &str) -> Option<Outcome> {
+    let (text, abort) = match text.strip_prefix("-") {
+        Some(text) => (text, true),
+        None => (text, false),
     };
-    let place = Place {
-        session: 1,
-        transaction: 1,
-    };
-    Some(tail.attempt(alloc, &job, place, new_year()?))
+    let job = job(alloc, text, abort)?;
+    Some(tail.attempt(alloc, &job, PLACE))
 }
 
 /// One letter for how a transaction ended, or the digit of its block.
@@ -76,102 +53,94 @@ fn number(outcome: &Outcome) -> Option<u128> {
     }
 }
 
-/// How transactions ended, and what the settled store then holds: how many lines, how many blocks a reload finds there, and the
-/// next number.
-#[derive(Drop)]
-struct Told {
-    ends: String,
-    lines: usize,
-    blocks: u64,
-    next: Option<u128>,
-}
-
-/// What a reload of the store tells behind these ends.
-fn reloaded(alloc: Global, ends: String, store: MemoryStore) -> Option<Told> {
-    let lines = store.held().iter().filter(|byte| **byte == b'\n').count();
-    let mut tail = Tail::reload(alloc, store, 7, MASK).ok()?;
-    let blocks = tail.blocks().len();
-    let refused = attempt(alloc, &mut tail, "")?;
-    Some(Told {
-        ends,
-        lines,
-        blocks,
-        next: number(&refused),
-    })
-}
-
-/// Runs the statements, one a transaction, on a store of these bytes, of which the call after so many fails.
-fn run(alloc: Global, bytes: &str, texts: &str, passes: u64, kept: u64) -> Option<Told> {
-    let store = store_of(alloc, bytes.as_bytes(), passes, kept)?;
+/// How the statements end, one a transaction.
+fn ends_of(
+    alloc: Global,
+    tail: &mut Tail<MemoryStore, SetClock>,
+    statements: &str,
+) -> Option<String> {
     let mut ends = String::new(alloc);
-    let mut tail = Tail::reload(alloc, store, 7, MASK).ok()?;
-    for text in texts.split('\n') {
-        let outcome = attempt(alloc, &mut tail, text)?;
-        ends.push_str(letter(&outcome)).ok()?;
+    for statement in statements.split(';') {
+        ends.push_str(letter(&attempt(alloc, tail, statement)?))
+            .ok()?;
     }
+    Some(ends)
+}
+
+/// The settled store behind the statements, or None where they don't end so.
+fn settled(alloc: Global, store: MemoryStore, statements: &str, ends: &str) -> Option<MemoryStore> {
+    let mut tail = tail_of(alloc, store)?;
+    let end_so = ends_of(alloc, &mut tail, statements)?.as_str() == ends;
     let _settled = tail.settle();
     let (_, store, _) = tail.into_parts();
-    reloaded(alloc, ends, store)
+    if end_so { Some(store) } else { None }
 }
 
-/// The same on a store of a line and this rest.
-fn run_behind(alloc: Global, rest: &str, texts: &str, passes: u64, kept: u64) -> Option<Told> {
-    let bytes = joined(alloc, LINE, rest)?;
-    run(alloc, &bytes, texts, passes, kept)
+/// Whether the store has so many lines, and a reload finds as many blocks, and the next number.
+fn is_reloaded(alloc: Global, store: MemoryStore, blocks: u64, next: u128) -> Option<bool> {
+    let lines = store.held().iter().filter(|byte| **byte == b'\n').count();
+    let mut tail = tail_of(alloc, store)?;
+    let found = tail.blocks().len();
+    let refused = attempt(alloc, &mut tail, "")?;
+    Some(lines as u64 == blocks && found == blocks && number(&refused) == Some(next))
 }
 
-const THREE: &str = "CREATE TABLE t\nSELECT * FROM t\nSELECT * FROM t";
+/// A store that holds nothing, or a line and `rest`, with the call that fails and what a failing append leaves.
+fn store_told(alloc: Global, told: &str) -> Option<MemoryStore> {
+    let (held, told) = told.split_once(' ')?;
+    let (passes, kept) = told.split_once(' ')?;
+    let (passes, kept) = (passes.parse::<u64>().ok()?, kept.parse::<u64>().ok()?);
+    match held {
+        "nothing" => store_of(alloc, "", passes, kept),
+        _ => store_behind(alloc, held, passes, kept),
+    }
+}
 
-/// Whether the transactions end so, and a reload then finds so many blocks, a line each, and this next number.
-fn ends_so(told: &Option<Told>, ends: &str, blocks: u64, next: u128) -> bool {
-    match told {
-        Some(told) => {
-            told.ends.as_str() == ends
-                && told.lines as u64 == blocks
-                && told.blocks == blocks
-                && told.next == Some(next)
+fn holds(alloc: Global, row: &str) -> Option<bool> {
+    let (told, row) = row.split_once(" > ")?;
+    let (statements, told_ends) = row.split_once(" > ")?;
+    let (ends, left) = told_ends.split_once(' ')?;
+    let (blocks, next) = left.split_once(' ')?;
+    let (blocks, next) = (blocks.parse::<u64>().ok()?, next.parse::<u128>().ok()?);
+    let store = settled(alloc, store_told(alloc, told)?, statements, ends)?;
+    is_reloaded(alloc, store, blocks, next)
+}
+
+/// What a store holds, after how many calls one fails and what it keeps; the statements, one a transaction; and how they end, how
+/// many blocks a reload of the settled store finds, a line each, and the next number.
+const ROWS: &str = "# each call fails in turn
+nothing 1 0 > CREATE TABLE t;SELECT * FROM t;SELECT * FROM t > SRR 0 1
+nothing 1 9 > CREATE TABLE t;SELECT * FROM t;SELECT * FROM t > SRR 0 1
+nothing 2 0 > CREATE TABLE t;SELECT * FROM t;SELECT * FROM t > SRR 0 1
+nothing 3 9 > CREATE TABLE t;SELECT * FROM t;SELECT * FROM t > 0S1 2 4
+nothing 4 0 > CREATE TABLE t;SELECT * FROM t;SELECT * FROM t > 0S1 2 4
+nothing 5 9 > CREATE TABLE t;SELECT * FROM t;SELECT * FROM t > 01S 2 3
+nothing 6 0 > CREATE TABLE t;SELECT * FROM t;SELECT * FROM t > 01S 2 3
+nothing 99 0 > CREATE TABLE t;SELECT * FROM t;SELECT * FROM t > 012 3 4
+# a line is kept behind a rest: the cut fails, undone and done, and its sync
+rest 2 0 > SELECT * FROM t;SELECT * FROM t > S1 2 4
+rest 2 1 > SELECT * FROM t;SELECT * FROM t > S1 2 4
+rest 3 0 > SELECT * FROM t;SELECT * FROM t > S1 2 4
+# then the append with nothing, a part and all of the line, and its sync
+rest 4 0 > SELECT * FROM t;SELECT * FROM t > S1 2 4
+rest 4 2 > SELECT * FROM t;SELECT * FROM t > S1 2 4
+rest 4 9999 > SELECT * FROM t;SELECT * FROM t > S1 2 4
+rest 5 0 > SELECT * FROM t;SELECT * FROM t > S1 2 4
+# a transaction is given up
+nothing 99 0 > -CREATE TABLE t;SELECT * FROM t;CREATE TABLE t;CREATE TABLE t;-SELECT * FROM t > AR0RA 1 4";
+
+/// The first row that doesn't come out as it says.
+fn failing(alloc: Global) -> Option<&'static str> {
+    for row in ROWS.lines() {
+        if !row.starts_with("#") && holds(alloc, row) != Some(true) {
+            return Some(row);
         }
-        None => false,
     }
+    None
 }
 
 #[test]
-fn each_call_fails_in_turn(rt: HostRuntime) -> Result<(), Fail> {
-    let alloc = rt.alloc();
-    for (passes, kept, ends, blocks, next) in [
-        (1, 0, "SRR", 0, 1),
-        (1, 9, "SRR", 0, 1),
-        (2, 0, "SRR", 0, 1),
-        (3, 9, "0S1", 2, 4),
-        (4, 0, "0S1", 2, 4),
-        (5, 9, "01S", 2, 3),
-        (6, 0, "01S", 2, 3),
-        (99, 0, "012", 3, 4),
-    ] {
-        let told = run(alloc, "", THREE, passes, kept);
-        assert!(rt; ends_so(&told, ends, blocks, next), "call {passes}");
-    }
-    Ok(())
-}
-
-#[test]
-fn a_line_is_kept_behind_a_rest(rt: HostRuntime) -> Result<(), Fail> {
-    let alloc = rt.alloc();
-    // the cut fails, undone and done, and its sync; then the append with nothing, a part and all of the line, and its sync
-    for (passes, kept) in [(2, 0), (2, 1), (3, 0), (4, 0), (4, 2), (4, 9999), (5, 0)] {
-        let two = "SELECT * FROM t\nSELECT * FROM t";
-        let told = run_behind(alloc, "rest", two, passes, kept);
-        assert!(rt; ends_so(&told, "S1", 2, 4), "call {passes}");
-    }
-    Ok(())
-}
-
-#[test]
-fn a_transaction_is_given_up(rt: HostRuntime) -> Result<(), Fail> {
-    let alloc = rt.alloc();
-    let texts =
-        "-CREATE TABLE t\nSELECT * FROM t\nCREATE TABLE t\nCREATE TABLE t\n-SELECT * FROM t";
-    let told = run(alloc, "", texts, 99, 0);
-    assert!(rt; ends_so(&told, "AR0RA", 1, 4));
+fn each_end_of_a_transaction_is_told(rt: HostRuntime) -> Result<(), Fail> {
+    assert_eq!(rt; failing(rt.alloc()), None);
     Ok(())
 }

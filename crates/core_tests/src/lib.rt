@@ -6,8 +6,10 @@ mod attempts;
 #[cfg(test)]
 mod commits;
 #[cfg(test)]
+mod conflicts;
+#[cfg(test)]
 mod loads;
 #[cfg(test)]
 mod settles;
 #[cfg(test)]
-mod stores;
+mod tails;

@@ -1,66 +1,72 @@
 //! What a settling cuts.
-use crate::stores::{LINE, joined, store_of};
+use crate::tails::{LINE, MASK, store_behind};
 use ledger_core::{SettleFault, Tail};
-use outside::JournalStore;
-use ql_types::IdMask;
+use outside::{JournalStore, MemoryStore};
 use std::alloc::Global;
 use std::test::Fail;
 
-/// How the last of so many settlings ends, and how many bytes and faults the store has then.
-#[derive(Clone, Copy, Debug, PartialEq, Eq)]
-struct Settling {
-    last: Result<(), SettleFault>,
-    held: usize,
-    faults: u64,
-}
-
-/// Settles a store of a line and of this rest so often, of which the call after so many fails.
-fn settled(alloc: Global, rest: &str, passes: u64, kept: u64, times: u32) -> Option<Settling> {
-    let text = joined(alloc, LINE, rest)?;
-    let store = store_of(alloc, text.as_bytes(), passes, kept)?;
-    let mut tail = Tail::reload(alloc, store, 7, IdMask { bits: 0 }).ok()?;
+/// The store behind so many settlings, if the last of them is done, or fails by the store's first failure.
+fn settled(alloc: Global, store: MemoryStore, times: u32, is_done: bool) -> Option<MemoryStore> {
+    let mut tail = Tail::reload(alloc, store, 7, MASK).ok()?;
     let mut last = Ok(());
     for _ in 0..times {
         last = tail.settle();
     }
     let (_, store, _) = tail.into_parts();
-    Some(Settling {
-        last,
-        held: store.held().len(),
-        faults: store.faults(),
-    })
+    let ends_so = match last {
+        Ok(()) => is_done,
+        Err(SettleFault::StoreFault { count: 1 }) => !is_done,
+        Err(_) => false,
+    };
+    if ends_so { Some(store) } else { None }
+}
+
+/// The rest behind the line and after how many calls one fails and what it does; how often the store is settled and whether the last
+/// time is done; and how many bytes the store has behind the line, and its failures.
+const ROWS: &str = "# the cut fails, undone and done, and then its sync
+rest 2 0 > 1 failed > 4 1
+rest 2 0 > 2 done > 0 1
+rest 2 1 > 1 failed > 0 1
+rest 2 1 > 2 done > 0 1
+rest 3 0 > 1 failed > 0 1
+rest 3 0 > 2 done > 0 1
+rest 99 0 > 1 done > 0 0
+# without a rest nothing is cut
+none 2 1 > 1 done > 0 0";
+
+/// The store of a line and a rest.
+fn store_told(alloc: Global, told: &str) -> Option<MemoryStore> {
+    let (rest, told) = told.split_once(' ')?;
+    let (passes, kept) = told.split_once(' ')?;
+    let (passes, kept) = (passes.parse::<u64>().ok()?, kept.parse::<u64>().ok()?);
+    let rest = if rest == "none" { "" } else { rest };
+    store_behind(alloc, rest, passes, kept)
+}
+
+fn holds(alloc: Global, row: &str) -> Option<bool> {
+    let (told, row) = row.split_once(" > ")?;
+    let (settling, left) = row.split_once(" > ")?;
+    let (times, word) = settling.split_once(' ')?;
+    let (held, faults) = left.split_once(' ')?;
+    let (times, held) = (times.parse::<u32>().ok()?, held.parse::<usize>().ok()?);
+    let faults = faults.parse::<u64>().ok()?;
+    let store = settled(alloc, store_told(alloc, told)?, times, word == "done")?;
+    let behind = store.held().len().checked_sub(LINE.len())?;
+    Some(behind == held && store.faults() == faults)
+}
+
+/// The first row that doesn't come out as it says.
+fn failing(alloc: Global) -> Option<&'static str> {
+    for row in ROWS.lines() {
+        if !row.starts_with("#") && holds(alloc, row) != Some(true) {
+            return Some(row);
+        }
+    }
+    None
 }
 
 #[test]
 fn a_rest_is_cut(rt: HostRuntime) -> Result<(), Fail> {
-    let alloc = rt.alloc();
-    let fault = Err(SettleFault::StoreFault { count: 1 });
-    // the cut fails, undone and done, and then its sync
-    for (passes, kept, times, last, rest) in [
-        (2, 0, 1, fault, 4),
-        (2, 0, 2, Ok(()), 0),
-        (2, 1, 1, fault, 0),
-        (2, 1, 2, Ok(()), 0),
-        (3, 0, 1, fault, 0),
-        (3, 0, 2, Ok(()), 0),
-        (99, 0, 1, Ok(()), 0),
-    ] {
-        let faults = u64::from(passes < 99);
-        let held = LINE.len() + rest;
-        let wanted = Settling { last, held, faults };
-        assert_eq!(rt; settled(alloc, "rest", passes, kept, times), Some(wanted));
-    }
-    Ok(())
-}
-
-#[test]
-fn nothing_is_cut_without_a_mark(rt: HostRuntime) -> Result<(), Fail> {
-    let alloc = rt.alloc();
-    let wanted = Settling {
-        last: Ok(()),
-        held: LINE.len(),
-        faults: 0,
-    };
-    assert_eq!(rt; settled(alloc, "", 2, 1, 1), Some(wanted));
+    assert_eq!(rt; failing(rt.alloc()), None);
     Ok(())
 }

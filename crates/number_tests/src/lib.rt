@@ -1,0 +1,5 @@
+//! Tests of the numbers of transactions over a tail in memory.
+#![tactic(auto)]
+
+#[cfg(test)]
+mod last;

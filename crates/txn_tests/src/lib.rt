@@ -1,0 +1,25 @@
+//! Tests of versions and transactions.
+#![tactic(auto)]
+
+#[cfg(test)]
+mod changes;
+#[cfg(test)]
+mod ended;
+#[cfg(test)]
+mod histories;
+#[cfg(test)]
+mod journals;
+#[cfg(test)]
+mod lookups;
+#[cfg(test)]
+mod probes;
+#[cfg(test)]
+mod reads;
+#[cfg(test)]
+mod registration;
+#[cfg(test)]
+mod rows;
+#[cfg(test)]
+mod shared;
+#[cfg(test)]
+mod statements;
