@@ -6,6 +6,8 @@ mod commands;
 #[cfg(test)]
 mod damaged;
 #[cfg(test)]
+mod digests;
+#[cfg(test)]
 mod failing;
 #[cfg(test)]
 mod faults;

@@ -1,18 +1,17 @@
 -- The answers of a clock from one moment to a later one, and the times and the mask that are taken of them.
-use Rattle.std.proofs.Common.{◌≡◌, ◌∙◌, ◌+◌, ℤ, List, [], ◌∷◌, ◌++◌, length, length-append, drop, append-nil, append_assoc, refl, sym, ap, subst, arith, Option, Some, None}
+use Rattle.std.proofs.Common.{◌≡◌, ◌∙◌, ◌+◌, ℤ, List, [], ◌∷◌, ◌++◌, length, length-append, drop, append-nil, append_assoc, refl, sym, ap, subst, arith, Option, Some, None, inl, inr, ◌⊎◌}
 use Rattle.std.specs.Prelude.{IfSome}
 use Rattle.std.specs.List.{Contains}
 use Rattle.std.proofs.lemmas.Grind.{common_steps}
 use Rattle.id_seed.specs.Seed.{mask_of}
 use Rattle.ion_time.specs.Millis.{BeginsAt, nearest}
+use Rattle.ion_time.proofs.Names.{millis_name_times}
 use Rattle.ion_values.specs.declared.time.TimeParts.{TimeParts}
 use Rattle.outside.specs.Clocks.{AddsAnswer}
-use Rattle.ledger_claims.specs.Calls.{span}
 use Rattle.ledger_claims.specs.Fits.{Times, one_time, IsTimeIn}
-use Rattle.command_claims.specs.Clocks.{Answers, times_between, mask_between, first_mask, seed_of, AreTimes}
-use Rattle.ledger_cli.specs.Clocks.{IsSourceOf, Covers, Extends, MayAsk}
-use Rattle.ledger_cli.specs.declared.times.TimeSource.{TimeSource}
-use Rattle.ledger_cli.specs.declared.times.TimeSource.TheVariants as source
+use Rattle.command_claims.specs.Clocks.{Answers, times_between, mask_between, first_mask, seed_of}
+use Rattle.ledger_core.specs.Committing.{IsAnswer}
+use Rattle.ledger_cli.specs.Clocks.{ClockTold, GoesOn, IsAnswered, IsGivenTime, Covers, Extends}
 
 -- ---- what is in a list is in a longer one
 
@@ -48,62 +47,97 @@ extends_on None (Some ys) (Some zs) e f = absurd e
 extends_on (Some xs) (Some ys) (Some zs) e f =
     (e.0 ++ f.0, f.1 ∙ ap (λ (l : List ℤ). l ++ f.0) e.1 ∙ append_assoc xs e.0 f.0)
 
+-- ---- what a clock tells from one moment to a later one
+
+pub goes_same : (a : ClockTold) → GoesOn a a
+goes_same a = record { extends = extends_same a.answers; same = refl }
+
+pub goes_on : (a b c : ClockTold) → GoesOn a b → GoesOn b c → GoesOn a c
+goes_on a b c e f = record { extends = extends_on a.answers b.answers c.answers e.extends f.extends; same = f.same ∙ e.same }
+
+-- where it is asked once or not at all
+pub goes_by : {C : Type 0} (answers : C → Answers) (a b : C) (always : Option ℤ)
+    → (b ≡ a) ⊎ ((time : TimeParts) × IsAnswer (answers a) (answers b) always time) → Extends (answers a) (answers b)
+goes_by answers a b always (inl same) = subst (λ c. Extends (answers a) (answers c)) (sym same) (extends_same (answers a))
+goes_by answers a b always (inr (time, is)) = extends_by (answers a) (answers b) is.answer is.adds
+
 -- ---- times
 
--- the time of the one answer that was given
-pub time_between : (a b : Answers) (answer : ℤ) (time : TimeParts) → AddsAnswer a b answer → BeginsAt (nearest answer) time
-    → IsTimeIn (times_between a b) time
-time_between None b answer time adds begins = tt
-time_between (Some xs) None answer time adds begins = tt
-time_between (Some xs) (Some ys) answer time adds begins =
+-- the one answer that was given
+answered_by : (a b : Answers) (answer : ℤ) → AddsAnswer a b answer → IsAnswered a b answer
+answered_by None b answer adds = tt
+answered_by (Some xs) None answer adds = tt
+answered_by (Some xs) (Some ys) answer adds =
     let only : Contains (answer ∷ []) answer = (0, omega arith, refl) in
-    (answer, subst (λ (l : List ℤ). Contains l answer) (sym (drop_front xs (answer ∷ []) ys adds)) only, begins)
+    subst (λ (l : List ℤ). Contains l answer) (sym (drop_front xs (answer ∷ []) ys adds)) only
 
--- a time of the first part is one of the whole
-times_front : (a b c : Answers) (time : TimeParts) → Extends a b → Extends b c → IsTimeIn (times_between a b) time
-    → IsTimeIn (times_between a c) time
-times_front None b c time e f is = tt
-times_front (Some xs) b None time e f is = tt
-times_front (Some xs) None (Some zs) time e f is = absurd f
-times_front (Some xs) (Some ys) (Some zs) time e f is =
+pub given_by_answer : (a b : ClockTold) (time : TimeParts) → IsAnswer a.answers b.answers a.always time → IsGivenTime a b time
+given_by_answer a b time is = record {
+  answer = is.answer;
+  among = answered_by a.answers b.answers is.answer is.adds;
+  one = is.one;
+  begins = is.begins;
+}
+
+-- an answer of the first part is one of the whole
+answered_front : (a b c : Answers) (answer : ℤ) → Extends a b → Extends b c → IsAnswered a b answer → IsAnswered a c answer
+answered_front None b c answer e f is = tt
+answered_front (Some xs) b None answer e f is = tt
+answered_front (Some xs) None (Some zs) answer e f is = absurd f
+answered_front (Some xs) (Some ys) (Some zs) answer e f is =
     let whole = f.1 ∙ ap (λ (l : List ℤ). l ++ f.0) e.1 ∙ append_assoc xs e.0 f.0 in
-    let first = subst (λ (l : List ℤ). Contains l is.0) (drop_front xs e.0 ys e.1) is.1 in
-    (is.0, subst (λ (l : List ℤ). Contains l is.0) (sym (drop_front xs (e.0 ++ f.0) zs whole)) (in_front e.0 f.0 is.0 first), is.2)
+    let first = subst (λ (l : List ℤ). Contains l answer) (drop_front xs e.0 ys e.1) is in
+    subst (λ (l : List ℤ). Contains l answer) (sym (drop_front xs (e.0 ++ f.0) zs whole)) (in_front e.0 f.0 answer first)
 
 -- so is one of the last part
-times_back : (a b c : Answers) (time : TimeParts) → Extends a b → Extends b c → IsTimeIn (times_between b c) time
-    → IsTimeIn (times_between a c) time
-times_back None b c time e f is = tt
-times_back (Some xs) b None time e f is = tt
-times_back (Some xs) None (Some zs) time e f is = absurd f
-times_back (Some xs) (Some ys) (Some zs) time e f is =
+answered_back : (a b c : Answers) (answer : ℤ) → Extends a b → Extends b c → IsAnswered b c answer → IsAnswered a c answer
+answered_back None b c answer e f is = tt
+answered_back (Some xs) b None answer e f is = tt
+answered_back (Some xs) None (Some zs) answer e f is = absurd f
+answered_back (Some xs) (Some ys) (Some zs) answer e f is =
     let whole = f.1 ∙ ap (λ (l : List ℤ). l ++ f.0) e.1 ∙ append_assoc xs e.0 f.0 in
-    let last = subst (λ (l : List ℤ). Contains l is.0) (drop_front ys f.0 zs f.1) is.1 in
-    (is.0, subst (λ (l : List ℤ). Contains l is.0) (sym (drop_front xs (e.0 ++ f.0) zs whole)) (in_back e.0 f.0 is.0 last), is.2)
+    let last = subst (λ (l : List ℤ). Contains l answer) (drop_front ys f.0 zs f.1) is in
+    subst (λ (l : List ℤ). Contains l answer) (sym (drop_front xs (e.0 ++ f.0) zs whole)) (in_back e.0 f.0 answer last)
 
 -- what covers the whole covers its first part
-pub covers_front : (from : TimeSource) (a b c : Answers) (times : Times) → Extends a b → Extends b c → Covers from a c times → Covers from a b times
-covers_front (source.Given own) a b c times e f covers = covers
-covers_front source.Clock a b c times e f covers = λ time is. covers time (times_front a b c time e f is)
+pub covers_front : (a b c : ClockTold) (times : Times) → GoesOn a b → GoesOn b c → Covers a c times → Covers a b times
+covers_front a b c times e f covers = λ time is.
+    covers time
+    (record {
+      answer = is.answer;
+      among = answered_front a.answers b.answers c.answers is.answer e.extends f.extends is.among;
+      one = is.one;
+      begins = is.begins;
+    })
 
 -- and its last part
-pub covers_back : (from : TimeSource) (a b c : Answers) (times : Times) → Extends a b → Extends b c → Covers from a c times → Covers from b c times
-covers_back (source.Given own) a b c times e f covers = covers
-covers_back source.Clock a b c times e f covers = λ time is. covers time (times_back a b c time e f is)
+pub covers_back : (a b c : ClockTold) (times : Times) → GoesOn a b → GoesOn b c → Covers a c times → Covers b c times
+covers_back a b c times e f covers = λ time is.
+    covers time
+    (record {
+      answer = is.answer;
+      among = answered_back a.answers b.answers c.answers is.answer e.extends f.extends is.among;
+      one = subst (λ (x : Option ℤ). IfSome x (λ same. is.answer ≡ same)) e.same is.one;
+      begins = is.begins;
+    })
 
--- the times of a run are those that its words and the clock tell
-pub times_told : (ms : Option ℤ) (from : TimeSource) (a b c : Answers) → IsSourceOf ms from → Extends a b → Extends b c
-    → (times : Times) × AreTimes ms (span a c) times × Covers from b c times
-times_told (Some ms) from a b c is e f = (
-  one_time is.0,
-  (is.0, is.1, refl),
-  subst (λ (x : TimeSource). Covers x b c (one_time is.0)) (sym is.2) (λ time same. same),
-)
-times_told None from a b c is e f = (
-  times_between a c,
-  refl,
-  subst (λ (x : TimeSource). Covers x b c (times_between a c)) (sym is) (λ time h. times_back a b c time e f h),
-)
+-- the times of answers are those between
+time_between : (a b : Answers) (answer : ℤ) (time : TimeParts) → IsAnswered a b answer → BeginsAt (nearest answer) time
+    → IsTimeIn (times_between a b) time
+time_between None b answer time is begins = tt
+time_between (Some xs) None answer time is begins = tt
+time_between (Some xs) (Some ys) answer time is begins = (answer, is, begins)
+
+pub between_covers : (first : Answers) (a b : ClockTold) → Extends first a.answers → Extends a.answers b.answers
+    → Covers a b (times_between first b.answers)
+between_covers first a b e f = λ time is.
+    time_between first b.answers is.answer time (answered_back first a.answers b.answers is.answer e f is.among) is.begins
+
+-- a clock that always gives one answer gives one time
+pub one_covers : (a b : ClockTold) (ms : ℤ) (own : TimeParts) → a.always ≡ Some ms → BeginsAt (nearest ms) own → Covers a b (one_time own)
+one_covers a b ms own always begins = λ time is.
+    let one : is.answer ≡ ms = subst (λ (x : Option ℤ). IfSome x (λ same. is.answer ≡ same)) always is.one in
+    millis_name_times (nearest ms) time own (subst (λ (n : ℤ). BeginsAt (nearest n) time) one is.begins) begins
 
 -- ---- the mask
 
@@ -116,13 +150,3 @@ first_given (Some xs) None (Some zs) answer adds f = absurd f
 first_given (Some xs) (Some ys) (Some zs) answer adds f =
     let whole : zs ≡ xs ++ (answer ∷ f.0) = f.1 ∙ ap (λ (l : List ℤ). l ++ f.0) adds ∙ append_assoc xs (answer ∷ []) f.0 in
     subst (λ (l : List ℤ). IfSome (first_mask l) (λ given. given ≡ mask_of (seed_of answer))) (sym (drop_front xs (answer ∷ f.0) zs whole)) refl
-
--- ---- what is asked
-
-pub asks_nothing : {C : Type 0} (from : TimeSource) (c : C) → MayAsk from c c
-asks_nothing (source.Given time) c = refl
-asks_nothing source.Clock c = tt
-
-pub asks_on : {C : Type 0} (from : TimeSource) (a b c : C) → MayAsk from a b → MayAsk from b c → MayAsk from a c
-asks_on (source.Given time) a b c e f = f ∙ e
-asks_on source.Clock a b c e f = tt

@@ -7,4 +7,5 @@ pub mod Pieces
 pub mod Proving
 pub mod Runnable
 pub mod Running
+pub mod Serving
 pub mod Verifying

@@ -8,18 +8,15 @@ use Rattle.outside.specs.Told.{StoreTold, held}
 use Rattle.ledger_claims.specs.Calls.{Span, span}
 use Rattle.ledger_claims.specs.Fits.{RunRecord, greatest, mask_of}
 use Rattle.ledger_claims.specs.Attempts.{IsStanding}
-use Rattle.ledger_claims.specs.SoFar.{LeavesRun}
 use Rattle.ledger_claims.specs.Stores.{IsSynced}
-use Rattle.command_claims.specs.Clocks.{Answers}
 use Rattle.command_claims.specs.Runs.{Terms, IsReportOf, HoldsRun}
 use Rattle.ledger_core.specs.Loads.{IsLoaded, IsCause}
 use Rattle.ledger_core.specs.declared.reload.LoadCause.{LoadCause}
 use Rattle.ledger_core.specs.declared.reload.LoadCause.TheVariants as load
 use Rattle.ledger_cli.specs.declared.stop.Stop.{Stop}
 use Rattle.ledger_cli.specs.declared.stop.Stop.TheVariants as stop
-use Rattle.ledger_cli.specs.declared.times.TimeSource.{TimeSource}
-use Rattle.ledger_cli.specs.Clocks.{AreCovered, Covers}
-use Rattle.ledger_cli.specs.Runs.{Come, IsRunning, IsKept, IsReported}
+use Rattle.ledger_cli.specs.Clocks.{AreCovered, ClockTold, Covers}
+use Rattle.ledger_cli.specs.Runs.{Come, IsRunning, IsKept, IsReported, LeavesJournal}
 use Rattle.ledger_cli.specs.Stops.{IsLoadStop, IsTailStop, load_stop}
 use Rattle.ledger_cli.proofs.Ending.{same_held}
 use Rattle.ledger_cli.proofs.Running.{loaded, loaded_begun, loaded_reported, loaded_left}
@@ -67,11 +64,11 @@ synced_content : (before after : StoreTold) → after.content ≡ before.content
 synced_content before after same is =
     subst (λ (c : Option Content). IfSome c (λ content. content.synced ≡ length content.bytes)) (sym same) is
 
-module _ (given : ℕ) (script : List (List Job)) (s : Span StoreTold) (c : Come) (has : HasLoaded given s c) (from : TimeSource) (before now : Answers) where
+module _ (given : ℕ) (script : List (List Job)) (s : Span StoreTold) (c : Come) (has : HasLoaded given s c) (before now : ClockTold) where
   kept_still : IsSynced s.before → IsKept c
   kept_still is = λ _. synced_content s.before c.store has.store.0 is
 
-  module _ (terms : Terms) (covered : AreCovered given from before now terms) where
+  module _ (terms : Terms) (covered : AreCovered given before now terms) where
     abbrev t : RunRecord
     t = loaded terms script s.before.faults c.stands
 
@@ -80,25 +77,25 @@ module _ (given : ℕ) (script : List (List Job)) (s : Span StoreTold) (c : Come
         loaded_begun terms given covered.given script s c.stands c.marked has.journal has.mask c refl has.none has.store.1 (same_held s.before c.store has.store.0)
         has.sound has.last
 
-    reported : (text : List ℕ) → ((t : RunRecord) → Covers from before now t.times → IsRunning t (all_placed script) c → IsReported t s.after text)
+    reported : (text : List ℕ) → ((t : RunRecord) → Covers before now t.times → IsRunning t (all_placed script) c → IsReported t s.after text)
         → (IsKept c → IsSynced s.after) → IsReportOf terms script s text
     reported text done kept =
         loaded_reported terms given covered.given script s c.stands c.marked has.journal has.mask text (done t covered.times begun) (λ is. kept (kept_still is))
 
-    stopped : ((t : RunRecord) → Covers from before now t.times → IsRunning t (all_placed script) c → LeavesRun t s.after.faults (held s.after))
+    stopped : ((t : RunRecord) → Covers before now t.times → IsRunning t (all_placed script) c → LeavesJournal t (held s.after))
         → HoldsRun terms script s
     stopped left = loaded_left terms given covered.given script s c.stands c.marked has.journal has.mask (left t covered.times begun)
 
   pub loaded_done : (r : Result (List ℕ) Stop)
-      → IfOk r (λ text. (t : RunRecord) → Covers from before now t.times → IsRunning t (all_placed script) c → IsReported t s.after text)
+      → IfOk r (λ text. (t : RunRecord) → Covers before now t.times → IsRunning t (all_placed script) c → IsReported t s.after text)
       → OnOk r (IsKept c → IsSynced s.after)
-      → IfOk r (λ text. (terms : Terms) → AreCovered given from before now terms → IsReportOf terms script s text)
+      → IfOk r (λ text. (terms : Terms) → AreCovered given before now terms → IsReportOf terms script s text)
   loaded_done (Ok text) done kept = λ terms covered. reported terms covered text done kept
   loaded_done (Err why) done kept = tt
 
   pub loaded_stopped : (r : Result (List ℕ) Stop)
-      → OnErr r ((t : RunRecord) → Covers from before now t.times → IsRunning t (all_placed script) c → LeavesRun t s.after.faults (held s.after))
-      → OnErr r ((terms : Terms) → AreCovered given from before now terms → (held s.after ≡ held s.before) ⊎ HoldsRun terms script s)
+      → OnErr r ((t : RunRecord) → Covers before now t.times → IsRunning t (all_placed script) c → LeavesJournal t (held s.after))
+      → OnErr r ((terms : Terms) → AreCovered given before now terms → (held s.after ≡ held s.before) ⊎ HoldsRun terms script s)
   loaded_stopped (Ok text) left = tt
   loaded_stopped (Err why) left = λ terms covered. inr (stopped terms covered left)
 

@@ -1,5 +1,5 @@
--- A script that is served can be run: its sessions and its jobs can be counted in 32 bits.
-use Rattle.std.proofs.Common.{◌≡◌, Bool, true, false, inl, inr, ◌+◌, ◌<◌, ◌≤◌, ◌^◌, ℕ, zero, suc, nat_le, List, [], ◌∷◌, length, take, Option, Some, None, Result, Ok, Err, refl, sym, ap, subst, arith, if◌then◌else◌}
+-- A script that is read can be run: its sessions and its jobs can be counted in 32 bits.
+use Rattle.std.proofs.Common.{◌≡◌, Bool, inl, inr, ◌+◌, ◌<◌, ◌≤◌, ◌^◌, ℕ, zero, suc, nat_le, List, [], ◌∷◌, length, take, Option, Some, None, Result, Ok, Err, refl, ap, subst, arith, if◌then◌else◌}
 use Rattle.std.specs.Prelude.{IfOk}
 use Rattle.std.specs.List.{All, AllByRecursion}
 use Rattle.std.specs.Option.{ok_or, unwrap_or}
@@ -12,7 +12,7 @@ use Rattle.ledger_model.specs.declared.script.ScriptFault.{ScriptFault}
 use Rattle.ledger_model.specs.declared.script.ScriptKind.TheVariants as kind
 use Rattle.ledger_model.specs.Values.{list_in}
 use Rattle.ledger_model.specs.ReadScript.{if_read, fault_at, placed_at, read_each, read_placed, read_session, read_script}
-use Rattle.ledger_model.specs.Unbuilt.{too_long, served, unbuilt, is_served_script, judged_script, judged_text, judged}
+use Rattle.ledger_model.specs.Judging.{too_long, judged_script, judged_text, judged}
 use Rattle.std.proofs.lemmas.Bool.Decides.{leb_tells}
 use Rattle.ion_values.specs.declared.fault.IonFault.{IonFault}
 use Rattle.script_form.specs.Answers.{IsCountable}
@@ -32,47 +32,57 @@ short_take n xs = grind (arith, common_steps)
 
 -- ---- sessions are as long as their lists
 
-longer_by_one : {A B E : Type 0} (x : A) (xs : List A) (y : B) (r : Result (List B) E) → IfOk r (λ ys. length ys ≡ length xs)
+longer_by_one : {A B E : Type 0} (x : A) (xs : List A) (y : B) (r : Result (List B) E)
+    → IfOk r (λ ys. length ys ≡ length xs)
     → IfOk (if_read r (λ ys. Ok (y ∷ ys))) (λ ys. length ys ≡ length (x ∷ xs))
 longer_by_one x xs y (Ok ys) h = ap (λ n. suc n) h
 longer_by_one x xs y (Err e) h = tt
 
-behind_one : {A B E : Type 0} (x : A) (xs : List A) (r : Result B E) (s : Result (List B) E) → IfOk s (λ ys. length ys ≡ length xs)
+behind_one : {A B E : Type 0} (x : A) (xs : List A) (r : Result B E) (s : Result (List B) E)
+    → IfOk s (λ ys. length ys ≡ length xs)
     → IfOk (if_read r (λ y. if_read s (λ ys. Ok (y ∷ ys)))) (λ ys. length ys ≡ length (x ∷ xs))
 behind_one x xs (Ok y) s h = longer_by_one x xs y s h
 behind_one x xs (Err e) s h = tt
 
 -- as many are read as there are
-as_many : {A B E : Type 0} (read : ℕ → A → Result B E) (xs : List A) (number : ℕ) → IfOk (read_each read number xs) (λ ys. length ys ≡ length xs)
+as_many : {A B E : Type 0} (read : ℕ → A → Result B E) (xs : List A) (number : ℕ)
+    → IfOk (read_each read number xs) (λ ys. length ys ≡ length xs)
 as_many read [] number = refl
-as_many read (x ∷ xs) number = behind_one x xs (read number x) (read_each read (number + 1) xs) (as_many read xs (number + 1))
+as_many read (x ∷ xs) number =
+    behind_one x xs (read number x) (read_each read (number + 1) xs) (as_many read xs (number + 1))
 
 -- a session's jobs can be counted where its members can
 
-few_as : (members : List Value) → length members < 2 ^ 32 → (r : Result (List Job) ScriptFault) → IfOk r (λ jobs. length jobs ≡ length members) → IfOk r IsRunnable
+few_as : (members : List Value) → length members < 2 ^ 32 → (r : Result (List Job) ScriptFault)
+    → IfOk r (λ jobs. length jobs ≡ length members) → IfOk r IsRunnable
 few_as members few (Ok jobs) same = record { few = omega (arith, few, same) }
 few_as members few (Err e) same = tt
 
 few_in : (session : ℕ) (members : Option (List Value)) → length (unwrap_or members []) < 2 ^ 32
-    → IfOk (if_read (placed_at session 0 (ok_or members kind.NotASession)) (λ vs. read_each (read_placed session) 1 vs)) IsRunnable
+    → IfOk (if_read (placed_at session 0 (ok_or members kind.NotASession)) (λ vs. read_each (read_placed session) 1 vs))
+    IsRunnable
 few_in session None few = tt
-few_in session (Some members) few = few_as members few (read_each (read_placed session) 1 members) (as_many (read_placed session) members 1)
+few_in session (Some members) few =
+    few_as members few (read_each (read_placed session) 1 members) (as_many (read_placed session) members 1)
 
 few_session : (session : ℕ) (v : Value) → IsCountable v → IfOk (read_session session v) IsRunnable
 few_session session v few = few_in session (list_in v) few
 
 -- ---- so are they all
 
-each_then : {B E : Type 0} (Q : B → Type 0) (r : Result B E) (s : Result (List B) E) → IfOk r Q → IfOk s (AllByRecursion Q)
+each_then : {B E : Type 0} (Q : B → Type 0) (r : Result B E) (s : Result (List B) E) → IfOk r Q
+    → IfOk s (AllByRecursion Q)
     → IfOk (if_read r (λ y. if_read s (λ ys. Ok (y ∷ ys)))) (AllByRecursion Q)
 each_then Q (Ok y) (Ok ys) h k = (h, k)
 each_then Q (Ok y) (Err e) h k = tt
 each_then Q (Err e) s h k = tt
 
-few_each : (vs : List Value) (number : ℕ) → AllByRecursion IsCountable vs → IfOk (read_each read_session number vs) (AllByRecursion IsRunnable)
+few_each : (vs : List Value) (number : ℕ) → AllByRecursion IsCountable vs
+    → IfOk (read_each read_session number vs) (AllByRecursion IsRunnable)
 few_each [] number h = tt
 few_each (v ∷ vs) number h =
-    each_then IsRunnable (read_session number v) (read_each read_session (number + 1) vs) (few_session number v h.0) (few_each vs (number + 1) h.1)
+    each_then IsRunnable (read_session number v) (read_each read_session (number + 1) vs) (few_session number v h.0)
+    (few_each vs (number + 1) h.1)
 
 -- what is told of each place is so of each item
 each_of : {A : Type 0} (P : A → Type 0) (xs : List A) → All P xs → AllByRecursion P xs
@@ -86,10 +96,13 @@ first_ones P (suc n) (x ∷ xs) h = (h.0, first_ones P n xs h.1)
 
 -- ---- the script
 
-few_read : (values : List Value) (r : Result (List (List Job)) ScriptFault) → IfOk r (AllByRecursion IsRunnable) → IfOk r (λ script. length script ≡ length (take 1024 values))
-    → IfOk (if_read r (λ script. if nat_le (length values) 1024 then Ok script else Err (fault_at 1025 0 kind.TooManySessions))) AreRunnable
+few_read : (values : List Value) (r : Result (List (List Job)) ScriptFault) → IfOk r (AllByRecursion IsRunnable)
+    → IfOk r (λ script. length script ≡ length (take 1024 values))
+    → IfOk (if_read r (λ script. if nat_le (length values) 1024 then Ok script
+    else Err (fault_at 1025 0 kind.TooManySessions))) AreRunnable
 few_read values (Ok script) each same =
-    cond_both (nat_le (length values) 1024) (Ok script) (Err (fault_at 1025 0 kind.TooManySessions)) (λ (r : Result (List (List Job)) ScriptFault). IfOk r AreRunnable)
+    cond_both (nat_le (length values) 1024) (Ok script) (Err (fault_at 1025 0 kind.TooManySessions))
+    (λ (r : Result (List (List Job)) ScriptFault). IfOk r AreRunnable)
     (λ _. record { sessions = each; few = omega (arith, same, short_take 1024 values) }) (λ _. tt)
 few_read values (Err e) each same = tt
 
@@ -99,29 +112,15 @@ few_script values all =
     (few_each (take 1024 values) 1 (first_ones IsCountable 1024 values (each_of IsCountable values all)))
     (as_many read_session (take 1024 values) 1)
 
-runnable_is : (values : List Value) (script : List (List Job)) → All IsCountable values → read_script values ≡ Ok script → AreRunnable script
-runnable_is values script all is = subst (λ (r : Result (List (List Job)) ScriptFault). IfOk r AreRunnable) is (few_script values all)
-
--- the script that was read, where it is handed on
-pub handed_on : {E : Type 0} (values : List Value) (script : List (List Job)) (r : Result (List (List Job)) E) → All IsCountable values
-    → read_script values ≡ Ok script → IfOk r (λ given. given ≡ script) → IfOk r AreRunnable
-handed_on values script (Ok given) all is same =
-    subst (λ (x : List (List Job)). AreRunnable x) (sym same) (runnable_is values script all is)
-handed_on values script (Err e) all is same = tt
-
--- what it is judged
-pub judged_so : (values : List Value) (script : List (List Job)) (r : Result (List (List Job)) Stop) → read_script values ≡ Ok script
-    → JudgesTo r (judged_script (Ok script)) → JudgesTo r (judged_script (read_script values))
-judged_so values script r is h = subst (λ (x : Result (List (List Job)) ScriptFault). JudgesTo r (judged_script x)) (sym is) h
+pub runnable_is : (values : List Value) (script : List (List Job)) → All IsCountable values
+    → read_script values ≡ Ok script → AreRunnable script
+runnable_is values script all is =
+    subst (λ (r : Result (List (List Job)) ScriptFault). IfOk r AreRunnable) is (few_script values all)
 
 -- ---- the script that is read from a source
 
-served_or_not : (script : List (List Job)) (b : Bool) → (if b then served script else unbuilt) ≡ too_long → ⊥
-served_or_not script true is = cc
-served_or_not script false is = cc
-
 script_is_short : (r : Result (List (List Job)) ScriptFault) → judged_script r ≡ too_long → ⊥
-script_is_short (Ok script) is = served_or_not script (is_served_script script) is
+script_is_short (Ok script) is = cc
 script_is_short (Err fault) is = cc
 
 text_is_short : (r : Result (List Value) IonFault) → judged_text r ≡ too_long → ⊥
@@ -139,13 +138,17 @@ is_long input is =
     ]
 
 -- an input that is judged so gives the script, or the cause why not
-pub reads_input : (source : Span SourceTold) (input : List ℕ) (r : Result (List (List Job)) Stop) → WasRead source input → IsFine source
+pub reads_input : (source : Span SourceTold) (input : List ℕ) (r : Result (List (List Job)) Stop) → WasRead source input
+    → IsFine source
     → JudgesTo r (judged input) → IfOk r AreRunnable → ReadsScript r source
-reads_input source input (Ok script) read fine is runs = (record { input = input; read = read; judged_is = is }, runs, fine)
-reads_input source input (Err (stop.BadInput cause.TooLong)) read fine is runs = (record { input = input; taken = read.taken; long = is_long input is }, fine)
-reads_input source input (Err (stop.BadInput (cause.Faulty fault))) read fine is runs = (record { input = input; read = read; judged_is = is }, fine)
-reads_input source input (Err (stop.BadInput (cause.Misspelt fault))) read fine is runs = (record { input = input; read = read; judged_is = is }, fine)
-reads_input source input (Err (stop.BadInput cause.Unbuilt)) read fine is runs = (record { input = input; read = read; judged_is = is }, fine)
+reads_input source input (Ok script) read fine is runs =
+    (record { input = input; read = read; judged_is = is }, runs, fine)
+reads_input source input (Err (stop.BadInput cause.TooLong)) read fine is runs =
+    (record { input = input; taken = read.taken; long = is_long input is }, fine)
+reads_input source input (Err (stop.BadInput (cause.Faulty fault))) read fine is runs =
+    (record { input = input; read = read; judged_is = is }, fine)
+reads_input source input (Err (stop.BadInput (cause.Misspelt fault))) read fine is runs =
+    (record { input = input; read = read; judged_is = is }, fine)
 reads_input source input (Err (stop.NoSuch why)) read fine is runs = absurd is
 reads_input source input (Err (stop.Damaged sequence kind)) read fine is runs = absurd is
 reads_input source input (Err stop.SourceFailed) read fine is runs = absurd is
@@ -155,13 +158,13 @@ reads_input source input (Err stop.OutOfMemory) read fine is runs = fine
 
 -- an input that wasn't read
 pub unread_input : (source : Span SourceTold) (why : Stop) → IsUnread why source
-    → (why ≡ stop.BadInput cause.TooLong → (input : List ℕ) × Taken source input × (16777216 < length input)) → IsReadStop why source
+    → (why ≡ stop.BadInput cause.TooLong → (input : List ℕ) × Taken source input × (16777216 < length input))
+    → IsReadStop why source
 unread_input source (stop.BadInput cause.TooLong) is long =
     let (input, taken, more) = long refl in
     (record { input = input; taken = taken; long = more }, is.1)
 unread_input source (stop.BadInput (cause.Faulty fault)) is long = let bad : ⊥ = cc in absurd bad
 unread_input source (stop.BadInput (cause.Misspelt fault)) is long = let bad : ⊥ = cc in absurd bad
-unread_input source (stop.BadInput cause.Unbuilt) is long = let bad : ⊥ = cc in absurd bad
 unread_input source (stop.NoSuch why) is long = absurd is
 unread_input source (stop.Damaged sequence kind) is long = absurd is
 unread_input source stop.SourceFailed is long = is

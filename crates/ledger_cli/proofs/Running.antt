@@ -1,39 +1,55 @@
 -- The run of a script from one transaction to the next, from its begin to its end.
-use Rattle.std.proofs.Common.{◌≡◌, ℕ, ◌+◌, ◌<◌, ◌≤◌, Bool, true, false, List, [], ◌∷◌, ◌++◌, length, take, drop, drop-cons, get_or, refl, sym, ap, ap₂, subst, ◌∙◌, arith, Option, Some, None, ◌⊎◌, inl, inr, zero, suc}
+use Rattle.std.proofs.Common.{◌≡◌, ◌∙◌, ℕ, zero, suc, ◌+◌, ◌<◌, ◌≤◌, Bool, true, false, List, [], ◌∷◌, ◌++◌, map, length, take, drop, drop-cons, get_or, append-nil, refl, sym, ap, ap₂, subst, arith, Option, Some, None, ◌⊎◌, inl, inr}
 use Rattle.std.specs.Prelude.{OnErr, IfSome, option_map, Result, Ok, Err}
 use Rattle.std.specs.List.{AllByRecursion}
 use Rattle.std.proofs.Math.Seq.{take-append_seam}
+use Rattle.std.proofs.lemmas.Grind.{flat_map-append}
 use Rattle.std.proofs.lemmas.List.{drop_all}
 use Rattle.ion_values.specs.declared.time.TimeParts.{TimeParts}
 use Rattle.ion_values.specs.declared.value.Value.{Value}
 use Rattle.ion_forms.specs.Write.{value_text}
+use Rattle.ql_types.specs.declared.TxId.{TxId}
 use Rattle.ledger_model.specs.declared.block.Block.{Block}
 use Rattle.ledger_model.specs.declared.outcome.Outcome.{Outcome}
 use Rattle.ledger_model.specs.declared.outcome.Outcome.TheVariants.{Committed, Conflict, Refused, DigestDiffers, StoreFault, JournalFull, IdsSpent, Aborted, OutOfMemory}
 use Rattle.ledger_model.specs.declared.outcome.PlacedOutcome.{PlacedOutcome}
 use Rattle.ledger_model.specs.declared.script.Job.{Job}
-use Rattle.ledger_model.specs.Journal.{line, journal_bytes}
+use Rattle.ledger_model.specs.Damages.{Undamaged}
+use Rattle.ledger_model.specs.Journal.{block_value, line, journal_bytes}
 use Rattle.ledger_model.specs.Recovered.{has_no_line_feed}
 use Rattle.ledger_model.specs.Script.{Placed, placed_from, all_placed, all_placed_from}
-use Rattle.ledger_claims.specs.Fits.{RunRecord, HasMask, IsTimeIn, Fits, greatest, mask_of}
-use Rattle.ledger_claims.specs.Attempts.{Standing, IsStanding, Attempted, TellsFaults, HoldsBehind, LeavesPart, LeavesStore}
-use Rattle.ledger_claims.specs.SoFar.{InOrder, SoFar, LeavesRun, standing, extended}
+use Rattle.session_driver.specs.Retries.{is_conflict}
+use Rattle.turn_lock.specs.declared.view.Known.{Known}
+use Rattle.turn_lock.specs.History.{newborn}
+use Rattle.ledger_claims.specs.Fits.{RunRecord, HasMask, HasTime, HaveTimes, IsTimeIn, greatest, mask_of}
+use Rattle.ledger_claims.specs.Attempts.{Standing, IsStanding, IsNext, HoldsBehind}
+use Rattle.ledger_claims.specs.SoFar.{InOrder}
 use Rattle.ledger_claims.specs.Stores.{HasJournal, Holding, HoldingWithRest, IsSynced}
 use Rattle.outside.specs.Told.{StoreTold, held}
 use Rattle.ledger_claims.specs.Calls.{Span, span}
 use Rattle.command_claims.specs.Runs.{Terms, IsReportOf, HoldsRun}
 use Rattle.ledger_claims.proofs.BlocksFit.{FitsBlocks-same}
-use Rattle.ledger_claims.proofs.Left.{journal-HoldingWithRest, all-HoldingWithRest, LeavesRun-here, LeavesRun-on}
+use Rattle.ledger_claims.proofs.Left.{journal-HoldingWithRest, all-HoldingWithRest}
+use Rattle.ledger_claims.proofs.NextBlocks.{next-id, next-time}
+use Rattle.ledger_claims.proofs.Parts.{part_of_line}
 use Rattle.ledger_claims.proofs.Places.{InOrder-all_placed}
-use Rattle.ledger_claims.proofs.Runs.{starts, goes_on, ends}
+use Rattle.core_machine.specs.Entries.{Entry, Opening}
+use Rattle.entry_laws.specs.Alone.{RunsInOrder}
+use Rattle.entry_laws.specs.Claims.{FitsInterleaved}
+use Rattle.entry_laws.specs.Runs.{Served, opening_of, told_of}
+use Rattle.ledger_core.specs.Attempting.{AttemptEnds, AttemptLeaves, Comes, LeavesLine}
+use Rattle.ledger_core.specs.Beginning.{drawn}
+use Rattle.ledger_core.specs.Entering.{Enters, StandsAt}
 use Rattle.ledger_core.specs.Faults.{IsSettleFault}
 use Rattle.ledger_core.specs.Loads.{IsLoaded}
-use Rattle.ledger_core.specs.Tails.{MayBeCut}
+use Rattle.ledger_core.specs.Tails.{MayBeCut, joined}
 use Rattle.ledger_core.specs.declared.keeping.SettleFault.{SettleFault}
 use Rattle.ledger_core.specs.declared.keeping.SettleFault.TheVariants as settle
-use Rattle.ledger_cli.specs.Runs.{Come, IsRunning, IsKept, IsReported, BeginsWith, record_of}
+use Rattle.ledger_core.proofs.Entering.{enters}
+use Rattle.ledger_cli.specs.Runs.{Come, HasServed, IsRunning, IsKept, IsReported, LeavesJournal, BeginsWith}
 use Rattle.ledger_cli.specs.Judgements.{job_count}
 use Rattle.ledger_cli.specs.Stops.{IsTailStop, settle_stop}
+use Rattle.ledger_cli.proofs.Serving.{all_fits, job_of, map_joined, more_jobs, more_served, part_blocks, part_digests, times_with}
 
 -- ---- the bytes begin with the journal's lines
 
@@ -41,69 +57,213 @@ begins_here : (blocks : List Block) (rest : List ℕ) (held : Option (List ℕ))
 begins_here blocks rest None holds = tt
 begins_here blocks rest (Some bytes) holds = (rest, holds)
 
+begins_all : (blocks : List Block) (held : Option (List ℕ)) → Holding blocks held → BeginsWith blocks held
+begins_all blocks None holds = tt
+begins_all blocks (Some bytes) holds = ([], holds ∙ sym (append-nil (journal_bytes blocks)))
+
 begins_journal : (blocks : List Block) (held : Option (List ℕ)) → HasJournal blocks held → BeginsWith blocks held
 begins_journal blocks None has = tt
 begins_journal blocks (Some bytes) has = (has.0, has.1.lines)
 
-module _ (s : Standing) (time : TimeParts) (p : Placed) (now : Standing) (held kept : Option (List ℕ)) (begins : BeginsWith s.blocks held) where
-  begins_same : now.blocks ≡ s.blocks → kept ≡ held → BeginsWith now.blocks kept
-  begins_same same stays = subst (λ (x : List Block). BeginsWith x kept) (sym same) (subst (λ (x : Option (List ℕ)). BeginsWith s.blocks x) (sym stays) begins)
+-- ---- a part of a line
 
-  begins_part : now.blocks ≡ s.blocks → (kept ≡ held) ⊎ LeavesPart s time p kept → BeginsWith now.blocks kept
-  begins_part same (inl stays) = begins_same same stays
-  begins_part same (inr part) = subst (λ (x : List Block). BeginsWith x kept) (sym same) (begins_here s.blocks (take part.kept (line part.stopped)) kept part.holds)
+journal_more : (blocks : List Block) (b : Block) → journal_bytes blocks ++ line b ≡ journal_bytes (blocks ++ b ∷ []) ++ []
+journal_more blocks b =
+    sym (append-nil _ ∙ flat_map-append line blocks (b ∷ []) ∙ ap (λ (x : List ℕ). journal_bytes blocks ++ x) (append-nil (line b)))
 
-  begins_on : (o : Outcome) → Attempted s time p o now → LeavesStore s time p o now held kept → BeginsWith now.blocks kept
-  begins_on (Committed tx block) h leaves = begins_here now.blocks [] kept leaves
-  begins_on (Conflict tx since named) h leaves = absurd h
-  begins_on (Refused tx since statement cause) h leaves = begins_same h.1.blocks leaves
-  begins_on (DigestDiffers tx since mine given) h leaves = absurd h
-  begins_on (StoreFault tx count) h leaves = begins_part h.1.blocks leaves
-  begins_on (JournalFull tx blocks) h leaves = begins_same h.1.blocks leaves
-  begins_on (IdsSpent last) h leaves = begins_same (ap (λ (x : Standing). x.blocks) h.0) leaves
-  begins_on (Aborted tx since) h leaves = begins_same h.1.blocks leaves
-  begins_on OutOfMemory h leaves = begins_part h.0.blocks leaves
+-- is no whole line, or the block's
+part_or_line : (blocks : List Block) (b : Block) (kept : ℕ) (held : Option (List ℕ)) → has_no_line_feed (value_text (block_value b)) ≡ true
+    → HoldsBehind blocks (take kept (line b)) held → HoldingWithRest blocks held ⊎ HoldingWithRest (blocks ++ b ∷ []) held
+part_or_line blocks b kept None one holds = inl tt
+part_or_line blocks b kept (Some bytes) one holds =
+    elim (part_of_line (value_text (block_value b)) kept one) [
+      | inl rest ↦ inl (take kept (line b), holds, rest)
+      | inr all ↦ inr ([], holds ∙ ap (λ (x : List ℕ). journal_bytes blocks ++ x) all ∙ journal_more blocks b, refl)
+    ]
+
+-- ---- what an attempt ends with
+
+module _ (s : Standing) (told : TimeParts → Type 0) (p : Placed) where
+  pub calm : (x : Outcome) (d : Standing) → AttemptEnds s told p x d → is_conflict x ≡ false
+  calm (Committed tx block) d h = refl
+  calm (Conflict tx since named) d h = absurd h
+  calm (Refused tx since statement cause) d h = refl
+  calm (DigestDiffers tx since mine given) d h = refl
+  calm (StoreFault tx count) d h = refl
+  calm (JournalFull tx blocks) d h = refl
+  calm (IdsSpent last) d h = refl
+  calm (Aborted tx since) d h = refl
+  calm OutOfMemory d h = refl
+
+  -- the blocks are those before, with the committed one behind them
+  same_blocks : (d : Standing) → d ≡ drawn s → d.blocks ≡ s.blocks
+  same_blocks d is = ap (λ (x : Standing). x.blocks) is
+
+  -- what is so of the blocks before, and with a block behind them with which the job came to its store, is so of those now
+  pub by_blocks : (P : List Block → Type 0) (x : Outcome) (d : Standing) → AttemptEnds s told p x d → P s.blocks
+      → ((tx : TxId) (b : Block) → Comes s told p tx b → P (s.blocks ++ b ∷ [])) → P d.blocks
+  by_blocks P (Committed tx block) d h same more =
+      subst (λ (x : Standing). P x.blocks) (sym h.1.2) (more tx h.1.0 h.1.1)
+  by_blocks P (Conflict tx since named) d h same more = absurd h
+  by_blocks P (Refused tx since statement cause) d h same more = subst P (sym (same_blocks d h.0.now_is)) same
+  by_blocks P (DigestDiffers tx since mine given) d h same more = subst P (sym (same_blocks d h.0.now_is)) same
+  by_blocks P (StoreFault tx count) d h same more = subst P (sym (same_blocks d h.0.now_is)) same
+  by_blocks P (JournalFull tx blocks) d h same more = subst P (sym (same_blocks d h.0.now_is)) same
+  by_blocks P (IdsSpent last) d h same more = subst P (sym (ap (λ (x : Standing). x.blocks) h.0)) same
+  by_blocks P (Aborted tx since) d h same more = subst P (sym (same_blocks d h.0.now_is)) same
+  by_blocks P OutOfMemory d (inl is) same more = subst P (sym (ap (λ (x : Standing). x.blocks) is)) same
+  by_blocks P OutOfMemory d (inr draws) same more = subst P (sym (same_blocks d draws.1.now_is)) same
+
+  -- What is so of the store before, and where it holds all lines, or a part of the line behind them, is so of it now.
+  pub by_store : (P : Option (List ℕ) → Type 0) (x : Outcome) (d : Standing) (before after : Option (List ℕ))
+      → AttemptLeaves s told p x d before after → P before → (Holding d.blocks after → P after)
+      → (LeavesLine s told p after → P after) → P after
+  by_store P (Committed tx block) d before after leaves same all part = all leaves
+  by_store P (Conflict tx since named) d before after leaves same all part = subst P (sym leaves) same
+  by_store P (Refused tx since statement cause) d before after leaves same all part = subst P (sym leaves) same
+  by_store P (DigestDiffers tx since mine given) d before after leaves same all part = subst P (sym leaves) same
+  by_store P (StoreFault tx count) d before after (inl is) same all part = subst P (sym is) same
+  by_store P (StoreFault tx count) d before after (inr line) same all part = part line
+  by_store P (JournalFull tx blocks) d before after leaves same all part = subst P (sym leaves) same
+  by_store P (IdsSpent last) d before after leaves same all part = subst P (sym leaves) same
+  by_store P (Aborted tx since) d before after leaves same all part = subst P (sym leaves) same
+  by_store P OutOfMemory d before after (inl is) same all part = subst P (sym is) same
+  by_store P OutOfMemory d before after (inr line) same all part = part line
+
+-- where the store holds less than all lines, no block was committed
+module _ (s : Standing) (told : TimeParts → Type 0) (p : Placed) where
+  begins_part : (d : Standing) (held : Option (List ℕ)) → d.blocks ≡ s.blocks → LeavesLine s told p held → BeginsWith d.blocks held
+  begins_part d held same part =
+      subst (λ (bs : List Block). BeginsWith bs held) (sym same) (begins_here s.blocks (take part.kept (line part.stopped)) held part.holds)
+
+  begins_same : (d : Standing) (before after : Option (List ℕ)) → BeginsWith s.blocks before → d.blocks ≡ s.blocks → after ≡ before → BeginsWith d.blocks after
+  begins_same d before after begins same stays =
+      subst (λ (bs : List Block). BeginsWith bs after) (sym same) (subst (λ (x : Option (List ℕ)). BeginsWith s.blocks x) (sym stays) begins)
+
+  wanted_same : (d : Standing) → AttemptEnds s told p OutOfMemory d → d.blocks ≡ s.blocks
+  wanted_same d (inl is) = ap (λ (x : Standing). x.blocks) is
+  wanted_same d (inr draws) = same_blocks s told p d draws.1.now_is
+
+  module _ (d : Standing) (before after : Option (List ℕ)) (begins : BeginsWith s.blocks before) where
+    begins_or_part : d.blocks ≡ s.blocks → (after ≡ before) ⊎ LeavesLine s told p after → BeginsWith d.blocks after
+    begins_or_part same (inl stays) = begins_same d before after begins same stays
+    begins_or_part same (inr part) = begins_part d after same part
+
+    pub begins_on : (x : Outcome) → AttemptEnds s told p x d → AttemptLeaves s told p x d before after → BeginsWith d.blocks after
+    begins_on (Committed tx block) h leaves = begins_all d.blocks after leaves
+    begins_on (Conflict tx since named) h leaves = absurd h
+    begins_on (Refused tx since statement cause) h leaves = begins_same d before after begins (same_blocks s told p d h.0.now_is) leaves
+    begins_on (DigestDiffers tx since mine given) h leaves = begins_same d before after begins (same_blocks s told p d h.0.now_is) leaves
+    begins_on (StoreFault tx count) h leaves = begins_or_part (same_blocks s told p d h.0.now_is) leaves
+    begins_on (JournalFull tx blocks) h leaves = begins_same d before after begins (same_blocks s told p d h.0.now_is) leaves
+    begins_on (IdsSpent last) h leaves = begins_same d before after begins (ap (λ (x : Standing). x.blocks) h.0) leaves
+    begins_on (Aborted tx since) h leaves = begins_same d before after begins (same_blocks s told p d h.0.now_is) leaves
+    begins_on OutOfMemory h leaves = begins_or_part (wanted_same d h) leaves
 
 -- ---- from one transaction to the next
 
-abbrev told : Placed → Outcome → PlacedOutcome
-told p o = record { place = p.place; outcome = o }
+module _ (t : RunRecord) (served : List Served) (now : Known Entry) (s : Standing) (count : ℕ) (has : HasServed t served now s count) (p : Placed)
+    (rest : List Placed) (jobs : t.jobs ≡ map job_of served ++ p ∷ rest) (told : TimeParts → Type 0)
+    (timed : (time : TimeParts) → told time → IsTimeIn t.times time) where
+  block_timed : (tx : TxId) (b : Block) → Comes s told p tx b → HasTime t.times s.blocks b
+  block_timed tx b comes = record {
+    time = comes.time;
+    among = timed comes.time comes.is_told;
+    is = next-time s comes.time p b comes.is_next;
+  }
 
-module _ (t : RunRecord) (time : TimeParts) (p : Placed) (rest : List Placed) (c d : Come) (o : Outcome)
+  times_then : (tx : TxId) (b : Block) → Comes s told p tx b → HaveTimes t.times t.before (drop (length t.before) (s.blocks ++ b ∷ []))
+  times_then tx b comes = times_with t served now s count has (p ∷ rest) jobs b (block_timed tx b comes)
+
+  pub times_on : (x : Outcome) (d : Standing) → AttemptEnds s told p x d → HaveTimes t.times t.before (drop (length t.before) d.blocks)
+  times_on x d ends = by_blocks s told p (λ (bs : List Block). HaveTimes t.times t.before (drop (length t.before) bs)) x d ends has.times times_then
+
+  -- the block with which it came to its store might have been committed, which wasn't told
+  is_next : (tx : TxId) (b : Block) → Comes s told p tx b → IsNext s tx
+  is_next tx b comes = record {
+    id = ap (λ (x : TxId). x.raw) comes.id ∙ next-id s comes.time p b comes.is_next;
+    counted = comes.is_next.counted;
+  }
+
+  untold_enters : (tx : TxId) (b : Block) → Comes s told p tx b
+      → Enters (opening_of t) now p.job p.place (Committed tx (length s.blocks)) (joined (drawn s) b) count
+  untold_enters tx b comes =
+      enters (opening_of t) now s count has.stands told p (Committed tx (length s.blocks)) (joined (drawn s) b) count
+      (is_next tx b comes, (b, comes, refl), refl) refl
+
+  leaves_untold : (tx : TxId) (b : Block) (held : Option (List ℕ)) → Comes s told p tx b → HoldingWithRest (s.blocks ++ b ∷ []) held → LeavesJournal t held
+  leaves_untold tx b held comes holds =
+      let x : Outcome = Committed tx (length s.blocks) in
+      let e = untold_enters tx b comes in
+      let more = more_served t served now s count has p x (joined (drawn s) b) count e refl (times_then tx b comes) in
+      let left = more_jobs t served now s count has p x (joined (drawn s) b) count e refl rest jobs in
+      let all : List Served = served ++ record { placed = p; outcome = x } ∷ [] in
+      record {
+        blocks = s.blocks ++ b ∷ [];
+        fits = part_blocks t all e.now (joined (drawn s) b) count more rest left;
+        digests = part_digests t all e.now (joined (drawn s) b) count more rest left;
+        holding = holds;
+      }
+
+  pub leaves_line : (law : (v : Value) → has_no_line_feed (value_text v) ≡ true) (held : Option (List ℕ)) → LeavesLine s told p held → LeavesJournal t held
+  leaves_line law held part =
+      elim (part_or_line s.blocks part.stopped part.kept held (law (block_value part.stopped)) part.holds) [
+        | inl nothing ↦ record {
+          blocks = s.blocks;
+          fits = part_blocks t served now s count has (p ∷ rest) jobs;
+          digests = part_digests t served now s count has (p ∷ rest) jobs;
+          holding = nothing;
+        }
+        | inr all ↦ leaves_untold part.tx part.stopped held part.comes all
+      ]
+
+-- where the store holds the lines of all blocks so far, and perhaps a rest
+leaves_here : (t : RunRecord) (served : List Served) (now : Known Entry) (s : Standing) (count : ℕ) (rest : List Placed) (held : Option (List ℕ))
+    → HasServed t served now s count → t.jobs ≡ map job_of served ++ rest → HoldingWithRest s.blocks held → LeavesJournal t held
+leaves_here t served now s count rest held has jobs holds = record {
+  blocks = s.blocks;
+  fits = part_blocks t served now s count has rest jobs;
+  digests = part_digests t served now s count has rest jobs;
+  holding = holds;
+}
+
+abbrev told_as : Placed → Outcome → PlacedOutcome
+told_as p x = record { place = p.place; outcome = x }
+
+module _ (t : RunRecord) (p : Placed) (rest : List Placed) (c d : Come) (x : Outcome) (told : TimeParts → Type 0)
     (law : (v : Value) → has_no_line_feed (value_text v) ≡ true)
-    (attempted : Attempted c.stands time p o d.stands) (faults : TellsFaults c.store.faults o d.store.faults) (leaves : LeavesStore c.stands time p o d.stands (held c.store) (held d.store))
-    (later : c.store.faults ≤ d.store.faults) (outcomes : d.outcomes ≡ c.outcomes ++ told p o ∷ []) (timed : IsTimeIn t.times time)
-    (runs : IsRunning t (p ∷ rest) c) where
-  abbrev u : RunRecord
-  u = record_of t c
+    (entered : (o : Opening) (k : Known Entry) → StandsAt o k c.stands c.store.faults → Enters o k p.job p.place x d.stands d.store.faults)
+    (ends : AttemptEnds c.stands told p x d.stands)
+    (leaves : AttemptLeaves c.stands told p x d.stands (held c.store) (held d.store)) (outcomes : d.outcomes ≡ c.outcomes ++ told_as p x ∷ [])
+    (timed : (time : TimeParts) → told time → IsTimeIn t.times time) (runs : IsRunning t (p ∷ rest) c) where
+  abbrev more : List Served
+  more = runs.served ++ record { placed = p; outcome = x } ∷ []
 
-  abbrev v : RunRecord
-  v = extended u d.stands.blocks p o d.store.faults
+  entry : Enters (opening_of t) runs.now p.job p.place x d.stands d.store.faults
+  entry = entered (opening_of t) runs.now runs.has.stands
 
-  as_told : Attempted (standing u c.stands.last) time p o d.stands
-  as_told = subst (λ (x : Standing). Attempted x time p o d.stands) runs.stands_so attempted
+  served_now : HasServed t more entry.now d.stands d.store.faults
+  served_now =
+      more_served t runs.served runs.now c.stands c.store.faults runs.has p x d.stands d.store.faults entry (calm c.stands told p x d.stands ends)
+      (times_on t runs.served runs.now c.stands c.store.faults runs.has p rest runs.jobs told timed x d.stands ends)
 
-  as_left : LeavesStore (standing u c.stands.last) time p o d.stands (held c.store) (held d.store)
-  as_left = subst (λ (x : Standing). LeavesStore x time p o d.stands (held c.store) (held d.store)) runs.stands_so leaves
-
-  same_record : v ≡ record_of t d
-  same_record = λ i. record t { after = d.stands.blocks; outcomes = sym outcomes i; closed = d.store.faults }
-
-  one_further : SoFar v (runs.done ++ p ∷ []) rest d.stands.last × IsStanding d.stands × (d.stands ≡ standing v d.stands.last)
-  one_further =
-      goes_on u time timed runs.done p rest c.stands.last o d.stands d.store.faults runs.so_far
-      (subst (λ (x : Standing). IsStanding x) runs.stands_so runs.sound) later as_told faults
+  jobs_now : t.jobs ≡ map job_of more ++ rest
+  jobs_now =
+      more_jobs t runs.served runs.now c.stands c.store.faults runs.has p x d.stands d.store.faults entry (calm c.stands told p x d.stands ends) rest runs.jobs
 
   pub runs_on : IsRunning t rest d
   runs_on = record {
-    done = runs.done ++ p ∷ [];
-    so_far = subst (λ (x : RunRecord). SoFar x (runs.done ++ p ∷ []) rest d.stands.last) same_record one_further.0;
-    stands_so = subst (λ (x : RunRecord). d.stands ≡ standing x d.stands.last) same_record one_further.2;
-    sound = one_further.1;
-    left = subst (λ (x : RunRecord). LeavesRun x d.store.faults (held d.store)) same_record
-        (LeavesRun-on u time timed runs.done p rest c.stands.last d.stands d.store.faults c.store.faults d.store.faults
-        (held c.store) (held d.store) law runs.so_far runs.left o as_told as_left);
-    begins = begins_on c.stands time p d.stands (held c.store) (held d.store) runs.begins o attempted leaves;
+    served = more;
+    now = entry.now;
+    has = served_now;
+    jobs = jobs_now;
+    outcomes =
+        outcomes ∙ ap (λ os. os ++ told_as p x ∷ []) runs.outcomes ∙ sym (map_joined told_of runs.served (record { placed = p; outcome = x } ∷ []));
+    left =
+        by_store c.stands told p (λ (h : Option (List ℕ)). LeavesJournal t h) x d.stands (held c.store) (held d.store) leaves runs.left
+        (λ all. leaves_here t more entry.now d.stands d.store.faults rest (held d.store) served_now jobs_now (all-HoldingWithRest d.stands.blocks (held d.store) all))
+        (leaves_line t runs.served runs.now c.stands c.store.faults runs.has p rest runs.jobs told timed law (held d.store));
+    begins = begins_on c.stands told p d.stands (held c.store) (held d.store) runs.begins x ends leaves;
   }
 
 -- ---- the jobs of a session, and the sessions
@@ -163,21 +323,49 @@ all_at P (x ∷ xs) (suc k) d h within = all_at P xs k d h.1 (omega (arith, with
 -- ---- the begin
 
 -- no job is done
-pub runs_begun : (t : RunRecord) (script : List (List Job)) (c : Come) → t.before ≡ c.stands.blocks
-    → t.mask ≡ c.stands.mask → HasMask t → t.jobs ≡ all_placed script → c.store.faults ≡ t.opened
-    → c.outcomes ≡ [] → IsStanding c.stands → c.stands.last ≡ greatest c.stands.mask c.stands.blocks
-    → HasJournal c.stands.blocks (held c.store) → IsRunning t (all_placed script) c
-runs_begun t script c before masks masked jobs opens none sound last has =
-    let u : RunRecord = record_of t c in
-    let so : SoFar u [] u.jobs c.stands.last =
-    starts u c.stands (subst (λ (x : List Placed). InOrder x) (sym jobs) (InOrder-all_placed script)) masked (sym before) none opens sound
-    (sym before) (sym masks) (last ∙ (λ i. greatest (sym masks i) (sym before i))) in
+module _ (t : RunRecord) (s : Standing) (before : t.before ≡ s.blocks) (masks : t.mask ≡ s.mask) (sound : IsStanding s)
+    (last : s.last ≡ greatest s.mask s.blocks) where
+  nothing_served : t.workers ≡ 1 → InOrder t.jobs → HasMask t → HasServed t [] newborn s t.opened
+  nothing_served one in_order masked = record {
+    one = one;
+    in_order = in_order;
+    masked = masked;
+    strand =
+        subst (λ (m : ℕ). mask_of m t.before ≡ m) (sym masks)
+        (subst (λ (bs : List Block). mask_of s.mask bs ≡ s.mask) (sym before) sound.strand);
+    start = newborn;
+    owns_none = refl;
+    works = refl;
+    owns = λ i e there. let bad : ⊥ = cc in absurd bad;
+    stands = record {
+      right = record { run = tt; undamaged = subst (λ (bs : List Block). Undamaged bs) (sym before) sound.undamaged };
+      mask = masks;
+      blocks = before;
+      last = (λ i. greatest (masks i) (before i)) ∙ sym last;
+      counted = refl;
+    };
+    times =
+        subst (λ (bs : List Block). HaveTimes t.times t.before bs)
+        (sym (ap (λ bs. drop (length bs) s.blocks) before ∙ drop_all (length s.blocks) s.blocks (omega arith))) tt;
+  }
+
+pub runs_begun : (t : RunRecord) (script : List (List Job)) (c : Come) → t.before ≡ c.stands.blocks → t.mask ≡ c.stands.mask → t.workers ≡ 1
+    → HasMask t → t.jobs ≡ all_placed script → c.store.faults ≡ t.opened → c.outcomes ≡ [] → IsStanding c.stands
+    → c.stands.last ≡ greatest c.stands.mask c.stands.blocks → HasJournal c.stands.blocks (held c.store) → IsRunning t (all_placed script) c
+runs_begun t script c before masks one masked jobs opens none sound last has =
+    let in_order : InOrder t.jobs = subst (λ (x : List Placed). InOrder x) (sym jobs) (InOrder-all_placed script) in
+    let nothing = nothing_served t c.stands before masks sound last one in_order masked in
+    let at : HasServed t [] newborn c.stands c.store.faults =
+    subst (λ (n : ℕ). HasServed t [] newborn c.stands n) (sym opens) nothing in
     record {
-      done = [];
-      so_far = subst (λ (x : List Placed). SoFar u [] x c.stands.last) jobs so;
-      stands_so = λ i. record { mask = sym masks i; last = c.stands.last; blocks = c.stands.blocks };
-      sound = sound;
-      left = LeavesRun-here u c.store.faults (held c.store) so.blocks (journal-HoldingWithRest c.stands.blocks (held c.store) has);
+      served = [];
+      now = newborn;
+      has = at;
+      jobs = jobs;
+      outcomes = none;
+      left =
+          leaves_here t [] newborn c.stands c.store.faults (all_placed script) (held c.store) at jobs
+          (journal-HoldingWithRest c.stands.blocks (held c.store) has);
       begins = begins_journal c.stands.blocks (held c.store) has;
     }
 
@@ -185,34 +373,25 @@ runs_begun t script c before masks masked jobs opens none sound last has =
 
 -- the whole run was told
 pub runs_ended : (t : RunRecord) (c : Come) (now : Standing) (closed : ℕ) → IsRunning t [] c → now ≡ c.stands → closed ≡ c.store.faults
-    → Fits (record t { after = now.blocks; outcomes = c.outcomes; closed = closed })
+    → FitsInterleaved (record t { after = now.blocks; outcomes = c.outcomes; closed = closed })
+    × RunsInOrder (record t { after = now.blocks; outcomes = c.outcomes; closed = closed })
 runs_ended t c now closed runs same fine =
-    subst (λ (x : Standing). Fits (record t { after = x.blocks; outcomes = c.outcomes; closed = closed })) (sym same)
-    (subst (λ (n : ℕ). Fits (record t { after = c.stands.blocks; outcomes = c.outcomes; closed = n })) (sym fine)
-    (ends (record_of t c) runs.done c.stands.last runs.so_far))
+    subst
+    (λ (x : Standing). FitsInterleaved (record t { after = x.blocks; outcomes = c.outcomes; closed = closed })
+    × RunsInOrder (record t { after = x.blocks; outcomes = c.outcomes; closed = closed })) (sym same)
+    (subst
+    (λ (n : ℕ). FitsInterleaved (record t { after = c.stands.blocks; outcomes = c.outcomes; closed = n })
+    × RunsInOrder (record t { after = c.stands.blocks; outcomes = c.outcomes; closed = n })) (sym fine)
+    (all_fits t runs.served runs.now c.stands c.store.faults runs.has c.outcomes (runs.jobs ∙ append-nil (map job_of runs.served)) runs.outcomes))
 
 -- what a run leaves that stopped
-pub stopped_leaves : (t : RunRecord) (rest : List Placed) (c : Come) → IsRunning t rest c → LeavesRun t c.store.faults (held c.store)
-stopped_leaves t rest c runs = record {
-  blocks = runs.left.blocks;
-  fits = FitsBlocks-same (record (record_of t c) { after = runs.left.blocks; closed = c.store.faults }) t.outcomes c.store.faults runs.left.fits;
-  holding = runs.left.holding;
-}
+leaves_later : (t : RunRecord) (held kept : Option (List ℕ)) → kept ≡ held → LeavesJournal t held → LeavesJournal t kept
+leaves_later t held kept same left = subst (λ (x : Option (List ℕ)). LeavesJournal t x) (sym same) left
 
-leaves_later : (t : RunRecord) (before closed : ℕ) (held kept : Option (List ℕ)) → kept ≡ held → LeavesRun t before held → LeavesRun t closed kept
-leaves_later t before closed held kept same left = record {
-  blocks = left.blocks;
-  fits = FitsBlocks-same (record t { after = left.blocks; closed = before }) t.outcomes closed left.fits;
-  holding = subst (λ (x : Option (List ℕ)). HoldingWithRest left.blocks x) (sym same) left.holding;
-}
-
-leaves_all : (t : RunRecord) (rest : List Placed) (c : Come) (closed : ℕ) (kept : Option (List ℕ)) → IsRunning t rest c
-    → Holding c.stands.blocks kept → LeavesRun t closed kept
-leaves_all t rest c closed kept runs holds = record {
-  blocks = c.stands.blocks;
-  fits = FitsBlocks-same (record_of t c) t.outcomes closed runs.so_far.blocks;
-  holding = all-HoldingWithRest c.stands.blocks kept holds;
-}
+leaves_all : (t : RunRecord) (rest : List Placed) (c : Come) (kept : Option (List ℕ)) → IsRunning t rest c → Holding c.stands.blocks kept
+    → LeavesJournal t kept
+leaves_all t rest c kept runs holds =
+    leaves_here t runs.served runs.now c.stands c.store.faults rest kept runs.has runs.jobs (all-HoldingWithRest c.stands.blocks kept holds)
 
 -- cut to the lines of the blocks
 cut_holds : (blocks : List Block) (held : Option (List ℕ)) → BeginsWith blocks held → Holding blocks (option_map (take (length (journal_bytes blocks))) held)
@@ -220,17 +399,17 @@ cut_holds blocks None begins = tt
 cut_holds blocks (Some bytes) begins =
     ap (λ (x : List ℕ). take (length (journal_bytes blocks)) x) begins.1 ∙ take-append_seam (journal_bytes blocks) begins.0
 
-pub cut_leaves : (t : RunRecord) (rest : List Placed) (c : Come) (closed : ℕ) (kept : Option (List ℕ)) → IsRunning t rest c
-    → MayBeCut (held c.store) kept (length (journal_bytes c.stands.blocks)) → LeavesRun t closed kept
-cut_leaves t rest c closed kept runs (inl same) = leaves_later t c.store.faults closed (held c.store) kept same (stopped_leaves t rest c runs)
-cut_leaves t rest c closed kept runs (inr cut) =
-    leaves_all t rest c closed kept runs (subst (λ (x : Option (List ℕ)). Holding c.stands.blocks x) (sym cut) (cut_holds c.stands.blocks (held c.store) runs.begins))
+pub cut_leaves : (t : RunRecord) (rest : List Placed) (c : Come) (kept : Option (List ℕ)) → IsRunning t rest c
+    → MayBeCut (held c.store) kept (length (journal_bytes c.stands.blocks)) → LeavesJournal t kept
+cut_leaves t rest c kept runs (inl same) = leaves_later t (held c.store) kept same runs.left
+cut_leaves t rest c kept runs (inr cut) =
+    leaves_all t rest c kept runs (subst (λ (x : Option (List ℕ)). Holding c.stands.blocks x) (sym cut) (cut_holds c.stands.blocks (held c.store) runs.begins))
 
 -- where the report finds no memory
-pub settled_leaves : (t : RunRecord) (rest : List Placed) (c : Come) (now : Standing) (closed : ℕ) (kept : Option (List ℕ)) → IsRunning t rest c
-    → now ≡ c.stands → Holding now.blocks kept → LeavesRun t closed kept
-settled_leaves t rest c now closed kept runs same holds =
-    leaves_all t rest c closed kept runs (subst (λ (x : Standing). Holding x.blocks kept) same holds)
+pub settled_leaves : (t : RunRecord) (rest : List Placed) (c : Come) (now : Standing) (kept : Option (List ℕ)) → IsRunning t rest c → now ≡ c.stands
+    → Holding now.blocks kept → LeavesJournal t kept
+settled_leaves t rest c now kept runs same holds =
+    leaves_all t rest c kept runs (subst (λ (x : Standing). Holding x.blocks kept) same holds)
 
 -- ---- what is synced
 
@@ -289,7 +468,7 @@ module _ (terms : Terms) (given : ℕ) (told : IfSome terms.given (λ g. g ≡ g
   pub loaded_begun : (c : Come) → c.stands ≡ found → c.outcomes ≡ [] → c.store.faults ≡ s.before.faults → held c.store ≡ held s.before → IsStanding found
       → found.last ≡ greatest found.mask found.blocks → IsRunning t (all_placed script) c
   loaded_begun c same none opens bytes sound last =
-      runs_begun t script c (ap (λ (x : Standing). x.blocks) (sym same)) (ap (λ (x : Standing). x.mask) (sym same))
+      runs_begun t script c (ap (λ (x : Standing). x.blocks) (sym same)) (ap (λ (x : Standing). x.mask) (sym same)) refl
       (masked_as terms.given given found.mask found.blocks told mask) refl opens none
       (subst (λ (x : Standing). IsStanding x) (sym same) sound)
       (subst (λ (x : Standing). x.last ≡ greatest x.mask x.blocks) (sym same) last)
@@ -311,13 +490,14 @@ module _ (terms : Terms) (given : ℕ) (told : IfSome terms.given (λ g. g ≡ g
         closed = refl;
       };
       fits = reported.fits;
+      in_order = reported.in_order;
       holding = reported.holding;
       synced = synced;
     };
     text_is = reported.text_is;
   }
 
-  pub loaded_left : LeavesRun t s.after.faults (held s.after) → HoldsRun terms script s
+  pub loaded_left : LeavesJournal t (held s.after) → HoldsRun terms script s
   loaded_left left = record {
     told = record t { after = left.blocks; closed = s.after.faults };
     of_run = record {
@@ -329,6 +509,7 @@ module _ (terms : Terms) (given : ℕ) (told : IfSome terms.given (λ g. g ≡ g
       opened = refl;
       closed = refl;
     };
-    fits = left.fits;
+    fits = FitsBlocks-same (record t { after = left.blocks }) [] s.after.faults left.fits;
+    digests = left.digests;
     holding = left.holding;
   }

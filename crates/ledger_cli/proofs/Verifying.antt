@@ -52,7 +52,8 @@ module _ (values : List Value) (d : Digest) (r : Revision) (p : Proof) (bundle :
   refused_so (fault.RootDiffers computed published) h = fails _ h
   refused_so fault.OutOfMemory h = tt
 
-pub unproved_decides : (values : List Value) (e : ProofFault) → IsUnproved values e → Decides (Err (proof_stop e)) values
+pub unproved_decides : (values : List Value) (e : ProofFault) → IsUnproved values e
+    → Decides (Err (proof_stop e)) values
 unproved_decides values (fault.Malformed name) h = h
 unproved_decides values (fault.WrongStrand proof digest) h = h
 unproved_decides values (fault.AddressDiffers revision proof) h = h
@@ -67,13 +68,13 @@ unproved_decides values fault.OutOfMemory h = tt
 
 -- it wasn't read
 pub unread_verifies : (source : Span SourceTold) (why : Stop) → IsUnread why source
-    → (why ≡ stop.BadInput cause.TooLong → (input : List ℕ) × Taken source input × (longest < length input)) → Verifies (Err why) source
+    → (why ≡ stop.BadInput cause.TooLong → (input : List ℕ) × Taken source input × (longest < length input))
+    → Verifies (Err why) source
 unread_verifies source (stop.BadInput cause.TooLong) h long =
     let taken = long refl in
     (record { input = taken.0; taken = taken.1; long = taken.2 }, h.1)
 unread_verifies source (stop.BadInput (cause.Faulty fault)) h long = cc
 unread_verifies source (stop.BadInput (cause.Misspelt fault)) h long = cc
-unread_verifies source (stop.BadInput cause.Unbuilt) h long = cc
 unread_verifies source (stop.NoSuch why) h long = absurd h
 unread_verifies source (stop.Damaged sequence kind) h long = absurd h
 unread_verifies source stop.SourceFailed h long = h
@@ -81,12 +82,12 @@ unread_verifies source stop.StoreFailed h long = absurd h
 unread_verifies source (stop.NotAccepted fault) h long = absurd h
 unread_verifies source stop.OutOfMemory h long = h
 
-module _ (source : Span SourceTold) (input : List ℕ) (read : WasRead source input) (short : length input ≤ longest) (fine : IsFine source) where
+module _ (source : Span SourceTold) (input : List ℕ) (read : WasRead source input) (short : length input ≤ longest)
+    (fine : IsFine source) where
   faulty_verifies : (why : BadInput) → IsFaulty why input → Verifies (Err (stop.BadInput why)) source
   faulty_verifies cause.TooLong h = absurd h
   faulty_verifies (cause.Faulty fault) h = (record { input = input; read = read; short = short; text_of = h }, fine)
   faulty_verifies (cause.Misspelt fault) h = absurd h
-  faulty_verifies cause.Unbuilt h = absurd h
 
   -- it is no text of values
   pub no_values_verifies : (why : Stop) → ReadsValues (Err why) input → Verifies (Err why) source
@@ -102,7 +103,12 @@ module _ (source : Span SourceTold) (input : List ℕ) (read : WasRead source in
     -- it is one
     pub values_verify : (came : Result (List ℕ) Stop) → Decides came values → Verifies came source
     values_verify (Ok text) h = (
-      record { values = values; has = record { input = input; read = read; short = short; text_of = reads }; accepted = h.0; text_is = h.1 },
+      record {
+        values = values;
+        has = record { input = input; read = read; short = short; text_of = reads };
+        accepted = h.0;
+        text_is = h.1;
+      },
       fine,
     )
     values_verify (Err (stop.BadInput why)) h = absurd h
@@ -110,13 +116,20 @@ module _ (source : Span SourceTold) (input : List ℕ) (read : WasRead source in
     values_verify (Err (stop.Damaged sequence kind)) h = absurd h
     values_verify (Err stop.SourceFailed) h = absurd h
     values_verify (Err stop.StoreFailed) h = absurd h
-    values_verify (Err (stop.NotAccepted why)) h =
-        (record { values = values; has = record { input = input; read = read; short = short; text_of = reads }; is = h }, fine)
+    values_verify (Err (stop.NotAccepted why)) h = (
+      record {
+        values = values;
+        has = record { input = input; read = read; short = short; text_of = reads };
+        is = h;
+      },
+      fine,
+    )
     values_verify (Err stop.OutOfMemory) h = fine
 
 -- ---- the command
 
-pub works_verify : (same : Type 0) (x : Outside) (came : Result (List ℕ) Stop) → Verifies came x.source → Works same (Some command.Verify) came x
+pub works_verify : (same : Type 0) (x : Outside) (came : Result (List ℕ) Stop) → Verifies came x.source
+    → Works same (Some command.Verify) came x
 works_verify same x (Ok text) h =
     (record { values = h.0.values; has = h.0.has; accepted = h.0.accepted; text_is = h.0.text_is }, h.1)
 works_verify same x (Err (stop.BadInput why)) h = (record { cause = _; is = h.0; line_is = refl }, h.1)

@@ -1,45 +1,61 @@
--- What the sources of times and of masks ask of the clock, and what they give.
-use Rattle.std.specs.Prelude.{◌≡◌, ◌++◌, ℕ, ℤ, List, Option, Some, None, IfSome, IsSomeAnd}
+-- What the clock of a run tells, which times it gives, and what the source of ids asks of it.
+use Rattle.std.specs.Prelude.{◌≡◌, ◌++◌, ℕ, ℤ, List, length, drop, Option, Some, None, IfSome, IsSomeAnd, Contains}
 use Rattle.ion_time.specs.Millis.{BeginsAt, nearest}
 use Rattle.ion_values.specs.declared.time.TimeParts.{TimeParts}
 use Rattle.command_words.specs.declared.IdSource.{IdSource}
 use Rattle.command_words.specs.declared.IdSource.TheVariants as ids
-use Rattle.ledger_claims.specs.Fits.{Times, one_time, IsTimeIn}
-use Rattle.command_claims.specs.Clocks.{Answers, times_between}
+use Rattle.ledger_claims.specs.Calls.{span}
+use Rattle.ledger_claims.specs.Fits.{Times, IsTimeIn}
+use Rattle.command_claims.specs.Clocks.{Answers, AreTimes}
 use Rattle.command_claims.specs.Runs.{Terms}
-use Rattle.ledger_cli.specs.declared.times.TimeSource.{TimeSource}
-use Rattle.ledger_cli.specs.declared.times.TimeSource.TheVariants as source
 
--- the source for these milliseconds, or the clock
-abbrev pub IsSourceOf : Option ℤ → TimeSource → Type 0
-IsSourceOf (Some ms) from = (time : TimeParts) × BeginsAt (nearest ms) time × (from ≡ source.Given time)
-IsSourceOf None from = from ≡ source.Clock
+-- the answers that a clock has given, and the one answer that it always gives, where it has one
+pub record ClockTold : Type 0 where
+  pub answers : Answers
+  pub always : Option ℤ
 
--- the times that a source gives from one moment to a later one, by the clock's answers then
-abbrev pub times_of : TimeSource → Answers → Answers → Times
-times_of (source.Given time) before now = one_time time
-times_of source.Clock before now = times_between before now
-
--- those are among these
-abbrev pub Covers : TimeSource → Answers → Answers → Times → Type 0
-Covers from before now times = (time : TimeParts) → IsTimeIn (times_of from before now) time → IsTimeIn times time
+abbrev pub clock_told : {C : Type 0} → (C → Answers) → (C → Option ℤ) → C → ClockTold
+clock_told answers always clock = record { answers = answers clock; always = always clock }
 
 -- where the answers are told afterwards, they were told before, and these begin with those
 abbrev pub Extends : Answers → Answers → Type 0
 Extends before now = IfSome now (λ later. IsSomeAnd before (λ earlier. (more : List ℤ) × (later ≡ earlier ++ more)))
 
--- a time that is given asks nothing of the clock
-abbrev pub MayAsk : {C : Type 0} → TimeSource → C → C → Type 0
-MayAsk (source.Given time) before now = now ≡ before
-MayAsk source.Clock before now = Unit {0}
+-- and the clock always gives what it always gave
+pub record GoesOn (before now : ClockTold) : Type 0 where
+  pub extends : Extends before.answers now.answers
+  pub same : now.always ≡ before.always
 
--- nor do plain ids and a seed
+-- the answer was given from one moment to a later one, where both are told
+abbrev pub IsAnswered : Answers → Answers → ℤ → Type 0
+IsAnswered (Some before) (Some now) answer = Contains (drop (length before) now) answer
+IsAnswered _ _ answer = Unit {0}
+
+-- the time is that of such an answer, taken to the nearest millisecond of the years 0001 to 9999
+pub record IsGivenTime (before now : ClockTold) (time : TimeParts) : Type 0 where
+  pub answer : ℤ
+  pub among : IsAnswered before.answers now.answers answer
+  pub one : IfSome before.always (λ same. answer ≡ same)
+  pub begins : BeginsAt (nearest answer) time
+
+-- the times that the clock gave then are among these
+abbrev pub Covers : ClockTold → ClockTold → Times → Type 0
+Covers before now times = (time : TimeParts) → IsGivenTime before now time → IsTimeIn times time
+
+-- plain ids and a seed ask nothing of the clock
 abbrev pub IsAsked : {C : Type 0} → IdSource → C → C → Type 0
 IsAsked ids.Plain before now = now ≡ before
 IsAsked (ids.Seed seed) before now = now ≡ before
 IsAsked ids.FirstAnswer before now = Unit {0}
 
--- the mask is the one that is told, where one is, and the times that the source gives are among those that are told
-pub record AreCovered (mask : ℕ) (from : TimeSource) (before now : Answers) (terms : Terms) : Type 0 where
+-- the mask is the one that is told, where one is, and the times that the clock gave are among those that are told
+pub record AreCovered (mask : ℕ) (before now : ClockTold) (terms : Terms) : Type 0 where
   pub given : IfSome terms.given (λ given. given ≡ mask)
-  pub times : Covers from before now terms.times
+  pub times : Covers before now terms.times
+
+-- It is so with the times that the words or the clock tell, and with any mask that is told, where it is this one. What
+-- the clock had answered before counts too.
+abbrev pub IsSoOnTerms : ℕ → Option ℤ → Answers → Answers → (Terms → Type 0) → Type 0
+IsSoOnTerms mask time before now Is =
+    (first : Answers) (given : Option ℕ) → Extends first before → IfSome given (λ g. g ≡ mask)
+    → (times : Times) × AreTimes time (span first now) times × Is (record { given = given; times = times })

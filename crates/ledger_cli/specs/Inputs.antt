@@ -33,7 +33,7 @@ IsReadStop stop.StoreFailed source = ⊥
 IsReadStop (stop.NotAccepted fault) source = ⊥
 IsReadStop stop.OutOfMemory source = IsFine source
 
--- there is a script that is served, or a cause why not
+-- there is a script, or a cause why not
 abbrev pub ReadsScript : Result (List (List Job)) Stop → Span SourceTold → Type 0
 ReadsScript (Ok script) source = HasScript source script × AreRunnable script × IsFine source
 ReadsScript (Err why) source = IsReadStop why source

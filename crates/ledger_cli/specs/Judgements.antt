@@ -2,7 +2,7 @@
 use Rattle.std.specs.Prelude.{◌≡◌, ℕ, ◌+◌, ◌<◌, ◌^◌, List, [], ◌∷◌, length, Result, Ok, Err}
 use Rattle.std.specs.List.{AllByRecursion}
 use Rattle.ledger_model.specs.declared.script.Job.{Job}
-use Rattle.ledger_model.specs.Unbuilt.{Judged, too_long, faulty, misspelt, unbuilt, served}
+use Rattle.ledger_model.specs.Judging.{Judged, too_long, faulty, misspelt, scripted}
 use Rattle.command_claims.specs.Lines.{BadInput}
 use Rattle.command_claims.specs.Lines as bad
 use Rattle.ledger_cli.specs.declared.lines.BadInput as held
@@ -14,17 +14,15 @@ abbrev pub judged_of : held.BadInput → Judged
 judged_of cause.TooLong = too_long
 judged_of (cause.Faulty fault) = faulty fault
 judged_of (cause.Misspelt fault) = misspelt fault
-judged_of cause.Unbuilt = unbuilt
 
 abbrev pub cause_of : held.BadInput → BadInput
 cause_of cause.TooLong = bad.too_long
 cause_of (cause.Faulty fault) = bad.faulty fault
 cause_of (cause.Misspelt fault) = bad.misspelt fault
-cause_of cause.Unbuilt = bad.unbuilt
 
 -- what an input is judged is told by its script, or by why it is refused; nothing is said where memory was wanted
 abbrev pub JudgesTo : Result (List (List Job)) Stop → Judged → Type 0
-JudgesTo (Ok script) judgement = judgement ≡ served script
+JudgesTo (Ok script) judgement = judgement ≡ scripted script
 JudgesTo (Err (stop.BadInput cause)) judgement = judgement ≡ judged_of cause
 JudgesTo (Err (stop.NoSuch why)) judgement = ⊥
 JudgesTo (Err (stop.Damaged sequence kind)) judgement = ⊥

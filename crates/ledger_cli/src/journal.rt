@@ -5,7 +5,7 @@ ghost use Rattle.ledger_claims.specs.Calls.{span};
 ghost use Rattle.command_claims.specs.Journals.{IsUnchanged, Reads};
 ghost use Rattle.ledger_cli.specs.Stops.{IsLoadStop, load_stop};
 
-use crate::returned::Returned;
+use crate::returned::{HandedBack, Returned};
 use crate::stop::Stop;
 use ledger_core::{LoadFault, Tail};
 use ledger_model::Blocks;
@@ -14,18 +14,20 @@ use ql_types::IdMask;
 use std::alloc::Global;
 
 /// What there is where no journal was loaded.
-pub fn unloaded<T, S>(fault: LoadFault<S, ()>) -> Returned<Result<T, Stop>, S>
+pub fn unloaded<T, S, C>(fault: LoadFault<S, C>) -> HandedBack<Result<T, Stop>, S, C>
     ensures came { result.came ≡ Err (load_stop fault.cause) }
     ensures store { result.store ≡ fault.store }
+    ensures clock { result.clock ≡ fault.clock }
 {
     let LoadFault {
         cause,
         store,
-        clock: _,
+        clock,
     } = fault;
-    Returned {
+    HandedBack {
         came: Err(Stop::from(cause)),
         store,
+        clock,
     }
 }
 
@@ -44,6 +46,13 @@ pub fn read_blocks<S: JournalStore>(alloc: Global, store: S) -> Returned<Result<
                 store,
             }
         }
-        Err(fault) => unloaded(fault),
+        Err(fault) => {
+            let HandedBack {
+                came,
+                store,
+                clock: _,
+            } = unloaded(fault);
+            Returned { came, store }
+        }
     }
 }

@@ -18,8 +18,6 @@ pub enum BadInput {
     Faulty(IonFault),
     /// Its values spell no script.
     Misspelt(ScriptFault),
-    /// It spells a script that isn't served so far.
-    Unbuilt,
 }
 
 /// The error line of an input that is refused.
@@ -41,7 +39,6 @@ fn push_cause(alloc: Global, line: &mut Text, cause: BadInput) -> Result<(), Out
         BadInput::TooLong => line.push_str("kind:InputTooLong")?,
         BadInput::Faulty(fault) => push_fault(alloc, line, fault)?,
         BadInput::Misspelt(fault) => push_script_fault(alloc, line, fault)?,
-        BadInput::Unbuilt => line.push_str("kind:Unbuilt")?,
     }
     Ok(())
 }

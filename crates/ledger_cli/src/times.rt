@@ -1,46 +1,40 @@
 //! Where the times of a run's blocks and the mask of its ids come from.
 ghost use Rattle.std.specs.Prelude.{◌≡◌, IfSome};
-ghost use Rattle.ledger_claims.specs.Fits.{Times, IsTimeIn};
-ghost use Rattle.command_claims.specs.Clocks.{Answers, given_by};
+ghost use Rattle.ion_time.specs.Millis.{BeginsAt, nearest};
+ghost use Rattle.ion_values.specs.declared.time.TimeParts.{TimeParts};
 ghost use Rattle.ledger_claims.specs.Calls.{span};
-ghost use Rattle.ledger_cli.specs.Clocks.{Covers, Extends, IsSourceOf, MayAsk, IsAsked};
+ghost use Rattle.command_claims.specs.Clocks.{Answers, given_by};
+ghost use Rattle.ledger_cli.specs.Clocks.{Extends, IsAsked};
 
 use command_words::IdSource;
 use id_seed::from_seed;
 use ion_time::clamped;
-use ion_values::IonTime;
 use outside::Clock;
 use ql_types::IdMask;
 
-/// Where the times of a run's blocks come from.
-#[derive(Clone, Copy)]
-pub enum TimeSource {
-    /// All have this time.
-    Given(IonTime),
-    /// The clock is asked for each transaction.
-    Clock,
+/// A clock that stands at a time in milliseconds since 1970 in UTC.
+#[derive(Drop)]
+pub struct Stopped {
+    pub milliseconds: i64,
 }
 
-/// The source of times for these milliseconds since 1970 in UTC, or the clock.
-pub fn time_source(milliseconds: Option<i64>) -> TimeSource
-    ensures { IsSourceOf milliseconds result }
-{
-    match milliseconds {
-        Some(milliseconds) => TimeSource::Given(clamped(milliseconds)),
-        None => TimeSource::Clock,
+impl Clock for Stopped {
+    ghost use Rattle.std.specs.Prelude.{None, Some};
+
+    ghost answers = { λ _. None };
+
+    ghost always = { λ clock. Some clock.milliseconds };
+
+    fn now(&mut self) -> i64 {
+        self.milliseconds
     }
 }
 
-/// The time of the next transaction's block.
-pub fn next_time<C: Clock>(source: &TimeSource, clock: &mut C) -> IonTime
-    ensures covered { (times : Times) → Covers source.now (C.answers clock.old) (C.answers clock.new) times → IsTimeIn times result }
-    ensures extends { Extends (C.answers clock.old) (C.answers clock.new) }
-    ensures asks { MayAsk source.now clock.old clock.new }
+/// Each moment has a timestamp, taken to the nearest millisecond of the years 0001 to 9999.
+pub fn moments_have_times(milliseconds: i64)
+    ensures { (time : TimeParts) × BeginsAt (nearest milliseconds) time }
 {
-    match source {
-        TimeSource::Given(time) => *time,
-        TimeSource::Clock => clamped(clock.now()),
-    }
+    let _time = clamped(milliseconds);
 }
 
 /// The mask that the words give the ids of an empty journal, for which the clock is asked where they give none.

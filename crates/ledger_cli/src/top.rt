@@ -9,7 +9,7 @@ ghost use Rattle.command_words.specs.Words.{asked};
 ghost use Rattle.ledger_cli.specs.Ends.{status_of};
 
 use crate::ends::{Status, end, end_by_line, end_by_want, number_of};
-use crate::returned::Returned;
+use crate::returned::HandedBack;
 use crate::work::work;
 use command_words::{Command, WordsFault, command_in};
 use outside::{Clock, Gate, JournalStore, Sink, Source};
@@ -56,11 +56,11 @@ pub fn ledger_top<
     }) result.status }
     ensures clock { asks_clock (asked (map string_bytes words.now)) ≡ false → result.clock ≡ clock }
 {
-    let mut clock = clock;
-    let Returned {
+    let HandedBack {
         came: status,
         store,
-    } = do_asked(alloc, words, source, sink, store, &mut clock);
+        clock,
+    } = do_asked(alloc, words, source, sink, store, clock);
     Ended {
         status: number_of(status),
         store,
@@ -75,25 +75,27 @@ fn do_asked<So: Source, Si: Sink, St: JournalStore, C: Clock>(
     source: &mut So,
     sink: &mut Si,
     store: St,
-    clock: &mut C,
-) -> Returned<Status, St>
+    clock: C,
+) -> HandedBack<Status, St, C>
     ensures does { Does (result.store ≡ store) (record {
       words = words.now;
       told = outside (span (So.told source.old) (So.told source.new)) (span (St.told store) (St.told result.store))
-          (span (C.answers clock.old) (C.answers clock.new));
+          (span (C.answers clock) (C.answers result.clock));
       sink = span (Si.told sink.old) (Si.told sink.new);
     }) (top.number_of (status_of result.came)) }
-    ensures clock { asks_clock (asked (map string_bytes words.now)) ≡ false → clock.new ≡ clock.old }
+    ensures clock { asks_clock (asked (map string_bytes words.now)) ≡ false → result.clock ≡ clock }
 {
     match command_in(alloc, words) {
         Ok(command) => do_command(alloc, command, source, sink, store, clock),
-        Err(WordsFault::Refused) => Returned {
+        Err(WordsFault::Refused) => HandedBack {
             came: end_by_line(sink, "{status:1}\n", Status::BadWords),
             store,
+            clock,
         },
-        Err(WordsFault::OutOfMemory) => Returned {
+        Err(WordsFault::OutOfMemory) => HandedBack {
             came: end_by_want(sink),
             store,
+            clock,
         },
     }
 }
@@ -105,20 +107,21 @@ fn do_command<So: Source, Si: Sink, St: JournalStore, C: Clock>(
     source: &mut So,
     sink: &mut Si,
     store: St,
-    clock: &mut C,
-) -> Returned<Status, St>
+    clock: C,
+) -> HandedBack<Status, St, C>
     ensures ends { Ends (result.store ≡ store) (Some command) (outside (span (So.told source.old) (So.told source.new))
-        (span (St.told store) (St.told result.store)) (span (C.answers clock.old) (C.answers clock.new)))
+        (span (St.told store) (St.told result.store)) (span (C.answers clock) (C.answers result.clock)))
         (span (Si.told sink.old) (Si.told sink.new)) (status_of result.came) }
     ensures keeps { Keeps (result.store ≡ store) (Some command) (outside (span (So.told source.old) (So.told source.new))
-        (span (St.told store) (St.told result.store)) (span (C.answers clock.old) (C.answers clock.new))) }
+        (span (St.told store) (St.told result.store)) (span (C.answers clock) (C.answers result.clock))) }
     ensures few { TakesFew (span (So.told source.old) (So.told source.new)) }
-    ensures asks { asks_clock (Some command) ≡ false → clock.new ≡ clock.old }
+    ensures asks { asks_clock (Some command) ≡ false → result.clock ≡ clock }
 {
-    let Returned { came, store } = work(alloc, command, source, store, clock);
+    let HandedBack { came, store, clock } = work(alloc, command, source, store, clock);
     let status = end(alloc, came, source, sink, &store);
-    Returned {
+    HandedBack {
         came: status,
         store,
+        clock,
     }
 }

@@ -6,8 +6,8 @@ ghost use Rattle.command_claims.specs.Bundles.{IsAccepted};
 ghost use Rattle.ledger_cli.specs.Bundles.{Decides, IsUnproved, ReadsValues, Verifies};
 
 use crate::input::read_all;
+use crate::judging::DEEPEST;
 use crate::lines::BadInput;
-use crate::served::DEEPEST;
 use crate::stop::Stop;
 use ion_text::{ReadFault, read_stream};
 use ion_values::{Text, Values};

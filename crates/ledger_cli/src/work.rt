@@ -14,12 +14,12 @@ use crate::audit::counts_text;
 use crate::digest::digest_text;
 use crate::input::read_all;
 use crate::journal::read_blocks;
+use crate::judging::judge;
 use crate::prove::proof_text;
-use crate::returned::Returned;
+use crate::returned::{HandedBack, Returned};
 use crate::run::run_script;
-use crate::served::judge;
 use crate::stop::Stop;
-use crate::times::{mask_by, time_source};
+use crate::times::mask_by;
 use crate::verify::verify_input;
 use command_words::{Command, RunOptions};
 use ion_values::Text;
@@ -27,8 +27,11 @@ use ledger_model::Script;
 use outside::{Clock, JournalStore, Source};
 use std::alloc::Global;
 
-/// What came of a command: its output, or why there is none, and the store that it was given.
-pub type Came<S> = Returned<Result<Text, Stop>, S>;
+/// What came of a command: its output, or why there is none, and the store and the clock that it was given.
+pub type Worked<S, C> = HandedBack<Result<Text, Stop>, S, C>;
+
+/// The same of one that takes no clock.
+type Came<S> = Returned<Result<Text, Stop>, S>;
 
 /// Does what the command says, but for its output.
 pub fn work<So: Source, St: JournalStore, C: Clock>(
@@ -36,28 +39,38 @@ pub fn work<So: Source, St: JournalStore, C: Clock>(
     command: Command,
     source: &mut So,
     store: St,
-    clock: &mut C,
-) -> Came<St>
+    clock: C,
+) -> Worked<St, C>
     ensures works { Works (result.store ≡ store) (Some command) result.came (outside (span (So.told source.old) (So.told source.new))
-        (span (St.told store) (St.told result.store)) (span (C.answers clock.old) (C.answers clock.new))) }
+        (span (St.told store) (St.told result.store)) (span (C.answers clock) (C.answers result.clock))) }
     ensures keeps { Keeps (result.store ≡ store) (Some command) (outside (span (So.told source.old) (So.told source.new))
-        (span (St.told store) (St.told result.store)) (span (C.answers clock.old) (C.answers clock.new))) }
+        (span (St.told store) (St.told result.store)) (span (C.answers clock) (C.answers result.clock))) }
     ensures few { TakesFew (span (So.told source.old) (So.told source.new)) }
-    ensures asks { asks_clock (Some command) ≡ false → clock.new ≡ clock.old }
+    ensures asks { asks_clock (Some command) ≡ false → result.clock ≡ clock }
 {
     match command {
         Command::Run(options) => run(alloc, options, source, store, clock),
-        Command::Digest { tip } => digest(alloc, tip, store),
+        Command::Digest { tip } => {
+            let Returned { came, store } = digest(alloc, tip, store);
+            HandedBack { came, store, clock }
+        }
         Command::Prove {
             sequence,
             index,
             tip,
-        } => prove(alloc, sequence, index, tip, store),
-        Command::Verify => Returned {
+        } => {
+            let Returned { came, store } = prove(alloc, sequence, index, tip, store);
+            HandedBack { came, store, clock }
+        }
+        Command::Verify => HandedBack {
             came: verify_input(alloc, source),
             store,
+            clock,
         },
-        Command::Audit => audit(alloc, store),
+        Command::Audit => {
+            let Returned { came, store } = audit(alloc, store);
+            HandedBack { came, store, clock }
+        }
     }
 }
 
@@ -67,26 +80,27 @@ fn run<So: Source, St: JournalStore, C: Clock>(
     options: RunOptions,
     source: &mut So,
     store: St,
-    clock: &mut C,
-) -> Came<St>
+    clock: C,
+) -> Worked<St, C>
     ensures works { Works (result.store ≡ store) (Some (asked.Run options)) result.came
         (outside (span (So.told source.old) (So.told source.new)) (span (St.told store) (St.told result.store))
-        (span (C.answers clock.old) (C.answers clock.new))) }
+        (span (C.answers clock) (C.answers result.clock))) }
     ensures keeps { Keeps (result.store ≡ store) (Some (asked.Run options))
         (outside (span (So.told source.old) (So.told source.new)) (span (St.told store) (St.told result.store))
-        (span (C.answers clock.old) (C.answers clock.new))) }
+        (span (C.answers clock) (C.answers result.clock))) }
     ensures few { TakesFew (span (So.told source.old) (So.told source.new)) }
-    ensures asks { asks_clock (Some (asked.Run options)) ≡ false → clock.new ≡ clock.old }
+    ensures asks { asks_clock (Some (asked.Run options)) ≡ false → result.clock ≡ clock }
 {
     match read_script(alloc, source) {
         Ok(script) => {
-            let mask = mask_by(options.ids, clock);
-            let times = time_source(options.time);
-            run_script(alloc, &script, mask, &times, clock, store)
+            let mut clock = clock;
+            let mask = mask_by(options.ids, &mut clock);
+            run_script(alloc, &script, mask, options.time, clock, store)
         }
-        Err(stop) => Returned {
+        Err(stop) => HandedBack {
             came: Err(stop),
             store,
+            clock,
         },
     }
 }

@@ -29,18 +29,18 @@ returns-in-Ok-clause-unchanged g c =
     ap (λ s. (g.S.JournalStore.told s).content) c.into_parts-blocks.ensures.store ∙ c.in-Ok.ensures.store.0
 
 pub returns-in-Err-clause-read : goal.returns-in-Err-clause-read
-returns-in-Err-clause-read g c = unloaded_done _ c.unloaded.result.came (load_stop c.in-Err.fault.cause) c.unloaded.ensures.came
+returns-in-Err-clause-read g c = unloaded_done _ c.unloaded-came.result.came (load_stop c.in-Err.fault.cause) c.unloaded-came.ensures.came
 
 pub returns-in-Err-clause-undamaged : goal.returns-in-Err-clause-undamaged
-returns-in-Err-clause-undamaged g c = unloaded_done _ c.unloaded.result.came (load_stop c.in-Err.fault.cause) c.unloaded.ensures.came
+returns-in-Err-clause-undamaged g c = unloaded_done _ c.unloaded-came.result.came (load_stop c.in-Err.fault.cause) c.unloaded-came.ensures.came
 
 pub returns-in-Err-clause-stop : goal.returns-in-Err-clause-stop
 returns-in-Err-clause-stop g c =
     let told = g.S.JournalStore.told in
-    rw c.unloaded.ensures.store
-    (unloaded_stop c.unloaded.result.came c.in-Err.fault.cause (told c.args.store) (told c.in-Err.fault.store) c.unloaded.ensures.came
+    rw c.unloaded-came.ensures.store
+    (unloaded_stop c.unloaded-came.result.came c.in-Err.fault.cause (told c.args.store) (told c.in-Err.fault.store) c.unloaded-came.ensures.came
     c.in-Err.ensures.returned.0 c.in-Err.ensures.cause)
 
 pub returns-in-Err-clause-unchanged : goal.returns-in-Err-clause-unchanged
 returns-in-Err-clause-unchanged g c =
-    ap (λ s. (g.S.JournalStore.told s).content) c.unloaded.ensures.store ∙ c.in-Err.ensures.returned.0
+    ap (λ s. (g.S.JournalStore.told s).content) c.unloaded-came.ensures.store ∙ c.in-Err.ensures.returned.0

@@ -1,65 +1,66 @@
-use Rattle.std.proofs.Common.{[], refl, ap, ◌∙◌, inl}
-use Rattle.outside.specs.Told.{held}
+use Rattle.std.proofs.Common.{List, ℕ, ℤ, None, Some, refl, to_z, of_z, to_z-of_z, FitsSigned, w64, rules}
 use Rattle.ledger_claims.specs.Calls.{span}
-use Rattle.ledger_cli.specs.Runs.{come}
-use Rattle.ledger_cli.specs.Stops.{load_stop}
-use Rattle.ledger_cli.proofs.Clocks.{extends_same, asks_nothing}
-use Rattle.ledger_cli.proofs.Ending.{same_held}
-use Rattle.ledger_cli.proofs.Loaded.{HasLoaded, loaded_done, loaded_stopped, loaded_stop, unloaded_done, unloaded_left, unloaded_stop}
+use Rattle.command_claims.specs.Runs.{Terms, IsReportOf}
+use Rattle.ledger_cli.specs.Clocks.{AreCovered, ClockTold, IsSoOnTerms, clock_told}
+use Rattle.ledger_cli.proofs.Asked.{IsLeft, done_so, left_as, so_at_same, so_by_clock}
+use Rattle.ledger_cli.proofs.Clocks.{extends_same}
 use Rattle.ledger_cli.proofs.run.run_script.Goals as goal
 
-pub returns-in-Ok-clause-done : goal.returns-in-Ok-clause-done
-returns-in-Ok-clause-done g c =
-    let told = g.S.JournalStore.told in
-    let s = span (told c.args.store) (told c.run_on.result.store) in
-    let d = come told c.in-Ok.tail [] in
-    let is = c.in-Ok.ensures in
-    let has : HasLoaded c.args.mask.bits s d =
-    record { journal = is.journal; sound = is.standing; mask = is.mask; last = is.last; store = is.store; none = refl } in
-    loaded_done c.args.mask.bits c.args.script.now s d has c.args.times.now (g.C.Clock.answers c.args.clock.now) (g.C.Clock.answers c.run_on.new.clock)
-    c.run_on.result.came c.run_on.ensures.done c.run_on.ensures.kept
+pub returns-in-Some-clause-done : goal.returns-in-Some-clause-done
+returns-in-Some-clause-done g c =
+    let k = c.run_by-came in
+    let s = span (g.S.JournalStore.told c.args.store) (g.S.JournalStore.told k.result.store) in
+    let now = g.C.Clock.answers c.args.clock in
+    let ms = c.in-Some.milliseconds in
+    let fits : FitsSigned w64 ms = search rules in
+    let raw = to_z w64 (of_z w64 ms) in
+    let a : ClockTold = record { answers = None; always = Some raw } in
+    let b : ClockTold = record { answers = None; always = Some k.result.clock.milliseconds } in
+    rw c.in-Some.is
+    (done_so (λ (text : List ℕ). (terms : Terms) → AreCovered c.args.mask.bits a b terms → IsReportOf terms c.args.script.now s text)
+    (λ (text : List ℕ). IsSoOnTerms c.args.mask.bits (Some ms) now now (λ terms. IsReportOf terms c.args.script.now s text)) k.result.came
+    (λ text so. so_at_same c.args.mask.bits raw ms (to_z-of_z fits) c.moments_have_times.ensures.0 now now a b (λ terms. IsReportOf terms c.args.script.now s text)
+    c.moments_have_times.ensures.1 refl so) k.ensures.done)
 
-pub returns-in-Ok-clause-left : goal.returns-in-Ok-clause-left
-returns-in-Ok-clause-left g c =
-    let told = g.S.JournalStore.told in
-    let s = span (told c.args.store) (told c.run_on.result.store) in
-    let d = come told c.in-Ok.tail [] in
-    let is = c.in-Ok.ensures in
-    let has : HasLoaded c.args.mask.bits s d =
-    record { journal = is.journal; sound = is.standing; mask = is.mask; last = is.last; store = is.store; none = refl } in
-    loaded_stopped c.args.mask.bits c.args.script.now s d has c.args.times.now (g.C.Clock.answers c.args.clock.now) (g.C.Clock.answers c.run_on.new.clock)
-    c.run_on.result.came c.run_on.ensures.left
+pub returns-in-Some-clause-left : goal.returns-in-Some-clause-left
+returns-in-Some-clause-left g c =
+    let k = c.run_by-came in
+    let s = span (g.S.JournalStore.told c.args.store) (g.S.JournalStore.told k.result.store) in
+    let now = g.C.Clock.answers c.args.clock in
+    let ms = c.in-Some.milliseconds in
+    let fits : FitsSigned w64 ms = search rules in
+    let raw = to_z w64 (of_z w64 ms) in
+    let a : ClockTold = record { answers = None; always = Some raw } in
+    let b : ClockTold = record { answers = None; always = Some k.result.clock.milliseconds } in
+    rw c.in-Some.is
+    (left_as ((terms : Terms) → AreCovered c.args.mask.bits a b terms → IsLeft c.args.script.now s terms) (IsSoOnTerms c.args.mask.bits (Some ms) now now (λ terms. IsLeft c.args.script.now s terms)) k.result.came
+    (λ so. so_at_same c.args.mask.bits raw ms (to_z-of_z fits) c.moments_have_times.ensures.0 now now a b (λ terms. IsLeft c.args.script.now s terms) c.moments_have_times.ensures.1 refl so) k.ensures.left)
 
-pub returns-in-Ok-clause-stop : goal.returns-in-Ok-clause-stop
-returns-in-Ok-clause-stop g c =
-    let told = g.S.JournalStore.told in
-    let s = span (told c.args.store) (told c.run_on.result.store) in
-    let d = come told c.in-Ok.tail [] in
-    let is = c.in-Ok.ensures in
-    let has : HasLoaded c.args.mask.bits s d =
-    record { journal = is.journal; sound = is.standing; mask = is.mask; last = is.last; store = is.store; none = refl } in
-    loaded_stop c.args.mask.bits c.args.script.now s d has c.args.times.now (g.C.Clock.answers c.args.clock.now) (g.C.Clock.answers c.run_on.new.clock)
-    c.run_on.result.came c.run_on.ensures.stop
+pub returns-in-Some-clause-extends : goal.returns-in-Some-clause-extends
+returns-in-Some-clause-extends g c = extends_same (g.C.Clock.answers c.args.clock)
 
-pub returns-in-Err-clause-done : goal.returns-in-Err-clause-done
-returns-in-Err-clause-done g c = unloaded_done _ c.unloaded.result.came (load_stop c.in-Err.fault.cause) c.unloaded.ensures.came
+pub returns-in-None-clause-done : goal.returns-in-None-clause-done
+returns-in-None-clause-done g c =
+    let k = c.run_by in
+    let s = span (g.S.JournalStore.told c.args.store) (g.S.JournalStore.told k.result.store) in
+    let clocks = clock_told g.C.Clock.answers g.C.Clock.always in
+    let a = clocks c.args.clock in
+    let b = clocks k.result.clock in
+    rw c.in-None.is
+    (done_so (λ (text : List ℕ). (terms : Terms) → AreCovered c.args.mask.bits a b terms → IsReportOf terms c.args.script.now s text)
+    (λ (text : List ℕ). IsSoOnTerms c.args.mask.bits None a.answers b.answers (λ terms. IsReportOf terms c.args.script.now s text)) k.result.came
+    (λ text so. so_by_clock c.args.mask.bits a b (λ terms. IsReportOf terms c.args.script.now s text) k.ensures.goes.extends so) k.ensures.done)
 
-pub returns-in-Err-clause-left : goal.returns-in-Err-clause-left
-returns-in-Err-clause-left g c =
-    let told = g.S.JournalStore.told in
-    unloaded_left _ c.unloaded.result.came (load_stop c.in-Err.fault.cause) c.unloaded.ensures.came
-    (λ terms covered. inl (ap (λ x. held (told x)) c.unloaded.ensures.store
-    ∙ same_held (told c.args.store) (told c.in-Err.fault.store) c.in-Err.ensures.returned.0))
+pub returns-in-None-clause-left : goal.returns-in-None-clause-left
+returns-in-None-clause-left g c =
+    let k = c.run_by in
+    let s = span (g.S.JournalStore.told c.args.store) (g.S.JournalStore.told k.result.store) in
+    let clocks = clock_told g.C.Clock.answers g.C.Clock.always in
+    let a = clocks c.args.clock in
+    let b = clocks k.result.clock in
+    rw c.in-None.is
+    (left_as ((terms : Terms) → AreCovered c.args.mask.bits a b terms → IsLeft c.args.script.now s terms) (IsSoOnTerms c.args.mask.bits None a.answers b.answers (λ terms. IsLeft c.args.script.now s terms)) k.result.came
+    (λ so. so_by_clock c.args.mask.bits a b (λ terms. IsLeft c.args.script.now s terms) k.ensures.goes.extends so) k.ensures.left)
 
-pub returns-in-Err-clause-stop : goal.returns-in-Err-clause-stop
-returns-in-Err-clause-stop g c =
-    let told = g.S.JournalStore.told in
-    rw c.unloaded.ensures.store
-    (unloaded_stop c.unloaded.result.came c.in-Err.fault.cause (told c.args.store) (told c.in-Err.fault.store) c.unloaded.ensures.came
-    c.in-Err.ensures.returned.0 c.in-Err.ensures.cause)
-
-pub returns-in-Err-clause-extends : goal.returns-in-Err-clause-extends
-returns-in-Err-clause-extends g c = extends_same (g.C.Clock.answers c.args.clock.now)
-
-pub returns-in-Err-clause-asks : goal.returns-in-Err-clause-asks
-returns-in-Err-clause-asks g c = asks_nothing c.args.times.now c.args.clock.now
+pub returns-in-None-clause-extends : goal.returns-in-None-clause-extends
+returns-in-None-clause-extends g c = c.run_by.ensures.goes.extends

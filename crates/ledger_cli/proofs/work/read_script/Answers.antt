@@ -1,6 +1,6 @@
 use Rattle.std.proofs.Common.{◌≡◌, ℕ, List, Result, Err, sym, ap, subst, rules}
 use Rattle.ledger_model.specs.declared.script.Job.{Job}
-use Rattle.ledger_model.specs.Unbuilt.{judged}
+use Rattle.ledger_model.specs.Judging.{judged}
 use Rattle.ledger_claims.specs.Calls.{span}
 use Rattle.ledger_cli.specs.declared.stop.Stop.{Stop}
 use Rattle.ledger_cli.specs.Inputs.{ReadsScript}
@@ -21,4 +21,5 @@ returns-clause-reads g c =
     let source = span (g.So.Source.told c.args.source.now) (g.So.Source.told c.read_all.new.source) in
     let is : c.deref.result.now ≡ c.in_ok-input.input.items = search rules in
     reads_input source c.in_ok-input.input.items c.judge.result c.in_ok-input.ensures.read c.in_ok-input.ensures.fine
-    (subst (λ (bytes : List ℕ). JudgesTo c.judge.result (judged bytes)) is c.judge.ensures.judged) c.judge.ensures.runnable
+    (subst (λ (bytes : List ℕ). JudgesTo c.judge.result (judged bytes)) is c.judge.ensures.judged)
+    c.judge.ensures.runnable

@@ -2,7 +2,7 @@ use Rattle.std.proofs.Common.{◌≡◌, ◌≤◌, List, length, true, sym, sub
 use Rattle.ion_values.specs.declared.value.Value.{Value}
 use Rattle.ion_grammar.specs.Short.{all_short}
 use Rattle.script_form.proofs.Countable.{countable}
-use Rattle.ledger_cli.proofs.served.judge.Goals as goal
+use Rattle.ledger_cli.proofs.judging.judge.Goals as goal
 
 pub judge_values-requires : goal.judge_values-requires
 judge_values-requires c =

@@ -1,0 +1,57 @@
+//! The script that an input spells.
+ghost use Rattle.std.specs.Prelude.{IfOk};
+ghost use Rattle.std.specs.List.{All};
+ghost use Rattle.ledger_model.specs.Judging.{judged_script, judged};
+ghost use Rattle.ledger_model.specs.ReadScript.{read_script};
+ghost use Rattle.script_form.specs.Answers.{IsCountable};
+ghost use Rattle.ledger_cli.specs.Judgements.{AreRunnable, JudgesTo};
+
+use crate::input::LONGEST;
+use crate::lines::BadInput;
+use crate::stop::Stop;
+use ion_text::{ReadFault, read_stream};
+use ion_values::Value;
+use ledger_model::{Script, ScriptFault};
+use script_form::{ScriptAnswer, read_script};
+use std::alloc::Global;
+
+/// The deepest nesting of an input.
+pub const DEEPEST: u32 = 80;
+
+/// The script that the values of an input spell.
+fn judge_values(alloc: Global, values: &[Value]) -> Result<Script, Stop>
+    requires { All IsCountable values.now }
+    ensures judged { JudgesTo result (judged_script (read_script values.now)) }
+    ensures runnable { IfOk result AreRunnable }
+{
+    match read_script(alloc, values) {
+        Ok(script) => Ok(script),
+        Err(
+            ScriptAnswer::Fault {
+                session,
+                transaction,
+                kind,
+            },
+        ) => Err(Stop::BadInput(BadInput::Misspelt(ScriptFault {
+            session,
+            transaction,
+            kind,
+        }))),
+        Err(ScriptAnswer::OutOfMemory) => Err(Stop::OutOfMemory),
+    }
+}
+
+/// The script that an input spells, where it isn't too long.
+pub fn judge(alloc: Global, input: &[u8]) -> Result<Script, Stop>
+    ensures judged { JudgesTo result (judged input.now) }
+    ensures runnable { IfOk result AreRunnable }
+{
+    if input.len() > LONGEST {
+        return Err(Stop::BadInput(BadInput::TooLong));
+    }
+    match read_stream(alloc, input, DEEPEST) {
+        Ok(values) => judge_values(alloc, values.as_slice()),
+        Err(ReadFault::Ion(fault)) => Err(Stop::BadInput(BadInput::Faulty(fault))),
+        Err(ReadFault::OutOfMemory) => Err(Stop::OutOfMemory),
+    }
+}
