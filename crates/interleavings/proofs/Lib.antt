@@ -1,0 +1,6 @@
+pub mod Answered
+pub mod Fresh
+pub mod Lists
+pub mod Places
+pub mod Running
+pub mod Telling
