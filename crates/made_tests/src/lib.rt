@@ -1,0 +1,7 @@
+//! Tests of made workloads: their amounts, and what histories add up to.
+#![tactic(auto)]
+
+#[cfg(test)]
+mod amounts;
+#[cfg(test)]
+mod histories;

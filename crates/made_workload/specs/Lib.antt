@@ -1,0 +1,3 @@
+pub mod Made
+pub mod Sums
+pub mod Laws
