@@ -1,9 +1,10 @@
 //! Postings: which positions have a key.
 #![tactic(auto)]
 
-mod copies;
+mod filed;
 mod positions;
 mod postings;
 
+pub use filed::Filed;
 pub use positions::Positions;
 pub use postings::Postings;

@@ -2,4 +2,5 @@ pub mod Counts
 pub mod Cuts
 pub mod InRows
 pub mod Kept
+pub mod Lookups
 pub mod Spans

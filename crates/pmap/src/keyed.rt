@@ -4,8 +4,9 @@ ghost use Rattle.std.specs.declared.cmp.Ordering.TheVariants.{Equal};
 ghost use Rattle.std.specs.Ordering.{nat_cmp};
 ghost use Rattle.std.specs.Cmp.{IsTotalOrder, nat_cmp_total};
 ghost use Rattle.std.specs.Cmp.Lexicographic.{slice_cmp, nat_list_cmp_total};
-ghost use Rattle.pmap.specs.Keys.{kind_of, number_of, exponent_of, bytes_of, key_order};
-ghost use Rattle.pmap.specs.KeyOrder.{same_number, same_document, documents_total, same_table, tables_total, same_bytes, same_key, keys_total};
+ghost use Rattle.ion_values.specs.Keys.{compare_keys};
+ghost use Rattle.ion_values.specs.KeyOrder.{keys_total};
+ghost use Rattle.pmap.specs.KeyOrder.{same_number, same_document, documents_total, same_table, tables_total, same_bytes, same_key};
 
 use ion_values::{Key, Text};
 use ql_types::{DocId, Steps, TableId};
@@ -84,7 +85,7 @@ impl Keyed for Text {
 }
 
 impl Keyed for Key {
-    ghost order = { key_order };
+    ghost order = { compare_keys };
 
     ghost total = { keys_total };
 
@@ -92,57 +93,6 @@ impl Keyed for Key {
 
     fn against(&self, other: &Key, steps: &mut Steps) -> Ordering {
         tick(steps);
-        kind(self)
-            .cmp(&kind(other))
-            .then(number(self).cmp(&number(other)))
-            .then(exponent(self).cmp(&exponent(other)))
-            .then(bytes(self).cmp(bytes(other)))
-    }
-}
-
-/// The place of the key's kind among all kinds.
-fn kind(key: &Key) -> u8
-    ensures { result ≡ kind_of key.now }
-{
-    match key {
-        Key::Bool(_) => 0,
-        Key::Number { .. } => 1,
-        Key::Text(_) => 2,
-        Key::Moment(_) => 3,
-        Key::Clob(_) => 4,
-        Key::Blob(_) => 5,
-    }
-}
-
-/// The number of a key that has one.
-fn number(key: &Key) -> i128
-    ensures { result ≡ number_of key.now }
-{
-    match key {
-        Key::Bool(true) => 1,
-        Key::Number { coefficient, .. } => *coefficient,
-        Key::Moment(moment) => *moment,
-        _ => 0,
-    }
-}
-
-/// The exponent of a key that has one.
-fn exponent(key: &Key) -> i32
-    ensures { result ≡ exponent_of key.now }
-{
-    match key {
-        Key::Number { exponent, .. } => *exponent,
-        _ => 0,
-    }
-}
-
-/// The bytes of a key that has some.
-fn bytes(key: &Key) -> &[u8]
-    ensures { result.now ≡ bytes_of key.now }
-{
-    match key {
-        Key::Text(text) => text.as_str().as_bytes(),
-        Key::Clob(bytes) | Key::Blob(bytes) => bytes.as_slice(),
-        _ => &[],
+        self.cmp(other)
     }
 }
