@@ -4,4 +4,6 @@
 #[cfg(test)]
 mod amounts;
 #[cfg(test)]
+mod first;
+#[cfg(test)]
 mod histories;
