@@ -1,11 +1,12 @@
 //! Roots and heights of padded trees.
-ghost use Rattle.std.specs.Prelude.{◌≡◌, [], ◌∷◌};
+ghost use Rattle.std.specs.Prelude.{◌≡◌, [], ◌∷◌, length, IfSome};
 ghost use Rattle.hash_forms.specs.Tree.{pad_hash, root_of};
 
-use pad_tree::{height, root, root_level_by_level};
+use pad_tree::{Grow, fold_path, height, path, root, root_level_by_level};
 use pair_hash::dot_full;
-use ql_types::{Hash, Hash32};
+use ql_types::{Hash, Hash32, Steps};
 use sha2::{Digest, Sha256};
+use std::alloc::Global;
 use std::test::Fail;
 
 /// The hash of the symbol `pad`.
@@ -35,6 +36,56 @@ fn roots(rt: HostRuntime) -> Result<(), Fail> {
     let four = dot_full(&dot_full(&x, &y), &dot_full(&z, &x));
     let two = dot_full(&dot_full(&y, &pad()), &dot_full(&pad(), &pad()));
     assert!(rt; root(rt.alloc(), &[x, y, z, x, y])? == Hash::Full(dot_full(&four, &two)));
+    Ok(())
+}
+
+/// The path of the third of three leaves: the pad, and the node of the first two.
+fn path_by_hand(x: &Hash32, y: &Hash32) -> [Hash32; 2] {
+    [pad(), dot_full(x, y)]
+}
+
+#[test]
+fn paths(rt: HostRuntime) -> Result<(), Fail> {
+    let [x, y, z] = [1, 2, 3].map(|byte| Hash32 { bytes: [byte; 32] });
+    let siblings = path(rt.alloc(), &[x, y, z], 2)?;
+    let [first, second] = path_by_hand(&x, &y);
+    assert!(rt; siblings.as_slice() == [first, second].as_slice());
+    assert!(rt; fold_path(z, 3, 3, siblings.as_slice()).is_none());
+    Ok(())
+}
+
+/// Whether the tree over no leaves and over one has that root.
+fn begins_right(alloc: Global, x: Hash32) -> Option<bool> {
+    let mut grow = Grow::new(alloc).ok()?;
+    let empty = grow.root() == Hash::Empty;
+    grow.append(x).ok()?;
+    Some(empty && grow.root() == Hash::Full(x))
+}
+
+/// The tree over three leaves, and how many pairs were hashed for the third one.
+fn grown_by_three(alloc: Global, leaves: [Hash32; 3]) -> Option<(Grow, u64)>
+    ensures { IfSome result (λ made. length made.0.leaves ≡ 3) }
+{
+    let [x, y, z] = leaves;
+    let mut grow = Grow::new(alloc).ok()?;
+    grow.append(x).ok()?;
+    grow.append(y).ok()?;
+    grow.ready().ok()?;
+    let mut steps = Steps { taken: 0 };
+    grow.put(z, &mut steps);
+    Some((grow, steps.taken))
+}
+
+#[test]
+fn a_tree_grows(rt: HostRuntime) -> Result<(), Fail> {
+    let [x, y, z] = [1, 2, 3].map(|byte| Hash32 { bytes: [byte; 32] });
+    assert_eq!(rt; begins_right(rt.alloc(), x), Some(true));
+    let (grow, pairs) = grown_by_three(rt.alloc(), [x, y, z]).ok_or("no tree")?;
+    assert!(rt; pairs == 2);
+    assert!(rt; grow.root() == root_by_hand(&x, &y, &z));
+    let siblings = grow.path(rt.alloc(), 2)?;
+    let [first, second] = path_by_hand(&x, &y);
+    assert!(rt; siblings.as_slice() == [first, second].as_slice());
     Ok(())
 }
 

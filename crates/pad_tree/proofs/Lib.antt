@@ -4,4 +4,6 @@ pub mod Paired
 pub mod Pairs
 pub mod PathLevels
 pub mod Folding
+pub mod Growth
+pub mod Towers
 mod Rows

@@ -5,8 +5,11 @@ ghost use Rattle.std.specs.Prelude.{◌≡◌, ℕ, ◌<◌, ◌≤◌, ◌^◌,
 ghost use Rattle.hash_forms.specs.Tree.{pad_hash, height_of, root_of, RootLevelByLevel};
 ghost use Rattle.pad_tree.specs.Level.{IsNextLevel};
 
+mod grow;
+mod levels;
 mod paths;
 
+pub use grow::Grow;
 use lists::OutOfMemory;
 use pair_hash::dot_full;
 pub use paths::{Hashes, fold_hashes, fold_path, path, path_leads_to_root};

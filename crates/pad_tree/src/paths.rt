@@ -13,7 +13,7 @@ use std::alloc::Global;
 pub type Hashes = Sequence<Hash32>;
 
 /// The other place under the same node.
-fn sibling(place: usize) -> usize
+pub(crate) fn sibling(place: usize) -> usize
     requires { place + 1 < 2 ^ 64 }
     ensures { result ≡ sibling_of place }
 {

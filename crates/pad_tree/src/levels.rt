@@ -1,0 +1,108 @@
+//! One level of a padded hash tree that grows.
+ghost use Rattle.std.specs.Prelude.{◌≡◌, ◌+◌, ◌-◌, ◌*◌, ◌<◌, ◌≤◌, ◌^◌, min, [], ◌∷◌, ◌++◌, length, take, slice_index_or, OnOk};
+ghost use Rattle.hash_forms.specs.PairHash.{dot32};
+
+use lists::OutOfMemory;
+use pair_hash::dot_full;
+use ql_types::{Hash32, Steps};
+use std::alloc::Global;
+use std::marker::Model;
+
+/// The nodes of one level that have leaves below them, in order, and the hash at each other place. Contracts see them as
+/// `nodes` and `pad`, and beside them `spare`, the number of nodes for which there is room already.
+#[derive(Drop)]
+pub(crate) struct Level {
+    nodes: Vec<Hash32>,
+    pad: Hash32,
+    spare: usize,
+}
+
+impl Model for Level {
+    ghost use Rattle.std.specs.Prelude.{◌+◌, ◌≤◌};
+    ghost use Rattle.std.specs.Vec.{vec_len, vec_capacity};
+    ghost use Rattle.pad_tree.specs.Growing.{KeptLevel};
+
+    ghost Value = { KeptLevel };
+
+    ghost view = { λ l. record { nodes = l.nodes.items; pad = l.pad; spare = l.spare } };
+
+    ghost invariant = { λ l. vec_len l.nodes + l.spare ≤ vec_capacity l.nodes };
+}
+
+/// Counts one step.
+fn tick(steps: &mut Steps)
+    ensures { steps.new.taken ≡ min (steps.old.taken + 1) (2 ^ 64 - 1) }
+{
+    steps.taken = steps.taken.saturating_add(1);
+}
+
+/// The hash of two hashes, counted as one step.
+fn counted_dot(a: &Hash32, b: &Hash32, steps: &mut Steps) -> Hash32
+    ensures hash { result ≡ dot32 a.now b.now }
+    ensures counted { steps.new.taken ≡ min (steps.old.taken + 1) (2 ^ 64 - 1) }
+{
+    tick(steps);
+    dot_full(a, b)
+}
+
+impl Level {
+    /// A level without nodes. It takes no memory.
+    pub(crate) fn new(alloc: Global, pad: Hash32) -> Level
+        ensures nodes { result.nodes ≡ [] }
+        ensures pad { result.pad ≡ pad }
+    {
+        Level {
+            nodes: Vec::new(alloc),
+            pad,
+            spare: 0,
+        }
+    }
+
+    /// How many nodes there are.
+    pub(crate) fn len(&self) -> usize
+        ensures { result ≡ length self.now.nodes }
+    {
+        self.nodes.len()
+    }
+
+    /// The hash at a place counted from 0: a node, or the pad past the last one.
+    pub(crate) fn at(&self, place: usize) -> Hash32
+        ensures { result ≡ slice_index_or self.now.nodes place self.now.pad }
+    {
+        self.nodes.get(place).copied().unwrap_or(self.pad)
+    }
+
+    /// The node of the level above at this place, counted as one step.
+    pub(crate) fn over(&self, place: usize, steps: &mut Steps) -> Hash32
+        requires { 2 * place + 1 < 2 ^ 64 }
+        ensures node { result ≡ dot32 (slice_index_or self.now.nodes (2 * place) self.now.pad)
+            (slice_index_or self.now.nodes (2 * place + 1) self.now.pad) }
+        ensures counted { steps.new.taken ≡ min (steps.old.taken + 1) (2 ^ 64 - 1) }
+    {
+        counted_dot(&self.at(2 * place), &self.at(2 * place + 1), steps)
+    }
+
+    /// Puts a node behind the first so many, in the place of any others. It takes no memory.
+    pub(crate) fn set_last(&mut self, kept: usize, node: Hash32)
+        requires { 1 ≤ self.old.spare }
+        ensures nodes { self.new.nodes ≡ take kept self.old.nodes ++ node ∷ [] }
+        ensures pad { self.new.pad ≡ self.old.pad }
+    {
+        self.nodes.truncate(kept);
+        self.nodes.push(node).unwrap();
+        self.spare -= 1;
+    }
+
+    /// Makes room for one node more, where there is none.
+    pub(crate) fn make_room(&mut self) -> Result<(), OutOfMemory>
+        ensures nodes { self.new.nodes ≡ self.old.nodes }
+        ensures pad { self.new.pad ≡ self.old.pad }
+        ensures room { OnOk result (1 ≤ self.new.spare) }
+    {
+        if self.spare == 0 {
+            self.nodes.reserve(1)?;
+            self.spare = 1;
+        }
+        Ok(())
+    }
+}
