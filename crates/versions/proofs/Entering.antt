@@ -1,14 +1,16 @@
 -- The history of each document.
-use Rattle.std.proofs.Common.{◌≡◌, ℕ, zero, suc, ◌+◌, ◌<◌, ◌==◌, Bool, true, false, List, [], ◌∷◌, ◌++◌, length, map, set, Option, Some, None, refl, sym, ◌∙◌, ap, arith, eq-eqb, inl, inr}
+use Rattle.std.proofs.Common.{◌≡◌, ℕ, zero, suc, ◌+◌, ◌^◌, ◌<◌, ◌==◌, Bool, true, false, List, [], ◌∷◌, ◌++◌, length, map, set, Option, Some, None, refl, sym, ◌∙◌, ap, arith, eq-eqb, inl, inr}
 use Rattle.std.specs.Prelude.{option_map, slice_get, if◌then◌else◌}
 use Rattle.std.specs.List.{filter}
 use Rattle.std.proofs.lemmas.Bool.{eqb-true}
 use Rattle.std.proofs.lemmas.Bool.Decides.{eqb_tells}
 use Rattle.std.proofs.lemmas.List.{append-nil, append_assoc, length-map}
+use Rattle.ql_types.specs.declared.TableId.{TableId}
 use Rattle.ledger_model.specs.State as state
 use Rattle.versions.specs.declared.recorded.Recorded.{Recorded}
 use Rattle.versions.specs.Held.{recorded_of}
 use Rattle.versions.specs.Histories.{IsShelf, enter, histories, histories_from, history_in, owner, owners, revisions_of}
+use Rattle.versions.specs.Live.{AllFit, IsWhole}
 use Rattle.versions.specs.Newest.{id_of, newest, newest_from, put}
 use Rattle.versions.specs.Places.{ids_of, place_in}
 use Rattle.versions.proofs.Newest.{newest-last}
@@ -205,3 +207,11 @@ shelf_more rs latest more now hs new r one other third shelf one_is other_is thi
       new_is ∙ ap (λ (x : Recorded). enter hs x) (third_is ∙ sym one_is) ∙ ap (λ (xs : List (List Recorded)). enter xs one) shelf.kept_is
       ∙ sym (histories-more [] rs (one ∷ [])) ∙ ap histories (sym more_is);
 }
+
+pub beside : (rs latest : List Recorded) (hs : List (List Recorded)) (ts : List (TableId × List Recorded)) (live : List (TableId × List ℕ))
+    → IsWhole rs latest hs ts live → IsShelf rs latest hs
+beside rs latest hs ts live whole = record { newest_is = whole.newest_is; kept_is = whole.kept_is }
+
+pub fits_more : (rs : List Recorded) (r : Recorded) → AllFit (map recorded_of rs) → id_of r < 2 ^ 128 → AllFit (map recorded_of (rs ++ r ∷ []))
+fits_more [] r all fits = (fits, tt)
+fits_more (x ∷ xs) r all fits = (all.0, fits_more xs r all.1 fits)

@@ -1,38 +1,36 @@
 -- The latest revisions are the last ones of their documents, and a revision is lent as it is kept.
 use Rattle.std.proofs.Common.{◌≡◌, ℕ, ◌==◌, Bool, true, false, List, [], ◌∷◌, map, Option, Some, None, Bor, refl, sym, ◌∙◌, ap, ap₂, eq-eqb}
 use Rattle.std.specs.Prelude.{option_map, slice_get, if◌then◌else◌}
+use Rattle.std.specs.List.{filter}
 use Rattle.std.proofs.lemmas.Bool.{eqb-true}
 use Rattle.std.proofs.lemmas.Option.{slice_get-map}
+use Rattle.ql_types.specs.declared.DocId.{DocId}
 use Rattle.ledger_model.specs.State as state
 use Rattle.ledger_model.specs.State.{draft_of}
 use Rattle.ledger_model.specs.declared.block.Draft.{Draft}
 use Rattle.ledger_model.specs.Follows.{latest_of}
-use Rattle.ledger_model.specs.Views.{latest}
 use Rattle.versions.specs.declared.recorded.Recorded.{Recorded}
 use Rattle.versions.specs.Held.{recorded_lent, recorded_of}
-use Rattle.versions.specs.Lookups.{document_in, last_of_each}
+use Rattle.versions.specs.Lookups.{AreApart, document_in, is_one_of, last_among, last_of_each, those_among}
 use Rattle.versions.specs.Newest.{id_of, newest, newest_from, put}
+use Rattle.versions.proofs.Among.{drafts_among}
 use Rattle.versions.proofs.Lookups.{document_last, other-id, put-document}
 use Rattle.versions.proofs.Newest.{lent_values, newest-latest}
 
 -- ---- no two of them are of one document
 
-abbrev Apart : List Recorded → Type 0
-Apart [] = Unit {0}
-Apart (d ∷ ds) = (document_in ds (id_of d) ≡ None) × Apart ds
-
-apart-step : (b : Bool) (d r : Recorded) (ds : List Recorded) → (id_of d == id_of r) ≡ b → Apart (d ∷ ds) → Apart (put ds r)
-    → Apart (if b then r ∷ ds else d ∷ put ds r)
+apart-step : (b : Bool) (d r : Recorded) (ds : List Recorded) → (id_of d == id_of r) ≡ b → AreApart (d ∷ ds) → AreApart (put ds r)
+    → AreApart (if b then r ∷ ds else d ∷ put ds r)
 apart-step true d r ds same apart more = (ap (document_in ds) (sym (eqb-true (id_of d) (id_of r) same)) ∙ apart.0, apart.1)
 apart-step false d r ds same apart more =
     let other : (id_of r == id_of d) ≡ false = other-id (id_of d) (id_of r) (id_of d) same refl in
     (put-document ds r (id_of d) ∙ ap (λ (b : Bool). if b then Some r else document_in ds (id_of d)) other ∙ apart.0, more)
 
-apart-put : (ds : List Recorded) (r : Recorded) → Apart ds → Apart (put ds r)
+apart-put : (ds : List Recorded) (r : Recorded) → AreApart ds → AreApart (put ds r)
 apart-put [] r apart = (refl, tt)
 apart-put (d ∷ ds) r apart = apart-step (id_of d == id_of r) d r ds refl apart (apart-put ds r apart.1)
 
-apart-newest : (ds rs : List Recorded) → Apart ds → Apart (newest_from ds rs)
+pub apart-newest : (ds rs : List Recorded) → AreApart ds → AreApart (newest_from ds rs)
 apart-newest ds [] apart = apart
 apart-newest ds (r ∷ rs) apart = apart-newest (put ds r) rs (apart-put ds r apart)
 
@@ -53,7 +51,7 @@ found-more : (d : Recorded) (ds es : List Recorded) → document_in ds (id_of d)
 found-more d ds [] none found = tt
 found-more d ds (e ∷ es) none found = (found-step (id_of d == id_of e) d e ds refl none found.0, found-more d ds es none found.1)
 
-found-all : (ds : List Recorded) → Apart ds → Found ds ds
+found-all : (ds : List Recorded) → AreApart ds → Found ds ds
 found-all [] apart = tt
 found-all (d ∷ ds) apart =
     (ap (λ (b : Bool). if b then Some d else document_in ds (id_of d)) (eq-eqb (id_of d) (id_of d) refl), found-more d ds ds apart.0 (found-all ds apart.1))
@@ -77,6 +75,25 @@ lent_last all rs is =
     ap (map (λ (r : state.Recorded). Some r)) (lent-recorded all ∙ ap (map recorded_of) is)
     ∙ each-last rs (newest rs) (found-all (newest rs) (apart-newest [] rs tt))
     ∙ ap (map (λ (d : Draft). latest_of (map recorded_of rs) d.id.raw)) (newest-latest rs)
+
+-- ---- the same of some of them
+
+found-step-among : (b : Bool) (all : List Recorded) (d : Recorded) (ds : List Recorded) → document_in all (id_of d) ≡ Some d → Found all ds
+    → Found all (if b then d ∷ ds else ds)
+found-step-among true all d ds here found = (here, found)
+found-step-among false all d ds here found = found
+
+found-among : (ids : List DocId) (all ds : List Recorded) → Found all ds → Found all (filter (is_one_of ids) ds)
+found-among ids all [] found = tt
+found-among ids all (d ∷ ds) found = found-step-among (is_one_of ids d) all d (filter (is_one_of ids) ds) found.0 (found-among ids all ds found.1)
+
+pub lent_last_among : (all : List (Bor Recorded)) (ids : List DocId) (rs : List Recorded) → lent_values all ≡ filter (is_one_of ids) (newest rs)
+    → map (λ (r : state.Recorded). Some r) (recorded_lent all) ≡ last_among ids (map recorded_of rs)
+lent_last_among all ids rs is =
+    let those : List Recorded = filter (is_one_of ids) (newest rs) in
+    ap (map (λ (r : state.Recorded). Some r)) (lent-recorded all ∙ ap (map recorded_of) is)
+    ∙ each-last rs those (found-among ids (newest rs) (newest rs) (found-all (newest rs) (apart-newest [] rs tt)))
+    ∙ ap (map (λ (d : Draft). latest_of (map recorded_of rs) d.id.raw)) (drafts_among ids (newest rs) ∙ ap (those_among ids) (newest-latest rs))
 
 -- ---- a revision at its place
 

@@ -1,6 +1,12 @@
-pub mod LastOnes
+pub mod Among
 pub mod Entering
+pub mod Filing
+pub mod LastOnes
 pub mod Lookups
 pub mod Mapped
+pub mod Members
 pub mod Newest
 pub mod Places
+pub mod Spots
+pub mod TablesHeld
+pub mod Trees

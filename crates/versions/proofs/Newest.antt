@@ -67,7 +67,7 @@ shelf_end ms all ts rs at past is =
 abbrev pub lent_values : List (Bor Recorded) → List Recorded
 lent_values all = map (λ r. r.now) all
 
-take-next : (ds : List Recorded) (at : ℕ) (r : Recorded) → slice_get ds at ≡ Some r → take (at + 1) ds ≡ take at ds ++ r ∷ []
+pub take-next : (ds : List Recorded) (at : ℕ) (r : Recorded) → slice_get ds at ≡ Some r → take (at + 1) ds ≡ take at ds ++ r ∷ []
 take-next [] at r e = cc
 take-next (d ∷ ds) zero r e = let s : d ≡ r = cc in ap (λ (x : Recorded). x ∷ []) s
 take-next (d ∷ ds) (suc at) r e = let s : suc at + 1 ≡ suc (at + 1) = omega arith in rw s (ap (λ (xs : List Recorded). d ∷ xs) (take-next ds at r e))
@@ -80,6 +80,9 @@ lent_next all new d ds at there new_is so_far =
 lent-drafts : (all : List (Bor Recorded)) → drafts_lent all ≡ map draft (lent_values all)
 lent-drafts [] = refl
 lent-drafts (r ∷ rs) = ap (λ (xs : List Draft). draft r.now ∷ xs) (lent-drafts rs)
+
+pub lent_drafts : (all : List (Bor Recorded)) → drafts_lent all ≡ map draft_of (map recorded_of (lent_values all))
+lent_drafts all = lent-drafts all ∙ map-map (lent_values all)
 
 -- the latest ones, without what their blocks gave them
 pub lent_newest : (all : List (Bor Recorded)) (rs : List Recorded) → lent_values all ≡ newest rs → drafts_lent all ≡ latest (map draft_of (map recorded_of rs))

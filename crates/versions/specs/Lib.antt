@@ -1,5 +1,9 @@
+pub mod ByTable
+pub mod Filing
 pub mod Held
 pub mod Histories
+pub mod Indexes
+pub mod Live
 pub mod Lookups
 pub mod Newest
 pub mod Places

@@ -1,8 +1,11 @@
 -- The place of an id among others: that of the first one that is the same, counted from 0.
-use Rattle.std.specs.Prelude.{◌≡◌, ℕ, ◌+◌, ◌==◌, ◌≤◌, List, [], ◌∷◌, Option, Some, None, option_map, map, take, length, if◌then◌else◌}
+use Rattle.std.specs.Prelude.{◌≡◌, ℕ, ◌+◌, ◌==◌, List, [], ◌∷◌, Option, Some, None, option_map, map, if◌then◌else◌}
+use Rattle.std.specs.declared.cmp.Ordering.{Ordering}
 use Rattle.std.specs.Ordering.{nat_cmp}
-use Rattle.std.specs.BTreeMap as tree
-use Rattle.std.specs.BTreeMap.{BTreeMap}
+use Rattle.std.specs.Map.{lookup}
+use Rattle.std.specs.BTreeMap.{insert_entry, is_at}
+use Rattle.ql_types.specs.declared.DocId.{DocId}
+use Rattle.index_post.specs.Positions.{with_position}
 use Rattle.versions.specs.declared.recorded.Recorded.{Recorded}
 use Rattle.versions.specs.Newest.{id_of}
 
@@ -13,16 +16,20 @@ place_in (x ∷ xs) id = if x == id then Some 0 else option_map (λ at. at + 1) 
 abbrev pub ids_of : List Recorded → List ℕ
 ids_of documents = map id_of documents
 
+-- the order of documents' ids
+abbrev pub by_id : DocId → DocId → Ordering
+by_id a b = nat_cmp a.raw b.raw
+
 -- the map has the place of each of these ids, and no other
-abbrev pub ArePlaces : BTreeMap ℕ ℕ → List ℕ → Type 0
-ArePlaces places ids = (id : ℕ) → tree.get nat_cmp places id ≡ place_in ids id
+abbrev pub ArePlaces : List (DocId × ℕ) → List ℕ → Type 0
+ArePlaces places ids = (id : DocId) → lookup (is_at (by_id id)) places ≡ place_in ids id.raw
 
--- what the map says, where there is one
-abbrev pub told_by : Option (BTreeMap ℕ ℕ) → ℕ → Option ℕ
-told_by None id = None
-told_by (Some places) id = tree.get nat_cmp places id
+-- the places with this one, if there is one
+abbrev pub with_place : Option ℕ → List ℕ → List ℕ
+with_place None places = places
+with_place (Some at) places = with_position at places
 
--- the map has the places of so many of the documents, those in front
-pub record AreKnown (places : Option (BTreeMap ℕ ℕ)) (known : ℕ) (documents : List Recorded) : Type 0 where
-  pub within : known ≤ length documents
-  pub placed : (id : ℕ) → told_by places id ≡ place_in (take known (ids_of documents)) id
+-- the same of a map that leads each place to itself
+abbrev pub put_place : Option ℕ → List (ℕ × ℕ) → List (ℕ × ℕ)
+put_place None places = places
+put_place (Some at) places = insert_entry nat_cmp places at at

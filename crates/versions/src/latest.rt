@@ -1,34 +1,43 @@
 //! The latest revision of each document.
-ghost use Rattle.std.specs.Prelude.{◌≡◌, [], ◌∷◌, ◌++◌, ◌+◌, ◌==◌, ◌≤◌, ℕ, List, false, drop, length, map, slice_set, slice_get, Some, None, IfOk, OnOk, option_map};
-ghost use Rattle.std.specs.Option.{option_copied, option_map_or};
-ghost use Rattle.std.specs.Arc.{arc_value};
-ghost use Rattle.std.specs.BTreeMap as tree;
+ghost use Rattle.std.specs.Prelude.{◌≡◌, [], ◌∷◌, ◌++◌, length, map, slice_set, slice_get, Some, None, IfOk, OnOk};
+ghost use Rattle.std.specs.BTreeMap.{insert_entry};
+ghost use Rattle.std.specs.List.{cons_option, filter, filter_map};
+ghost use Rattle.std.specs.Map.{keys_of};
+ghost use Rattle.std.specs.Option.{option_copied};
 ghost use Rattle.std.specs.Ordering.{nat_cmp};
-ghost use Rattle.versions.specs.declared.recorded.Recorded as held;
-ghost use Rattle.versions.specs.Lookups.{document_in};
+ghost use Rattle.std.specs.Arc.{arc_value};
+ghost use Rattle.versions.specs.Filing.{IsSpot, places_from};
+ghost use Rattle.versions.specs.Lookups.{AreApart, document_in, is_one_of};
 ghost use Rattle.versions.specs.Newest.{id_of, put};
-ghost use Rattle.versions.specs.Places.{AreKnown, ArePlaces, ids_of, place_in, told_by};
+ghost use Rattle.versions.specs.Places.{ids_of, place_in, put_place};
 
 use crate::recorded::Recorded;
+use index_post::Positions;
 use ion_values::OutOfMemory;
 use lists::Sequence;
-use pvec::{PVec, Shared};
-use ql_types::DocId;
+use pmap::PMap;
+use pvec::PVec;
+use ql_types::{DocId, Steps};
 use std::alloc::Global;
-use std::collections::BTreeMap;
 use std::marker::Model;
 use std::sync::Arc;
 
-/// The latest revision of each document, in order of first insertion. The places of the documents in front stand in a map,
-/// which is shared by versions; those behind are looked through, and are few: when their number is above the square root of
-/// all, the map is made anew. So a look-up in n documents takes some steps times the square root of n, and so does a
-/// document more, over many of them.
+/// Where a document stands among the latest revisions or will stand, and what stands there now.
+#[derive(Drop)]
+pub(crate) struct Spot<'a> {
+    pub(crate) at: u64,
+    pub(crate) old: Option<&'a Recorded>,
+}
+
+/// Places of documents, each of which leads to itself.
+type Places = PMap<u64, u64>;
+
+/// The latest revision of each document, in order of first insertion, and the place of each document among them.
 #[derive(Drop)]
 pub(crate) struct Latest {
     alloc: Global,
     documents: PVec<Recorded>,
-    places: Option<Shared<BTreeMap<u128, u64>>>,
-    known: u64,
+    places: PMap<DocId, u64>,
 }
 
 impl Model for Latest {
@@ -36,7 +45,7 @@ impl Model for Latest {
     ghost use Rattle.std.specs.Coded.{coded_list};
     ghost use Rattle.versions.specs.contracts.recorded.Recorded as recorded;
     ghost use Rattle.versions.specs.declared.recorded.Recorded.{Recorded};
-    ghost use Rattle.versions.specs.Places.{AreKnown};
+    ghost use Rattle.versions.specs.Places.{ArePlaces, ids_of};
 
     ghost Value = { List Recorded };
 
@@ -44,7 +53,7 @@ impl Model for Latest {
 
     ghost view = { λ l. l.documents };
 
-    ghost invariant = { λ l. AreKnown l.places l.known l.documents };
+    ghost invariant = { λ l. ArePlaces l.places (ids_of l.documents) };
 }
 
 impl Latest {
@@ -55,8 +64,7 @@ impl Latest {
         Latest {
             alloc,
             documents: PVec::new(alloc),
-            places: None,
-            known: 0,
+            places: PMap::new(alloc),
         }
     }
 
@@ -67,8 +75,7 @@ impl Latest {
         Ok(Latest {
             alloc: self.alloc,
             documents: self.documents.share()?,
-            places: shared(&self.places)?,
-            known: self.known,
+            places: self.places.share()?,
         })
     }
 
@@ -94,13 +101,52 @@ impl Latest {
         Ok(all)
     }
 
+    /// The places of these documents. An id of none of them has no place.
+    fn places_of(&self, ids: &[DocId]) -> Result<Places, OutOfMemory>
+        requires { AreApart self.now }
+        ensures { IfOk result (λ places. keys_of places ≡ places_from (is_one_of ids.now) 0 self.now) }
+    {
+        let mut places = PMap::new(self.alloc);
+        'ids: for id in ids {
+            places = with_place(self.alloc, places, self.place_of(*id))?;
+        }
+        Ok(places)
+    }
+
+    /// The revisions of these documents in order, lent. An id of none of them counts for nothing.
+    pub(crate) fn among(
+        &self,
+        alloc: Global,
+        ids: &[DocId],
+    ) -> Result<Sequence<&Recorded>, OutOfMemory>
+        requires { AreApart self.now }
+        ensures { IfOk result (λ all. map (λ r. r.now) all ≡ filter (is_one_of ids.now) self.now) }
+    {
+        let set = self.places_of(ids)?;
+        let all = lent_at(alloc, &self.documents, Positions::of_pairs(set.pairs()))?;
+        Ok(all)
+    }
+
     /// The place of a document, or None where it isn't among them.
     pub(crate) fn place_of(&self, id: DocId) -> Option<u64>
         ensures { result ≡ place_in (ids_of self.now) id.raw }
     {
-        match told_by(&self.places, id) {
-            Some(at) => Some(at),
-            None => place_from(&self.documents, self.known, id),
+        self.places.get(&id, &mut Steps { taken: 0 }).copied()
+    }
+
+    /// Where a document stands or will stand, and what stands there now.
+    pub(crate) fn spot(&self, id: DocId) -> Spot<'_>
+        ensures { IsSpot self.now id.raw result.at (option_copied result.old) }
+    {
+        match self.place_of(id) {
+            Some(at) => Spot {
+                at,
+                old: self.get(at),
+            },
+            None => Spot {
+                at: self.len(),
+                old: None,
+            },
         }
     }
 
@@ -130,57 +176,30 @@ impl Latest {
         requires { place_in (ids_of self.now) (id_of (arc_value item)) ≡ Some at }
         ensures { IfOk result (λ new. new ≡ slice_set self.now at (arc_value item)) }
     {
+        let documents = self.documents.set(at, item)?;
+        let places = self.places.share()?;
         Ok(Latest {
             alloc: self.alloc,
-            documents: self.documents.set(at, item)?,
-            places: shared(&self.places)?,
-            known: self.known,
+            documents,
+            places,
         })
     }
 
     /// The documents with the first revision of another one at the end.
     fn append(&self, item: Arc<Recorded>) -> Result<Latest, OutOfMemory>
+        requires { place_in (ids_of self.now) (id_of (arc_value item)) ≡ None }
         ensures { IfOk result (λ new. new ≡ self.now ++ arc_value item ∷ []) }
     {
+        let id = Arc::new(self.alloc, item.revision.metadata.id)?;
+        let place = Arc::new(self.alloc, self.documents.len())?;
+        let places = self.places.insert(id, place)?;
         let documents = self.documents.push(item)?;
-        if is_many(self.known, documents.len()) {
-            return placed(self.alloc, documents);
-        }
         Ok(Latest {
             alloc: self.alloc,
             documents,
-            places: shared(&self.places)?,
-            known: self.known,
+            places,
         })
     }
-}
-
-/// The same map once more, where there is one.
-fn shared(
-    places: &Option<Shared<BTreeMap<u128, u64>>>,
-) -> Result<Option<Shared<BTreeMap<u128, u64>>>, OutOfMemory>
-    ensures { IfOk result (λ same. same ≡ places.now) }
-{
-    match places {
-        None => Ok(None),
-        Some(places) => Ok(Some(places.share()?)),
-    }
-}
-
-/// What the map says of a document, where there is one.
-fn told_by(places: &Option<Shared<BTreeMap<u128, u64>>>, id: DocId) -> Option<u64>
-    ensures { result ≡ told_by places.now id.raw }
-{
-    match places {
-        None => None,
-        Some(places) => told(places.get(), id),
-    }
-}
-
-/// Whether so many of all are known that the others are more than the square root of all.
-fn is_many(known: u64, all: u64) -> bool {
-    let others = all.saturating_sub(known);
-    others.saturating_mul(others) > all
 }
 
 /// The documents in order, lent.
@@ -197,73 +216,54 @@ fn all_lent(alloc: Global, documents: &PVec<Recorded>) -> Result<Sequence<&Recor
     Ok(all)
 }
 
-/// The place of a document at this one or behind it.
-fn place_from(documents: &PVec<Recorded>, from: u64, id: DocId) -> Option<u64>
-    requires { from ≤ length documents.now }
-    ensures { result ≡ option_map (λ at. from + at) (place_in (ids_of (drop from documents.now)) id.raw) }
+/// The places with this one, if there is one.
+fn with_place(alloc: Global, places: Places, at: Option<u64>) -> Result<Places, OutOfMemory>
+    ensures { IfOk result (λ new. new ≡ put_place at places) }
 {
-    'behind: for at in from..documents.len() {
-        if has_id(documents.get(at), id) {
-            return Some(at);
-        }
+    match at {
+        None => Ok(places),
+        Some(at) => place_more(alloc, &places, at),
     }
-    None
 }
 
-/// Whether it is a revision of this document.
-fn has_id(document: Option<&Recorded>, id: DocId) -> bool
-    ensures { result ≡ option_map_or (λ (d : held.Recorded). id_of d == id.raw) (option_copied document.entry) false }
+/// The places with this one.
+fn place_more(alloc: Global, places: &Places, at: u64) -> Result<Places, OutOfMemory>
+    ensures { IfOk result (λ new. new ≡ insert_entry nat_cmp places.now at at) }
+{
+    let place = Arc::new(alloc, at)?;
+    let shared = Arc::try_clone(&place)?;
+    let new = places.insert(place, shared)?;
+    Ok(new)
+}
+
+/// The documents at the places, in their order, lent.
+fn lent_at<'a>(
+    alloc: Global,
+    documents: &'a PVec<Recorded>,
+    places: Positions<'_>,
+) -> Result<Sequence<&'a Recorded>, OutOfMemory>
+    ensures { IfOk result (λ all. map (λ r. r.now) all ≡ filter_map (λ at. slice_get documents.now at) places.entry) }
+{
+    let mut places = places;
+    let mut all = Sequence::new(alloc);
+    'places: while let Some(at) = places.next() {
+        push_some(&mut all, documents.get(at))?;
+    }
+    Ok(all)
+}
+
+/// Puts the document at the end, if there is one.
+fn push_some<'a>(
+    all: &mut Sequence<&'a Recorded>,
+    document: Option<&'a Recorded>,
+) -> Result<(), OutOfMemory>
+    ensures { OnOk result (map (λ r. r.now) all.new ≡ map (λ r. r.now) all.old ++ cons_option (option_copied document.entry) []) }
 {
     match document {
-        Some(document) => document.revision.metadata.id.raw == id.raw,
-        None => false,
-    }
-}
-
-/// The documents with the places of all of them.
-fn placed(alloc: Global, documents: PVec<Recorded>) -> Result<Latest, OutOfMemory>
-    ensures { IfOk result (λ new. new ≡ documents) }
-{
-    let known = documents.len();
-    let places = Shared::new(alloc, all_places(alloc, &documents)?)?;
-    Ok(Latest {
-        alloc,
-        documents,
-        places: Some(places),
-        known,
-    })
-}
-
-/// The places of all documents.
-fn all_places(alloc: Global, documents: &PVec<Recorded>) -> Result<BTreeMap<u128, u64>, OutOfMemory>
-    ensures { IfOk result (λ places. ArePlaces places (ids_of documents.now)) }
-{
-    let mut places = BTreeMap::new(alloc);
-    'documents: for at in 0..documents.len() {
-        let Some(document) = documents.get(at) else {
-            unreachable!()
-        };
-        place(&mut places, document.revision.metadata.id, at)?;
-    }
-    Ok(places)
-}
-
-/// Puts the place of the document in, where it isn't among the ones in front.
-fn place(places: &mut BTreeMap<u128, u64>, id: DocId, at: u64) -> Result<(), OutOfMemory>
-    ensures { OnOk result ((front : List ℕ) → length front ≡ at → ArePlaces places.old front → ArePlaces places.new (front ++ id.raw ∷ [])) }
-{
-    match told(places, id) {
-        Some(_) => Ok(()),
-        None => {
-            places.insert(id.raw, at)?;
+        None => Ok(()),
+        Some(document) => {
+            all.push(document)?;
             Ok(())
         }
     }
-}
-
-/// What the map says of a document.
-fn told(places: &BTreeMap<u128, u64>, id: DocId) -> Option<u64>
-    ensures { result ≡ tree.get nat_cmp places.now id.raw }
-{
-    places.get(&id.raw).copied()
 }

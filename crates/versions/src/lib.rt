@@ -2,9 +2,14 @@
 //! version with one block more is a new one, which shares with the earlier one what they have in common.
 #![tactic(auto)]
 
+mod by_table;
+mod documents;
 mod histories;
+mod indexes;
 mod kept;
+mod keys;
 mod latest;
+mod live;
 mod recorded;
 mod shelf;
 mod tables;

@@ -1,34 +1,43 @@
 //! All revisions, with the latest one and the history of each document beside them.
-ghost use Rattle.std.specs.Prelude.{◌≡◌, [], ◌∷◌, ◌++◌, length, map, slice_get, Some, option_map, IfOk};
+ghost use Rattle.std.specs.Prelude.{◌≡◌, ◌<◌, ◌^◌, [], ◌∷◌, ◌++◌, length, map, slice_get, Some, option_map, IfOk};
 ghost use Rattle.std.specs.Arc.{arc_value};
 ghost use Rattle.std.specs.Option.{option_copied};
 ghost use Rattle.ledger_model.specs.Follows.{latest_of};
-ghost use Rattle.ledger_model.specs.State.{draft_of, recorded_in};
+ghost use Rattle.ledger_model.specs.State.{draft_of};
 ghost use Rattle.ledger_model.specs.Views.{latest};
 ghost use Rattle.versions.specs.Held.{drafts_lent, recorded_lent, recorded_of};
-ghost use Rattle.versions.specs.Lookups.{last_of_each};
+ghost use Rattle.versions.specs.ByTable.{revisions_in};
 ghost use Rattle.versions.specs.Histories.{revisions_of};
-ghost use Rattle.versions.specs.Newest.{newest};
+ghost use Rattle.versions.specs.Live.{AllFit};
+ghost use Rattle.versions.specs.Lookups.{documents_of, last_among, last_of_each, those_among};
+ghost use Rattle.versions.specs.Newest.{id_of, newest};
 
+use crate::by_table::{ByTable, revision_of, table_entered};
 use crate::histories::{Histories, entered, revision_in};
 use crate::latest::Latest;
-use crate::recorded::{Recorded, record};
+use crate::live::{Live, ids_at, live_after};
+use crate::recorded::Recorded;
+use index_post::Filed;
 use ion_values::OutOfMemory;
-use ledger_model::Revision;
 use lists::Sequence;
+use pmap::PMap;
+use pql_model::DocIds;
 use pvec::PVec;
 use ql_types::{DocId, TableId};
 use std::alloc::Global;
 use std::marker::Model;
 use std::sync::Arc;
 
-/// All revisions in order, which contracts see as their list, and the latest one and the history of each document.
+/// All revisions in order, which contracts see as their list, the latest one and the history of each document, and the
+/// revisions of each table and the places of its documents that aren't deleted.
 #[derive(Drop)]
 pub(crate) struct Shelf {
     alloc: Global,
     pub(crate) revisions: PVec<Recorded>,
     pub(crate) latest: Latest,
     histories: Histories,
+    by_table: ByTable,
+    live: Live,
 }
 
 impl Model for Shelf {
@@ -36,7 +45,7 @@ impl Model for Shelf {
     ghost use Rattle.std.specs.Prelude.{List};
     ghost use Rattle.versions.specs.contracts.recorded.Recorded as recorded;
     ghost use Rattle.versions.specs.declared.recorded.Recorded.{Recorded};
-    ghost use Rattle.versions.specs.Histories.{IsShelf};
+    ghost use Rattle.versions.specs.Live.{IsWhole};
 
     ghost Value = { List Recorded };
 
@@ -44,7 +53,7 @@ impl Model for Shelf {
 
     ghost view = { λ s. s.revisions };
 
-    ghost invariant = { λ s. IsShelf s.revisions s.latest s.histories };
+    ghost invariant = { λ s. IsWhole s.revisions s.latest s.histories s.by_table s.live };
 }
 
 impl Shelf {
@@ -57,6 +66,8 @@ impl Shelf {
             revisions: PVec::new(alloc),
             latest: Latest::new(alloc),
             histories: PVec::new(alloc),
+            by_table: PMap::new(alloc),
+            live: Filed::new(alloc),
         }
     }
 
@@ -69,6 +80,8 @@ impl Shelf {
             revisions: self.revisions.share()?,
             latest: self.latest.share()?,
             histories: self.histories.share()?,
+            by_table: self.by_table.share()?,
+            live: self.live.share()?,
         })
     }
 
@@ -76,35 +89,31 @@ impl Shelf {
     pub(crate) fn push(&self, item: Recorded) -> Result<Shelf, OutOfMemory>
         ensures { IfOk result (λ new. new ≡ self.now ++ item ∷ []) }
     {
-        let place = self.latest.place_of(item.revision.metadata.id);
-        let (one, other, third) = thrice(self.alloc, item)?;
+        id_fits(&item);
+        let id = item.revision.metadata.id;
+        let spot = self.latest.spot(id);
+        let live = live_after(self.alloc, &self.live, &spot, &item)?;
+        let place = self.latest.place_of(id);
+        let (one, other, third, fourth) = four(self.alloc, item)?;
         let revisions = self.revisions.push(one)?;
         let latest = self.latest.put(other)?;
         let histories = entered(self.alloc, &self.histories, place, third)?;
+        let by_table = table_entered(self.alloc, &self.by_table, fourth)?;
         Ok(Shelf {
             alloc: self.alloc,
             revisions,
             latest,
             histories,
+            by_table,
+            live,
         })
     }
 
-    /// The revisions with a block's more, each with its table.
-    pub(crate) fn with_all(
-        &self,
-        tables: &[TableId],
-        revisions: &[Revision],
-    ) -> Result<Shelf, OutOfMemory>
-        ensures { IfOk result (λ new. map recorded_of new ≡ map recorded_of self.now ++ recorded_in tables.now revisions.now) }
+    /// The latest revision of each document.
+    pub(crate) fn latest(&self) -> &Latest
+        ensures { result.now ≡ newest self.now }
     {
-        let mut new = self.share()?;
-        'revisions: for (at, revision) in revisions.iter().enumerate() {
-            let Some(table) = tables.get(at) else {
-                return Ok(new);
-            };
-            new = new.push(record(self.alloc, *table, revision)?)?;
-        }
-        Ok(new)
+        &self.latest
     }
 
     /// The latest revision of each document, in order of first insertion, lent.
@@ -115,6 +124,26 @@ impl Shelf {
     {
         let all = self.latest.all(alloc)?;
         Ok(all)
+    }
+
+    /// The same of these documents alone. An id that no revision has counts for nothing.
+    pub(crate) fn newest_among(
+        &self,
+        alloc: Global,
+        ids: &[DocId],
+    ) -> Result<Sequence<&Recorded>, OutOfMemory>
+        ensures drafts { IfOk result (λ all. drafts_lent all ≡ those_among ids.now (latest (map draft_of (map recorded_of self.now)))) }
+        ensures last { IfOk result (λ all. map (λ r. Some r) (recorded_lent all) ≡ last_among ids.now (map recorded_of self.now)) }
+    {
+        let all = self.latest.among(alloc, ids)?;
+        Ok(all)
+    }
+
+    /// The numbers of all ids are within their range. It does nothing.
+    pub(crate) fn ids_fit(&self)
+        ensures { AllFit (map recorded_of self.now) }
+    {
+        let _count = self.revisions.len();
     }
 
     /// How many revisions there are.
@@ -145,17 +174,40 @@ impl Shelf {
     {
         revision_in(&self.histories, self.latest.place_of(id), number)
     }
+
+    /// The revision of this number of a table in block order, counted from 0, or None where it has no more.
+    pub(crate) fn revision_at(&self, table: TableId, i: u64) -> Option<&Recorded>
+        ensures { option_map recorded_of (option_copied result) ≡ slice_get (revisions_in (map recorded_of self.now) table) i }
+    {
+        revision_of(&self.by_table, table, i)
+    }
+
+    /// The ids of the table's documents that aren't deleted, in order of first insertion.
+    pub(crate) fn documents(&self, table: TableId) -> Result<DocIds, OutOfMemory>
+        ensures { IfOk result (λ ids. ids ≡ documents_of (map recorded_of self.now) table) }
+    {
+        let ids = ids_at(self.alloc, &self.latest, self.live.of(&table))?;
+        Ok(ids)
+    }
+}
+
+/// The number of the document's id is within its range. It does nothing.
+fn id_fits(recorded: &Recorded)
+    ensures { id_of recorded.now < 2 ^ 128 }
+{
+    let _raw = recorded.revision.metadata.id.raw;
 }
 
 /// An owner of the revision.
 type Owner = Arc<Recorded>;
 
-/// Three owners of the revision.
-fn thrice(alloc: Global, item: Recorded) -> Result<(Owner, Owner, Owner), OutOfMemory>
-    ensures { IfOk result (λ all. (arc_value all.0 ≡ item) × (arc_value all.1 ≡ item) × (arc_value all.2 ≡ item)) }
+/// Four owners of the revision.
+fn four(alloc: Global, item: Recorded) -> Result<(Owner, Owner, Owner, Owner), OutOfMemory>
+    ensures { IfOk result (λ all. (arc_value all.0 ≡ item) × (arc_value all.1 ≡ item) × (arc_value all.2 ≡ item) × (arc_value all.3 ≡ item)) }
 {
     let one = Arc::new(alloc, item)?;
     let other = Arc::try_clone(&one)?;
     let third = Arc::try_clone(&one)?;
-    Ok((one, other, third))
+    let fourth = Arc::try_clone(&one)?;
+    Ok((one, other, third, fourth))
 }

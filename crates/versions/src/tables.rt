@@ -194,26 +194,10 @@ pub fn has_index(indexes: &[Indexed], table: TableId, field: &str) -> bool
     false
 }
 
-fn is_on(index: &Indexed, table: TableId, field: &str) -> bool
+pub(crate) fn is_on(index: &Indexed, table: TableId, field: &str) -> bool
     ensures { result ≡ ((index.now.table.raw == table.raw) && bytes_eq index.now.field field.now) }
 {
     index.table.raw == table.raw && index.field.as_str() == field
-}
-
-/// The fields with an index after these changes of the schema. Where nothing is changed, they are shared.
-pub(crate) fn indexes_after(
-    alloc: Global,
-    indexes: &Kept<Indexed>,
-    changes: &[Schema],
-) -> Result<Kept<Indexed>, OutOfMemory>
-    ensures { IfOk result (λ new. map indexed_of new ≡ all_indexed (map indexed_of indexes.now) changes.now) }
-{
-    if changes.is_empty() {
-        return indexes.share();
-    }
-    let mut new = copy_indexes(alloc, indexes.as_slice())?;
-    index_all(alloc, &mut new, changes)?;
-    Kept::from_vec(alloc, new)
 }
 
 /// Fields that equal the given ones, in order.

@@ -1,23 +1,25 @@
 //! A version of the state after a list of blocks.
-ghost use Rattle.std.specs.Prelude.{◌≡◌, length, map, slice_get, Some, option_map, IfOk};
+ghost use Rattle.std.specs.Prelude.{◌≡◌, length, map, slice_get, true, Some, option_map, IfOk};
 ghost use Rattle.std.specs.Option.{option_copied};
 ghost use Rattle.ledger_model.specs.Follows.{has_index, latest_of};
 ghost use Rattle.ledger_model.specs.Run.{active_count};
 ghost use Rattle.ledger_model.specs.SchemaChanges.{index_count};
 ghost use Rattle.ledger_model.specs.State.{active_table, after, draft_of, empty};
 ghost use Rattle.ledger_model.specs.Views.{latest};
+ghost use Rattle.versions.specs.ByTable.{revisions_in};
 ghost use Rattle.versions.specs.Held.{drafts_lent, indexed_of, recorded_lent, recorded_of, table_of};
-ghost use Rattle.versions.specs.Lookups.{documents_of, last_of_each, name_of};
+ghost use Rattle.versions.specs.Indexes.{documents_with};
+ghost use Rattle.versions.specs.Live.{AllFit};
+ghost use Rattle.versions.specs.Lookups.{documents_of, last_among, last_of_each, name_of, those_among};
 ghost use Rattle.versions.specs.Histories.{revisions_of};
 
+use crate::documents::Documents;
 use crate::kept::Kept;
-use crate::recorded::{Recorded, ids_among};
-use crate::shelf::Shelf;
+use crate::recorded::Recorded;
 use crate::tables::{
-    Indexed, Table, active_count, active_table, has_index, index_count, indexes_after, name_of,
-    tables_after,
+    Indexed, Table, active_count, active_table, has_index, index_count, name_of, tables_after,
 };
-use ion_values::{OutOfMemory, Text};
+use ion_values::{Key, OutOfMemory, Text};
 use ledger_model::{Block, Revision};
 use lists::Sequence;
 use pql_model::DocIds;
@@ -30,8 +32,7 @@ use std::marker::Model;
 pub struct Versions {
     alloc: Global,
     tables: Kept<Table>,
-    indexes: Kept<Indexed>,
-    shelf: Shelf,
+    documents: Documents,
 }
 
 impl Model for Versions {
@@ -44,9 +45,9 @@ impl Model for Versions {
     ghost coded = { state_code };
 
     ghost view = { λ v. record {
-      revisions = map recorded_of v.shelf;
+      revisions = map recorded_of v.documents.0;
       tables = map table_of v.tables;
-      indexes = map indexed_of v.indexes;
+      indexes = map indexed_of v.documents.1;
     } };
 }
 
@@ -58,8 +59,7 @@ impl Versions {
         Versions {
             alloc,
             tables: Kept::new(),
-            indexes: Kept::new(),
-            shelf: Shelf::new(alloc),
+            documents: Documents::new(alloc),
         }
     }
 
@@ -70,13 +70,15 @@ impl Versions {
         ensures { IfOk result (λ v. v ≡ after self.now block.now) }
     {
         let changes = block.info.schema.as_slice();
+        let tables = tables_after(self.alloc, &self.tables, changes)?;
+        let documents = self
+            .documents
+            .with_all(block.info.tables.as_slice(), block.revisions.as_slice())?;
+        let documents = documents.indexed_all(changes)?;
         Ok(Versions {
             alloc: self.alloc,
-            tables: tables_after(self.alloc, &self.tables, changes)?,
-            indexes: indexes_after(self.alloc, &self.indexes, changes)?,
-            shelf: self
-                .shelf
-                .with_all(block.info.tables.as_slice(), block.revisions.as_slice())?,
+            tables,
+            documents,
         })
     }
 
@@ -87,8 +89,7 @@ impl Versions {
         Ok(Versions {
             alloc: self.alloc,
             tables: self.tables.share()?,
-            indexes: self.indexes.share()?,
-            shelf: self.shelf.share()?,
+            documents: self.documents.share()?,
         })
     }
 
@@ -124,35 +125,35 @@ impl Versions {
     pub fn all_indexes(&self) -> &[Indexed]
         ensures { map indexed_of result.now ≡ self.now.indexes }
     {
-        self.indexes.as_slice()
+        self.documents.indexes()
     }
 
     /// How many fields of the table have an index.
     pub fn indexes(&self, table: TableId) -> u64
         ensures { result ≡ index_count self.now.indexes table }
     {
-        index_count(self.indexes.as_slice(), table)
+        index_count(self.documents.indexes(), table)
     }
 
     /// Whether the field of the table has an index.
     pub fn has_index(&self, table: TableId, field: &Text) -> bool
         ensures { result ≡ has_index self.now.indexes table field.now }
     {
-        has_index(self.indexes.as_slice(), table, field.as_str())
+        has_index(self.documents.indexes(), table, field.as_str())
     }
 
     /// The latest revision of a document with its table, also the one that deletes it, or None where no revision has the id.
     pub fn recorded(&self, id: DocId) -> Option<&Recorded>
         ensures { option_map recorded_of (option_copied result) ≡ latest_of self.now.revisions id.raw }
     {
-        self.shelf.last_of(id)
+        self.documents.shelf().last_of(id)
     }
 
     /// The latest revision of a document, also the one that deletes it, or None where no revision has the id.
     pub fn latest(&self, id: DocId) -> Option<&Revision>
         ensures { option_copied result ≡ option_map (λ r. r.revision) (latest_of self.now.revisions id.raw) }
     {
-        match self.shelf.last_of(id) {
+        match self.documents.shelf().last_of(id) {
             Some(recorded) => Some(&recorded.revision),
             None => None,
         }
@@ -163,7 +164,7 @@ impl Versions {
     pub fn revision(&self, id: DocId, version: u64) -> Option<&Revision>
         ensures { option_copied result ≡ option_map (λ r. r.revision) (slice_get (revisions_of self.now.revisions id.raw) version) }
     {
-        match self.shelf.revision(id, version) {
+        match self.documents.shelf().revision(id, version) {
             Some(recorded) => Some(&recorded.revision),
             None => None,
         }
@@ -173,8 +174,18 @@ impl Versions {
     pub fn table_of(&self, id: DocId) -> Option<TableId>
         ensures { result ≡ option_map (λ r. r.table) (latest_of self.now.revisions id.raw) }
     {
-        match self.shelf.last_of(id) {
+        match self.documents.shelf().last_of(id) {
             Some(recorded) => Some(recorded.table),
+            None => None,
+        }
+    }
+
+    /// The table's revision of this number in block order, counted from 0, or None where the table has no more.
+    pub fn revision_at(&self, table: TableId, i: u64) -> Option<&Revision>
+        ensures { option_copied result ≡ option_map (λ r. r.revision) (slice_get (revisions_in self.now.revisions table) i) }
+    {
+        match self.documents.shelf().revision_at(table, i) {
+            Some(recorded) => Some(&recorded.revision),
             None => None,
         }
     }
@@ -183,8 +194,16 @@ impl Versions {
     pub fn documents(&self, table: TableId) -> Result<DocIds, OutOfMemory>
         ensures { IfOk result (λ ids. ids ≡ documents_of self.now.revisions table) }
     {
-        let newest = self.newest(self.alloc)?;
-        ids_among(self.alloc, newest.as_slice(), table)
+        self.documents.shelf().documents(table)
+    }
+
+    /// The ids of the table's documents that aren't deleted and whose latest content has the key in its first field of the
+    /// name, in order of first insertion.
+    pub fn with_key(&self, table: TableId, field: &Text, key: &Key) -> Result<DocIds, OutOfMemory>
+        requires { has_index self.now.indexes table field.now ≡ true }
+        ensures { IfOk result (λ ids. ids ≡ documents_with self.now.revisions table field.now key.now) }
+    {
+        self.documents.with_key(table, field, key)
     }
 
     /// The latest revision of each document, with its table, in order of first insertion. They are lent.
@@ -192,15 +211,35 @@ impl Versions {
         ensures drafts { IfOk result (λ all. drafts_lent all ≡ latest (map draft_of self.now.revisions)) }
         ensures last { IfOk result (λ all. map (λ r. Some r) (recorded_lent all) ≡ last_of_each self.now.revisions) }
     {
-        let all = self.shelf.newest(alloc)?;
+        let all = self.documents.shelf().newest(alloc)?;
         Ok(all)
+    }
+
+    /// The same of these documents alone. An id that no revision has counts for nothing.
+    pub fn newest_among(
+        &self,
+        alloc: Global,
+        ids: &[DocId],
+    ) -> Result<Sequence<&Recorded>, OutOfMemory>
+        ensures drafts { IfOk result (λ all. drafts_lent all ≡ those_among ids.now (latest (map draft_of self.now.revisions))) }
+        ensures last { IfOk result (λ all. map (λ r. Some r) (recorded_lent all) ≡ last_among ids.now self.now.revisions) }
+    {
+        let all = self.documents.shelf().newest_among(alloc, ids)?;
+        Ok(all)
+    }
+
+    /// The numbers of all documents' ids are within their range. It does nothing.
+    pub fn ids_fit(&self)
+        ensures { AllFit self.now.revisions }
+    {
+        self.documents.shelf().ids_fit();
     }
 
     /// How many revisions there are, of all documents.
     pub fn revision_count(&self) -> u64
         ensures { result ≡ length self.now.revisions }
     {
-        self.shelf.count()
+        self.documents.shelf().count()
     }
 
     /// The revision at a place in block order, counted from 0, with its document's table, or None past the last one.
@@ -208,6 +247,6 @@ impl Versions {
     pub fn recorded_at(&self, place: u64) -> Option<&Recorded>
         ensures { option_map recorded_of (option_copied result) ≡ slice_get self.now.revisions place }
     {
-        self.shelf.at(place)
+        self.documents.shelf().at(place)
     }
 }

@@ -9,6 +9,9 @@ use Rattle.versions.proofs.latest.Latest.put.Goals as goal
 pub replace-requires : goal.replace-requires
 replace-requires c = ap (λ (r : Recorded). place_in (ids_of c.args.self.now) (id_of r)) (sym c.deref.ensures) ∙ sym c.place_of.ensures ∙ c.in-Some.is
 
+pub append-requires : goal.append-requires
+append-requires c = ap (λ (r : Recorded). place_in (ids_of c.args.self.now) (id_of r)) (sym c.deref.ensures) ∙ sym c.place_of.ensures ∙ c.in-None.is
+
 pub returns-in-Some : goal.returns-in-Some
 returns-in-Some c =
     let place : place_in (ids_of c.args.self.now) (id_of c.args.item.value) ≡ Some c.in-Some.at =

@@ -1,5 +1,5 @@
 use Rattle.versions.specs.Newest.{id_of}
-use Rattle.versions.proofs.Places.{document-within, known-set}
+use Rattle.versions.proofs.Places.{document-within, places-kept}
 use Rattle.versions.proofs.latest.Latest.replace.Goals as goal
 
 pub set-requires : goal.set-requires
@@ -7,5 +7,5 @@ set-requires c = rw c.self.view_is (document-within c.args.self.now (id_of c.arg
 
 pub invariant_of-result : goal.invariant_of-result
 invariant_of-result c =
-    rw c.in_ok-shared.ensures (known-set c.self.inside.places c.self.inside.known c.args.at c.self.inside.documents c.in_ok-set.field-0 c.args.item.value c.self.invariant
-    (rw c.self.view_is c.requires) c.in_ok-set.ensures)
+    rw c.in_ok-places.ensures (places-kept c.self.inside.places c.args.at c.self.inside.documents c.in_ok-documents.documents c.args.item.value c.self.invariant
+    (rw c.self.view_is c.requires) c.in_ok-documents.ensures)
