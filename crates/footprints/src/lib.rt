@@ -12,4 +12,4 @@ mod statements;
 mod texts;
 
 pub use schemas::Schemas;
-pub use statements::footprint;
+pub use statements::{footprint, read_by_sources};

@@ -30,7 +30,7 @@ pub fn footprint(
         Statement::Select { from, .. }
         | Statement::Update { from, .. }
         | Statement::From { from, .. }
-        | Statement::Delete { from } => selected(alloc, schemas, from, params),
+        | Statement::Delete { from } => read_by_sources(alloc, schemas, from, params),
     }
 }
 
@@ -54,8 +54,8 @@ fn created(alloc: Global, table: &Text) -> Result<Sequence<Item>, OutOfMemory>
     Ok(items)
 }
 
-/// The names of the tables that are selected from, and then what is read of each.
-fn selected(
+/// What the sources of a FROM read with these parameters: the names of their tables, and then what is read of each.
+pub fn read_by_sources(
     alloc: Global,
     schemas: Schemas<'_>,
     from: &FromClause,

@@ -2,6 +2,7 @@
 use Rattle.std.proofs.Common.{◌≡◌, ◌==◌, Bool, true, false, List, [], ◌∷◌, map, Option, Some, None, Bor, refl, sym, ◌∙◌, ap, ap₂}
 use Rattle.std.specs.Prelude.{cond, is_some, option_and_then, option_map, if◌then◌else◌}
 use Rattle.std.specs.List.{cons_option, filter, filter_map}
+use Rattle.ql_types.specs.declared.DocId.{DocId}
 use Rattle.ql_types.specs.declared.TableId.{TableId}
 use Rattle.pql_model.specs.declared.tables.Probe.{Probe}
 use Rattle.pql_model.specs.declared.tables.Row.{Row}
@@ -15,8 +16,10 @@ use Rattle.ledger_model.specs.State.{Recorded, draft_of}
 use Rattle.ledger_model.specs.Views.{latest, live, row_of}
 use Rattle.versions.specs.declared.recorded.Recorded as held
 use Rattle.versions.specs.Held.{drafts_lent, recorded_lent, recorded_of}
-use Rattle.versions.specs.Lookups.{last_of_each}
+use Rattle.versions.specs.Lookups.{last_among, last_of_each, those_among}
+use Rattle.view_rows.specs.Named.{rows_among}
 use Rattle.view_rows.specs.Shown.{live_rows}
+use Rattle.view_rows.proofs.Naming.{committed_among}
 
 -- a row is of its document
 live-id : (d : Draft) (c : Content) (row : Row) → live d.id c ≡ Some row → row.id ≡ d.id
@@ -64,3 +67,16 @@ rows_committed table revisions lent probe rows drafts last is =
     let found : map (λ (r : Recorded). Some r) (recorded_lent lent) ≡ map (λ (d : Draft). latest_of revisions d.id.raw) (map draft_of (recorded_lent lent)) =
     last ∙ ap (map (λ (d : Draft). latest_of revisions d.id.raw)) (sym documents) in
     is ∙ ap (meeting probe) (sym (each-shown table revisions (recorded_lent lent) found) ∙ ap (filter_map (committed_row table revisions)) documents)
+
+-- the same of some documents
+pub rows_committed_among : (table : TableId) (revisions : List Recorded) (ids : List DocId) (lent : List (Bor held.Recorded)) (probe : Probe) (rows : List Row)
+    → drafts_lent lent ≡ those_among ids (latest (map draft_of revisions))
+    → map (λ (r : Recorded). Some r) (recorded_lent lent) ≡ last_among ids revisions
+    → rows ≡ meeting probe (live_rows table (recorded_lent lent)) → rows ≡ meeting probe (rows_among ids (committed_view table revisions))
+rows_committed_among table revisions ids lent probe rows drafts last is =
+    let documents : map draft_of (recorded_lent lent) ≡ those_among ids (latest (map draft_of revisions)) = sym (drafts-of lent) ∙ drafts in
+    let found : map (λ (r : Recorded). Some r) (recorded_lent lent) ≡ map (λ (d : Draft). latest_of revisions d.id.raw) (map draft_of (recorded_lent lent)) =
+    last ∙ ap (map (λ (d : Draft). latest_of revisions d.id.raw)) (sym documents) in
+    is
+    ∙ ap (meeting probe) (sym (each-shown table revisions (recorded_lent lent) found) ∙ ap (filter_map (committed_row table revisions)) documents
+    ∙ committed_among table revisions ids)

@@ -5,6 +5,7 @@ ghost use Rattle.ledger_model.specs.CommittedViews.{committed_view, row_showing}
 ghost use Rattle.ledger_model.specs.State.{draft_of};
 ghost use Rattle.ledger_model.specs.Views.{row_of};
 ghost use Rattle.versions.specs.Held.{recorded_lent, recorded_of};
+ghost use Rattle.view_rows.specs.Named.{rows_among};
 ghost use Rattle.view_rows.specs.Shown.{live_rows};
 
 use crate::probes::meets;
@@ -13,7 +14,7 @@ use ion_values::OutOfMemory;
 use ledger_model::{Content, Row};
 use lists::Sequence;
 use pql_model::{Probe, Rows};
-use ql_types::TableId;
+use ql_types::{DocId, TableId};
 use std::alloc::Global;
 use versions::{Recorded, Versions};
 
@@ -70,6 +71,23 @@ pub(crate) fn committed_rows(
     ensures { IfOk result (λ rows. rows ≡ meeting probe.now (committed_view table version.now.revisions)) }
 {
     let latest = version.newest(alloc)?;
+    let rows = live_rows(alloc, latest.as_slice(), table, probe)?;
+    Ok(rows)
+}
+
+/// The rows of these documents in the table's committed view that meet the probe, in order of first insertion. It looks each
+/// document up.
+#[tactic(auto, using(crate::proofs::Latest::rows_committed_among))]
+pub fn committed_among(
+    alloc: Global,
+    version: &Versions,
+    ids: &[DocId],
+    table: TableId,
+    probe: &Probe,
+) -> Result<Rows, OutOfMemory>
+    ensures { IfOk result (λ rows. rows ≡ meeting probe.now (rows_among ids.now (committed_view table version.now.revisions))) }
+{
+    let latest = version.newest_among(alloc, ids)?;
     let rows = live_rows(alloc, latest.as_slice(), table, probe)?;
     Ok(rows)
 }

@@ -6,11 +6,13 @@
 mod bounds;
 mod committed_view;
 mod history;
+mod named;
 mod probes;
 mod seen;
 mod user;
 mod views;
 
+pub use committed_view::committed_among;
 pub use seen::{Seen, all_committed, committed, pending};
 pub use user::user_rows;
 pub use views::view_rows;
