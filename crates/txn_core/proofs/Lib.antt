@@ -1,6 +1,8 @@
 pub mod Effects
 pub mod InRange
 pub mod Inserted
+pub mod Needed
+pub mod Narrowing
 pub mod Running
 pub mod Overlaid
 pub mod Selects

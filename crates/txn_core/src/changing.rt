@@ -12,13 +12,11 @@ use crate::limits::not_kept;
 use crate::roots::{first_own, written_by};
 use crate::sources::first_absent;
 use crate::stopped::Stopped;
-use crate::table_views::TableViews;
 use crate::touching::Touching;
 use crate::transaction::Txn;
 use ion_values::Value;
 use ledger_model::{Content, Row};
 use pql_change::changed_documents;
-use pql_from::bindings;
 use pql_model::{Bindings, Change, FromClause, Rows};
 use std::alloc::Global;
 
@@ -58,8 +56,7 @@ impl Txn {
         if let Some(cause) = first_absent(alloc, tables.as_slice(), from.sources.as_slice())? {
             return Err(Stopped::Refused(cause));
         }
-        let views = TableViews::new(alloc, tables, &self.base, self.done.log.as_slice())?;
-        let rows = bindings(alloc, from, &views, params)?;
+        let rows = self.rows_over(alloc, tables, from, params)?;
         Ok(rows)
     }
 

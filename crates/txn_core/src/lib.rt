@@ -11,6 +11,7 @@ mod executing;
 mod indexing;
 mod inserting;
 mod limits;
+mod narrow;
 mod progress;
 mod ranges;
 mod reading;

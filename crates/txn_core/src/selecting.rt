@@ -9,11 +9,9 @@ ghost use Rattle.txn_core.specs.Stops.{Comes, Does};
 use crate::effect::Effect;
 use crate::sources::first_absent;
 use crate::stopped::Stopped;
-use crate::table_views::TableViews;
 use crate::transaction::Txn;
 use ion_values::{Value, Values};
 use ledger_model::Answer;
-use pql_from::bindings;
 use pql_model::{FromClause, Select};
 use pql_select::answer;
 use std::alloc::Global;
@@ -50,8 +48,7 @@ impl Txn {
         if let Some(cause) = first_absent(alloc, tables.as_slice(), from.sources.as_slice())? {
             return Err(Stopped::Refused(cause));
         }
-        let views = TableViews::new(alloc, tables, &self.base, self.done.log.as_slice())?;
-        let rows = bindings(alloc, from, &views, params)?;
+        let rows = self.rows_over(alloc, tables, from, params)?;
         let Answer { rows } = answer(alloc, select, &rows, params)?;
         Ok(rows)
     }

@@ -1,26 +1,32 @@
 //! The views of tables, as a transaction has them.
 ghost use Rattle.std.specs.Prelude.{◌≡◌, ◌++◌, map, IfOk};
+ghost use Rattle.pql_model.specs.Tables.{meeting};
+ghost use Rattle.ledger_model.specs.CommittedViews.{committed_view};
 ghost use Rattle.ledger_model.specs.State.{draft_of};
 ghost use Rattle.ledger_model.specs.Views.{latest};
+ghost use Rattle.txn_core.specs.Narrow.{IsNarrow, documents_read, rows_read};
 ghost use Rattle.view_rows.specs.Seen.{drafts_seen};
 
-use crate::views::latest_over;
+use crate::narrow::narrowed;
+use crate::views::{latest_over, latest_read};
 use ion_values::{OutOfMemory, Text};
-use ledger_model::Draft;
+use ledger_model::{Draft, Item};
 use lists::Sequence;
-use pql_model::{Probe, Rows, Tables, View};
+use pql_model::{DocIds, Probe, Rows, Tables, View};
+use ql_types::TableId;
 use std::alloc::Global;
 use versions::{Table, Versions, active_table};
-use view_rows::{Seen, user_rows, view_rows};
+use view_rows::{Seen, committed_among, user_rows, view_rows};
 
 /// The tables as a transaction has them, the version that it stands on, and the documents as it has them, each
 /// with its latest
-/// revision, lent.
+/// revision, lent: all, or those that are read alone.
 #[derive(Drop)]
 pub struct TableViews<'a> {
     tables: Vec<Table>,
     base: &'a Versions,
     documents: Sequence<Seen<'a>>,
+    read: Option<DocIds>,
 }
 
 impl<'a> TableViews<'a> {
@@ -41,6 +47,31 @@ impl<'a> TableViews<'a> {
             tables,
             base,
             documents,
+            read: None,
+        })
+    }
+
+    /// The same, of the documents alone that pend or may meet one of the items, where these name documents or keys of indexes.
+    pub(crate) fn read_by(
+        alloc: Global,
+        tables: Vec<Table>,
+        base: &'a Versions,
+        log: &'a [Draft],
+        items: &[Item],
+    ) -> Result<TableViews<'a>, OutOfMemory>
+        ensures tables { IfOk result (λ views. views.tables.items ≡ tables.items) }
+        ensures base { IfOk result (λ views. views.base.now ≡ base.now) }
+        ensures documents { IfOk result (λ views. drafts_seen views.documents ≡
+            documents_read views.read (latest (map draft_of base.now.revisions ++ log.now))) }
+        ensures narrow { IfOk result (λ views. IsNarrow base.now log.now items.now views.read) }
+    {
+        let read = narrowed(alloc, base, log, items)?;
+        let documents = latest_read(alloc, base, &read, log)?;
+        Ok(TableViews {
+            tables,
+            base,
+            documents,
+            read,
         })
     }
 }
@@ -62,9 +93,24 @@ impl Tables for TableViews<'_> {
         };
         match view {
             View::User => user_rows(alloc, self.documents.as_slice(), table, probe),
-            View::Committed | View::History { .. } => {
-                view_rows(alloc, self.base, table, view, probe)
-            }
+            View::Committed => committed_rows(alloc, self.base, &self.read, table, probe),
+            View::History { .. } => view_rows(alloc, self.base, table, view, probe),
         }
+    }
+}
+
+/// The rows of the table's committed view that meet the probe, of the documents that are read.
+fn committed_rows(
+    alloc: Global,
+    base: &Versions,
+    read: &Option<DocIds>,
+    table: TableId,
+    probe: &Probe,
+) -> Result<Rows, OutOfMemory>
+    ensures { IfOk result (λ rows. rows ≡ meeting probe.now (rows_read read.now (committed_view table base.now.revisions))) }
+{
+    match read {
+        None => view_rows(alloc, base, table, &View::Committed, probe),
+        Some(ids) => committed_among(alloc, base, ids.as_slice(), table, probe),
     }
 }

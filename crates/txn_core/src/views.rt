@@ -3,12 +3,15 @@ ghost use Rattle.std.specs.Prelude.{◌≡◌, ◌++◌, length, map, IfOk, OnOk
 ghost use Rattle.ledger_model.specs.Run.{is_left, left_of};
 ghost use Rattle.ledger_model.specs.State.{draft_of};
 ghost use Rattle.ledger_model.specs.Views.{put, latest, latest_from};
+ghost use Rattle.txn_core.specs.Narrow.{AllAmong, PendAmong, documents_read};
 ghost use Rattle.txn_core.specs.Seen.{place_in};
+ghost use Rattle.versions.specs.Lookups.{those_among};
 ghost use Rattle.view_rows.specs.Seen.{drafts_seen, draft_seen};
 
 use ion_values::OutOfMemory;
 use ledger_model::{Content, Draft, Drafts};
 use lists::Sequence;
+use pql_model::DocIds;
 use ql_types::DocId;
 use std::alloc::Global;
 use versions::Versions;
@@ -77,6 +80,40 @@ pub(crate) fn latest_over<'a>(
     let mut documents = all_committed(alloc, recorded.as_slice())?;
     put_all(&mut documents, log)?;
     Ok(documents)
+}
+
+/// The same of these documents alone, among which are all that pend.
+fn latest_among<'a>(
+    alloc: Global,
+    base: &'a Versions,
+    ids: &[DocId],
+    log: &'a [Draft],
+) -> Result<Sequence<Seen<'a>>, OutOfMemory>
+    requires { AllAmong ids.now log.now }
+    ensures { IfOk result (λ documents. drafts_seen documents ≡
+        those_among ids.now (latest (map draft_of base.now.revisions ++ log.now))) }
+{
+    let recorded = base.newest_among(alloc, ids)?;
+    let mut documents = all_committed(alloc, recorded.as_slice())?;
+    put_all(&mut documents, log)?;
+    Ok(documents)
+}
+
+/// The same of the documents that are read.
+pub(crate) fn latest_read<'a>(
+    alloc: Global,
+    base: &'a Versions,
+    read: &Option<DocIds>,
+    log: &'a [Draft],
+) -> Result<Sequence<Seen<'a>>, OutOfMemory>
+    requires { PendAmong read.now log.now }
+    ensures { IfOk result (λ documents. drafts_seen documents ≡
+        documents_read read.now (latest (map draft_of base.now.revisions ++ log.now))) }
+{
+    match read {
+        None => latest_over(alloc, base, log),
+        Some(ids) => latest_among(alloc, base, ids.as_slice(), log),
+    }
 }
 
 /// The place of a document among pending ones.

@@ -10,6 +10,8 @@ mod histories;
 #[cfg(test)]
 mod journals;
 #[cfg(test)]
+mod keys;
+#[cfg(test)]
 mod lookups;
 #[cfg(test)]
 mod probes;
