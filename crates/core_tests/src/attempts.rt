@@ -1,10 +1,11 @@
 //! Transactions of which each call of the store fails in turn.
-use crate::tails::{PLACE, store_behind, store_of, tail_of};
+use crate::tails::{MASK, PLACE, store_behind, store_of, tail_of};
 use ion_values::Text;
 use ledger_core::Tail;
 use ledger_model::{Job, Outcome, Request};
 use lists::Sequence;
 use outside::{MemoryStore, SetClock};
+use ql_types::id_parts;
 use std::alloc::Global;
 use std::test::Fail;
 
@@ -45,10 +46,10 @@ fn letter(outcome: &Outcome) -> &str {
     }
 }
 
-/// The number of a transaction that is refused, by the mask of zeros.
-fn number(outcome: &Outcome) -> Option<u128> {
+/// The number of a transaction that is refused.
+fn number(outcome: &Outcome) -> Option<u64> {
     match outcome {
-        Outcome::Refused { tx, .. } => Some(tx.raw >> 24),
+        Outcome::Refused { tx, .. } => Some(id_parts(MASK, tx.raw)?.0),
         _ => None,
     }
 }
@@ -77,7 +78,7 @@ fn settled(alloc: Global, store: MemoryStore, statements: &str, ends: &str) -> O
 }
 
 /// Whether the store has so many lines, and a reload finds as many blocks, and the next number.
-fn is_reloaded(alloc: Global, store: MemoryStore, blocks: u64, next: u128) -> Option<bool> {
+fn is_reloaded(alloc: Global, store: MemoryStore, blocks: u64, next: u64) -> Option<bool> {
     let lines = store.held().iter().filter(|byte| **byte == b'\n').count();
     let mut tail = tail_of(alloc, store)?;
     let found = tail.blocks().len();
@@ -101,7 +102,7 @@ fn holds(alloc: Global, row: &str) -> Option<bool> {
     let (statements, told_ends) = row.split_once(" > ")?;
     let (ends, left) = told_ends.split_once(' ')?;
     let (blocks, next) = left.split_once(' ')?;
-    let (blocks, next) = (blocks.parse::<u64>().ok()?, next.parse::<u128>().ok()?);
+    let (blocks, next) = (blocks.parse::<u64>().ok()?, next.parse::<u64>().ok()?);
     let store = settled(alloc, store_told(alloc, told)?, statements, ends)?;
     is_reloaded(alloc, store, blocks, next)
 }

@@ -1,6 +1,6 @@
 -- How a commit ends that has passed its checks, case by case.
 use Rattle.std.proofs.Common.{◌≡◌, ◌∙◌, ℕ, ◌^◌, ◌<◌, inr, List, Option, refl, sym, ap, subst}
-use Rattle.std.specs.Prelude.{IsTrue, ℤ, Result, Ok, Err}
+use Rattle.std.specs.Prelude.{IsTrue, ℤ, Some, None, Result, Ok, Err}
 use Rattle.ion_values.specs.declared.time.TimeParts.{TimeParts}
 use Rattle.ion_values.specs.Time.{is_time}
 use Rattle.ql_types.specs.declared.Hash32.{Hash32}
@@ -17,7 +17,8 @@ use Rattle.ledger_core.specs.declared.commit.CommitFault.TheVariants.{EndedTxn, 
 use Rattle.ledger_core.specs.declared.keeping.SettleFault.{SettleFault}
 use Rattle.ledger_core.specs.declared.keeping.SettleFault.TheVariants as settle
 use Rattle.ledger_core.specs.Attempting.{next_block, receipt_of}
-use Rattle.ledger_core.specs.Committing.{CommitEnds, ComesTo, IsAnswer, IsOpenOn, MayHoldPartOf, PassesChecks, Seals, fault_of}
+use Rattle.ledger_core.specs.Committing.{CommitEnds, ComesTo, IsAnswer, IsOpenOn, IsTried, MayHoldPartOf, PassesChecks, Seals, fault_of}
+use Rattle.ledger_core.specs.Faults.{IsTriedWith}
 use Rattle.ledger_core.specs.Tails.{MayHoldPart, TailHeld, joined}
 use Rattle.ledger_core.proofs.Openings.{joined_open, open_made, open_stands, open_undamaged}
 
@@ -88,6 +89,13 @@ module _ {S C : Type 0} (told : S → StoreTold) (answers : C → Option (List �
       pub put_faulted : (fault : SettleFault) → m.standing ≡ n.standing → CommitEnds h.standing t sent Told (Err (fault_of fault)) m.standing
       put_faulted (settle.StoreFault count) kept = record { block = next_block t n.standing.blocks time; comes = comes; now_is = kept ∙ same }
       put_faulted settle.OutOfMemory kept = (r.checks.goes_on, kept ∙ same)
+
+      pub put_tried : (fault : SettleFault) (tried : Option Block) → IsTriedWith (next_block t n.standing.blocks time) fault tried
+          → IsTried h.standing t sent Told (fault_of fault) tried
+      put_tried (settle.StoreFault count) None is = absurd is
+      put_tried (settle.StoreFault count) (Some b) is = subst (λ (x : Block). ComesTo h.standing t sent Told x) (sym is) comes
+      put_tried settle.OutOfMemory None is = tt
+      put_tried settle.OutOfMemory (Some b) is = subst (λ (x : Block). ComesTo h.standing t sent Told x) (sym is) comes
 
       pub put_part : MayHoldPart n.standing.blocks (next_block t n.standing.blocks time) (held (told n.store)) (held (told m.store))
           → MayHoldPartOf h.standing t sent Told (held (told h.store)) (held (told m.store))

@@ -1,11 +1,14 @@
 -- A tail after an append.
 use Rattle.std.proofs.Common.{◌≡◌, ◌∙◌, ℕ, ◌+◌, Bool, true, List, [], ◌∷◌, ◌++◌, length, take, length-append, sym, ap, subst, inl, inr, Option, ◌⊎◌}
-use Rattle.std.specs.Prelude.{option_map, IfSome, Result, Ok, Err, OnErr}
+use Rattle.std.specs.Prelude.{option_map, IfSome, Some, Result, Ok, Err, OnErr}
 use Rattle.ledger_model.specs.declared.block.Block.{Block}
 use Rattle.ledger_model.specs.Journal.{line, journal_bytes}
 use Rattle.ledger_model.specs.State.{State, state, after}
 use Rattle.ledger_claims.specs.Attempts.{IsStanding}
-use Rattle.ledger_core.specs.Tails.{IsTail, HoldsMarked, HoldsPart, MayHoldPart, cleared}
+use Rattle.ledger_core.specs.declared.keeping.SettleFault.{SettleFault}
+use Rattle.ledger_core.specs.declared.keeping.SettleFault.TheVariants as settle
+use Rattle.ledger_core.specs.Faults.{IsTriedWith}
+use Rattle.ledger_core.specs.Tails.{IsTail, HoldsMarked, HoldsPart, Leaves, MayHoldPart, cleared}
 use Rattle.ledger_core.proofs.Kept.{holds-behind, unmarked, part-marked, part-holds}
 use Rattle.ledger_core.proofs.Standings.{journal-more, state-more}
 
@@ -42,6 +45,15 @@ may-hold mask last blocks b marked size before now text version (tail, listed) i
 pub on-err : {T E P : Type 0} (r : Result T E) → P → OnErr r P
 on-err (Ok x) p = tt
 on-err (Err e) p = p
+
+-- the block's line had come to the store
+pub tried_with : (b tried : Block) (fault : SettleFault) → tried ≡ b → IsTriedWith b fault (Some tried)
+tried_with b tried (settle.StoreFault count) is = is
+tried_with b tried settle.OutOfMemory is = is
+
+pub left_with : (blocks : List Block) (b tried : Block) (before now : Option (List ℕ)) → tried ≡ b → MayHoldPart blocks b before now
+    → Leaves blocks (Some tried) before now
+left_with blocks b tried before now is part = subst (λ (x : Block). MayHoldPart blocks x before now) (sym is) part
 
 -- ---- after an append
 

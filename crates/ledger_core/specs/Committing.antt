@@ -22,6 +22,7 @@ use Rattle.ledger_claims.specs.Attempts.{Standing}
 use Rattle.txn_core.specs.Opened.{Opened}
 use Rattle.ledger_core.specs.declared.appending.Receipt.{Receipt}
 use Rattle.ledger_core.specs.declared.commit.CommitFault.{CommitFault}
+use Rattle.ledger_core.specs.declared.commit.Uncommitted.{Uncommitted}
 use Rattle.ledger_core.specs.declared.commit.CommitFault.TheVariants.{EndedTxn, DigestDiffers, Conflict, JournalFull, StoreFault, OutOfMemory}
 use Rattle.ledger_core.specs.declared.keeping.SettleFault.{SettleFault}
 use Rattle.ledger_core.specs.declared.keeping.SettleFault.TheVariants as settle
@@ -132,6 +133,19 @@ abbrev pub CommitEnds : Standing → Opened → Option Hash32 → (TimeParts →
 CommitEnds s t sent told (Ok receipt) now = Seals s t sent told receipt now
 CommitEnds s t sent told (Err (StoreFault count)) now = Fails s t sent told now
 CommitEnds s t sent told (Err fault) now = IsFound s t sent fault × (now ≡ s)
+
+-- the block with which a commit that wasn't done had come to its store, if it had
+abbrev pub IsTried : Standing → Opened → Option Hash32 → (TimeParts → Type 0) → CommitFault → Option Block → Type 0
+IsTried s t sent told (StoreFault count) (Some b) = ComesTo s t sent told b
+IsTried s t sent told OutOfMemory (Some b) = ComesTo s t sent told b
+IsTried s t sent told (StoreFault count) None = ⊥
+IsTried s t sent told other None = Unit {0}
+IsTried s t sent told other (Some b) = ⊥
+
+-- the answer without that block
+abbrev pub told_end : Result Receipt Uncommitted → Result Receipt CommitFault
+told_end (Ok receipt) = Ok receipt
+told_end (Err e) = Err e.fault
 
 -- ---- the store
 

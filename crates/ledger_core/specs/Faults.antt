@@ -1,5 +1,6 @@
 -- Why a store was not cut or took no line.
-use Rattle.std.specs.Prelude.{◌≡◌, ℕ, ◌<◌, true}
+use Rattle.std.specs.Prelude.{◌≡◌, ℕ, ◌<◌, true, Option, Some, None}
+use Rattle.ledger_model.specs.declared.block.Block.{Block}
 use Rattle.outside.specs.Told.{StoreTold}
 use Rattle.outside.specs.declared.traits.OutFault.{OutFault}
 use Rattle.outside.specs.declared.traits.OutFault.TheVariants as out
@@ -16,6 +17,12 @@ pub record IsStoreFault (count : ℕ) (before after : StoreTold) : Type 0 where
 abbrev pub IsSettleFault : SettleFault → StoreTold → StoreTold → Type 0
 IsSettleFault (fault.StoreFault count) before after = IsStoreFault count before after
 IsSettleFault fault.OutOfMemory before after = after.faults ≡ before.faults
+
+-- the block's line had come to the store where that failed, and perhaps where memory was wanted
+abbrev pub IsTriedWith : Block → SettleFault → Option Block → Type 0
+IsTriedWith b (fault.StoreFault count) None = ⊥
+IsTriedWith b fault.OutOfMemory None = Unit {0}
+IsTriedWith b other (Some tried) = tried ≡ b
 
 -- the store's fault, with how often it has failed
 abbrev pub told : OutFault → ℕ → SettleFault

@@ -1,6 +1,6 @@
 -- The tail of a journal: the blocks that its store has taken, the numbers that its transactions have, and what stands behind
 -- the lines of the blocks in the store. A store keeps the journal as the lines of its blocks, one behind another.
-use Rattle.std.specs.Prelude.{◌≡◌, ◌⊎◌, ℕ, Bool, true, false, refl, List, [], ◌∷◌, ◌++◌, length, take, Option, IfSome, option_map, if◌then◌else◌}
+use Rattle.std.specs.Prelude.{◌≡◌, ◌⊎◌, ℕ, Bool, true, false, refl, List, [], ◌∷◌, ◌++◌, length, take, Option, Some, None, IfSome, option_map, if◌then◌else◌}
 use Rattle.std.specs.Coded.{Coded, code_by, coded×, coded_ℕ, coded_bool, coded_list}
 use Rattle.ledger_model.specs.declared.block.Block.{Block}
 use Rattle.ledger_model.specs.contracts.block.Block as block
@@ -56,6 +56,11 @@ HoldsPart marked size line before now = (kept : ℕ) × (now ≡ option_map (λ 
 -- the bytes are as before, or a part of the block's line stands behind the lines of the blocks, perhaps none of it or all
 abbrev pub MayHoldPart : List Block → Block → Option (List ℕ) → Option (List ℕ) → Type 0
 MayHoldPart blocks b before now = (now ≡ before) ⊎ ((kept : ℕ) × HoldsBehind blocks (take kept (line b)) now)
+
+-- where no line had come to the store, it is as before
+abbrev pub Leaves : List Block → Option Block → Option (List ℕ) → Option (List ℕ) → Type 0
+Leaves blocks None before now = now ≡ before
+Leaves blocks (Some tried) before now = MayHoldPart blocks tried before now
 
 -- after a call nothing of the store was changed, a cut is marked, or all bytes are synced
 abbrev pub EndsSynced : Bool → StoreTold → Bool → StoreTold → Type 0

@@ -1,21 +1,22 @@
 //! Putting a transaction's block behind the others.
-ghost use Rattle.std.specs.Prelude.{◌≡◌, ◌≤◌, ◌⊎◌, true, IfOk, OnOk, OnErr, IfErr, IsTrue};
+ghost use Rattle.std.specs.Prelude.{◌≡◌, ◌≤◌, ◌⊎◌, true, IfOk, OnOk, OnErr, IfErr, IsTrue, option_map};
 ghost use Rattle.ledger_model.specs.Whole.{place_fits};
 ghost use Rattle.ledger_claims.specs.Attempts.{IsStanding};
 ghost use Rattle.ledger_claims.specs.Stores.{Holding, IsSynced};
 ghost use Rattle.outside.specs.Told.{held};
-ghost use Rattle.ledger_core.specs.Faults.{IsSettleFault};
-ghost use Rattle.ledger_core.specs.Tails.{MayHoldPart, joined};
+ghost use Rattle.ledger_core.specs.Faults.{IsSettleFault, IsTriedWith};
+ghost use Rattle.ledger_core.specs.Tails.{Leaves, MayHoldPart, joined};
 ghost use Rattle.ledger_core.specs.Attempting.{next_block, receipt_of};
 
 use crate::keeping::SettleFault;
 use crate::sealing::into_block;
 use crate::tail::Tail;
-use ion_values::IonTime;
+use ion_values::{IonTime, OutOfMemory};
 use ledger_model::Block;
 use outside::JournalStore;
 use ql_types::{Hash32, Place};
 use std::alloc::Global;
+use std::snapshot::Snapshot;
 use txn_core::Txn;
 
 /// The most blocks that a journal has.
@@ -29,6 +30,27 @@ pub struct Receipt {
     pub time: IonTime,
 }
 
+/// Why a block was not put behind the others. Contracts see the block where its line had come to the store.
+#[derive(Drop)]
+pub(crate) struct Unkept {
+    pub(crate) fault: SettleFault,
+    pub(crate) tried: Option<Snapshot<Block>>,
+}
+
+impl From<OutOfMemory> for Unkept {
+    ghost use Rattle.std.specs.Prelude.{◌≡◌, None};
+    ghost use Rattle.ledger_core.specs.declared.keeping.SettleFault.TheVariants as fails;
+
+    ghost from_gives = { λ _ e. e ≡ record { fault = fails.OutOfMemory; tried = None } };
+
+    fn from(_error: OutOfMemory) -> Unkept {
+        Unkept {
+            fault: SettleFault::OutOfMemory,
+            tried: None,
+        }
+    }
+}
+
 impl<S: JournalStore, C> Tail<S, C> {
     /// Puts the transaction's block behind the others, in the store first, and tells of it. After a fault the blocks are as before.
     pub(crate) fn append_next(
@@ -36,7 +58,7 @@ impl<S: JournalStore, C> Tail<S, C> {
         alloc: Global,
         txn: Txn,
         time: IonTime,
-    ) -> Result<Receipt, SettleFault>
+    ) -> Result<Receipt, Unkept>
         requires { IsStanding (joined self.old.standing (next_block txn self.old.standing.blocks time)) }
         ensures standing { OnOk result (self.new.standing ≡ joined self.old.standing (next_block txn self.old.standing.blocks time)) }
         ensures receipt { IfOk result (λ receipt. receipt ≡ receipt_of (next_block txn self.old.standing.blocks time)) }
@@ -47,10 +69,14 @@ impl<S: JournalStore, C> Tail<S, C> {
         ensures part { OnErr result (MayHoldPart self.old.standing.blocks
             (next_block txn self.old.standing.blocks time) (held (S.told self.old.store))
             (held (S.told self.new.store))) }
+        ensures tried { IfErr result (λ e. IsTriedWith (next_block txn self.old.standing.blocks time) e.fault
+            (option_map (λ b. b.value) e.tried)) }
+        ensures left { IfErr result (λ e. Leaves self.old.standing.blocks (option_map (λ b. b.value) e.tried)
+            (held (S.told self.old.store)) (held (S.told self.new.store))) }
         ensures marked { OnErr result ((self.new ≡ self.old) ⊎ (self.new.marked ≡ true)) }
         ensures later { (S.told self.old.store).faults ≤ (S.told self.new.store).faults }
         ensures fine { OnOk result ((S.told self.new.store).faults ≡ (S.told self.old.store).faults) }
-        ensures fault { IfErr result (λ fault. IsSettleFault fault (S.told self.old.store) (S.told self.new.store)) }
+        ensures fault { IfErr result (λ e. IsSettleFault e.fault (S.told self.old.store) (S.told self.new.store)) }
     {
         let block = into_block(alloc, txn, time, self.blocks().as_slice())?;
         let receipt = receipt_of(&block);

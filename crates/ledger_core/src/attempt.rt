@@ -97,7 +97,7 @@ impl<S: JournalStore, C: Clock> Tail<S, C> {
 
 /// How the end of a commit is told as the outcome of its job's transaction, of this id and on so many blocks. A
 /// transaction of which a statement was refused isn't committed.
-fn outcome_of(tx: TxId, since: u64, answer: Result<Receipt, CommitFault>) -> Outcome
+pub fn outcome_of(tx: TxId, since: u64, answer: Result<Receipt, CommitFault>) -> Outcome
     ensures { result ≡ outcome_of tx since answer }
 {
     match answer {

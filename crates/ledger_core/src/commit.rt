@@ -1,24 +1,26 @@
 //! The commit of an open transaction.
-ghost use Rattle.std.specs.Prelude.{◌≡◌, ◌≤◌, ◌⊎◌, true, false, length, Some, None, IfOk, IfErr, OnOk, OnErr};
+ghost use Rattle.std.specs.Prelude.{◌≡◌, ◌≤◌, ◌⊎◌, true, false, length, Some, None, IfOk, IfErr, OnOk, OnErr, option_map};
 ghost use Rattle.ion_values.specs.declared.time.TimeParts.{TimeParts};
 ghost use Rattle.ledger_claims.specs.Attempts.{IsStanding};
 ghost use Rattle.ledger_claims.specs.Stores.{Holding, IsSynced};
 ghost use Rattle.outside.specs.Told.{held};
 ghost use Rattle.txn_core.specs.Opened.{Opened};
 ghost use Rattle.ledger_core.specs.Committing.{Checked, CommitEnds, IsAnswer, IsCommitFault, IsFound, IsOpenOn};
-ghost use Rattle.ledger_core.specs.Committing.{IsService, MayHoldPartOf, conflict_of, digest_of, is_own};
+ghost use Rattle.ledger_core.specs.Committing.{IsService, IsTried, MayHoldPartOf, conflict_of, digest_of, is_own, told_end};
+ghost use Rattle.ledger_core.specs.Tails.{Leaves};
 
-use crate::appending::{MOST_BLOCKS, Receipt, is_within};
+use crate::appending::{MOST_BLOCKS, Receipt, Unkept, is_within};
 use crate::keeping::SettleFault;
 use crate::tail::Tail;
 use ion_time::clamped;
 use ion_values::{IonTime, OutOfMemory};
-use ledger_model::{Named, Said};
+use ledger_model::{Block, Named, Said};
 use occ_check::first_conflict;
 use outside::{Clock, JournalStore};
 use ql_types::{Hash32, TxId};
 use session_driver::{fold_statement, start_digest};
 use std::alloc::Global;
+use std::snapshot::Snapshot;
 use txn_core::Txn;
 
 /// Why a transaction wasn't committed.
@@ -35,6 +37,14 @@ pub enum CommitFault {
     /// The store failed in its last call, and had failed so often then.
     StoreFault { count: u64 },
     OutOfMemory,
+}
+
+/// Why a transaction wasn't committed. Contracts see the block whose line it was to become, where that had come to the
+/// store.
+#[derive(Drop)]
+pub struct Uncommitted {
+    pub fault: CommitFault,
+    pub tried: Option<Snapshot<Block>>,
 }
 
 impl From<OutOfMemory> for CommitFault {
@@ -118,13 +128,57 @@ impl<S: JournalStore, C: Clock> Tail<S, C> {
         ensures fine { OnOk result ((S.told self.new.store).faults ≡ (S.told self.old.store).faults) }
         ensures fault { IfErr result (λ fault. IsCommitFault fault (S.told self.old.store) (S.told self.new.store)) }
     {
-        self.checked(alloc, &txn, sent)?;
+        match self.try_commit(alloc, txn, sent) {
+            Ok(receipt) => Ok(receipt),
+            Err(uncommitted) => Err(uncommitted.fault),
+        }
+    }
+
+    /// The same, which shows contracts the block where the commit had come to its store and failed there. The digest is
+    /// sent or not.
+    pub fn try_commit(
+        &mut self,
+        alloc: Global,
+        txn: Txn,
+        sent: Option<Hash32>,
+    ) -> Result<Receipt, Uncommitted>
+        requires { IsOpenOn self.old.standing txn }
+        ensures ends { CommitEnds self.old.standing txn sent
+            (IsAnswer (C.answers self.old.clock) (C.answers self.new.clock) (C.always self.old.clock)) (told_end result)
+            self.new.standing }
+        ensures tried { IfErr result (λ e. IsTried self.old.standing txn sent
+            (IsAnswer (C.answers self.old.clock) (C.answers self.new.clock) (C.always self.old.clock)) e.fault
+            (option_map (λ b. b.value) e.tried)) }
+        ensures left { IfErr result (λ e. Leaves self.old.standing.blocks (option_map (λ b. b.value) e.tried)
+            (held (S.told self.old.store)) (held (S.told self.new.store))) }
+        ensures unasked { IfErr result (λ e. IsService e.fault ⊎ (self.new ≡ self.old)) }
+        ensures asked { (self.new ≡ self.old) ⊎ ((time : TimeParts)
+            × IsAnswer (C.answers self.old.clock) (C.answers self.new.clock) (C.always self.old.clock) time) }
+        ensures always { C.always self.new.clock ≡ C.always self.old.clock }
+        ensures holds { OnOk result (Holding self.new.standing.blocks (held (S.told self.new.store))) }
+        ensures synced { OnOk result (IsSynced (S.told self.new.store)) }
+        ensures part { OnErr result (MayHoldPartOf self.old.standing txn sent
+            (IsAnswer (C.answers self.old.clock) (C.answers self.new.clock) (C.always self.old.clock))
+            (held (S.told self.old.store)) (held (S.told self.new.store))) }
+        ensures marked { OnErr result ((self.new ≡ record self.old { clock = self.new.clock }) ⊎ (self.new.marked ≡ true)) }
+        ensures fine { OnOk result ((S.told self.new.store).faults ≡ (S.told self.old.store).faults) }
+        ensures fault { IfErr result (λ e. IsCommitFault e.fault (S.told self.old.store) (S.told self.new.store)) }
+    {
+        match self.checked(alloc, &txn, sent) {
+            Ok(()) => {}
+            Err(fault) => return Err(Uncommitted { fault, tried: None }),
+        }
         self.is_tail();
         let time = self.time();
         is_within(txn.place());
         txn.is_within();
-        let receipt = self.append_next(alloc, txn, time)?;
-        Ok(receipt)
+        match self.append_next(alloc, txn, time) {
+            Ok(receipt) => Ok(receipt),
+            Err(Unkept { fault, tried }) => Err(Uncommitted {
+                fault: CommitFault::from(fault),
+                tried,
+            }),
+        }
     }
 
     /// The clock's time. The clock is asked once.

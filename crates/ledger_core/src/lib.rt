@@ -13,8 +13,9 @@ mod settle;
 mod tail;
 
 pub use appending::Receipt;
+pub use attempt::outcome_of;
 pub use begin::BeginFault;
-pub use commit::CommitFault;
+pub use commit::{CommitFault, Uncommitted};
 pub use core_machine::{commits_stand_once, conflict_comes_exactly, history_stays_legal};
 pub use keeping::SettleFault;
 pub use laws::{

@@ -1,12 +1,13 @@
 //! The tail of a journal over its store.
-ghost use Rattle.std.specs.Prelude.{◌≡◌, IfOk, OnErr, OnOk, IfErr, ◌<◌, ◌^◌, ◌≤◌, ◌⊎◌, true, false};
+ghost use Rattle.std.specs.Prelude.{◌≡◌, IfOk, OnErr, OnOk, IfErr, ◌<◌, ◌^◌, ◌≤◌, ◌⊎◌, true, false, option_map};
 ghost use Rattle.ledger_model.specs.State.{state};
 ghost use Rattle.ledger_claims.specs.Attempts.{IsStanding};
 ghost use Rattle.ledger_claims.specs.Stores.{Holding, IsSynced};
 ghost use Rattle.outside.specs.Told.{held};
-ghost use Rattle.ledger_core.specs.Faults.{IsSettleFault};
-ghost use Rattle.ledger_core.specs.Tails.{MayHoldPart, joined};
+ghost use Rattle.ledger_core.specs.Faults.{IsSettleFault, IsTriedWith};
+ghost use Rattle.ledger_core.specs.Tails.{Leaves, MayHoldPart, joined};
 
+use crate::appending::Unkept;
 use crate::keeping::{Keeper, SettleFault};
 use ion_values::OutOfMemory;
 use journal_text::line;
@@ -15,6 +16,7 @@ use outside::JournalStore;
 use ql_types::IdMask;
 use std::alloc::Global;
 use std::marker::Model;
+use std::snapshot::Snapshot;
 use versions::Versions;
 
 /// The blocks of a journal and the store that keeps them, with the clock that tells when a block was made. Behind the
@@ -70,7 +72,7 @@ impl<S: JournalStore, C> Tail<S, C> {
     }
 
     /// Puts a block behind the others, in the store first. After a fault the blocks are as before.
-    pub(crate) fn append_block(&mut self, alloc: Global, block: Block) -> Result<(), SettleFault>
+    pub(crate) fn append_block(&mut self, alloc: Global, block: Block) -> Result<(), Unkept>
         requires { IsStanding (joined self.old.standing block) }
         ensures standing { OnOk result (self.new.standing ≡ joined self.old.standing block) }
         ensures same { OnErr result (self.new.standing ≡ self.old.standing) }
@@ -80,15 +82,26 @@ impl<S: JournalStore, C> Tail<S, C> {
         ensures settled { OnOk result (self.new.marked ≡ false) }
         ensures part { OnErr result (MayHoldPart self.old.standing.blocks block (held (S.told self.old.store))
             (held (S.told self.new.store))) }
-        ensures marked { IfErr result (λ fault. ((fault ≡ SettleFault.OutOfMemory) × (self.new ≡ self.old)) ⊎ (self.new.marked ≡ true)) }
+        ensures tried { IfErr result (λ e. IsTriedWith block e.fault (option_map (λ b. b.value) e.tried)) }
+        ensures left { IfErr result (λ e. Leaves self.old.standing.blocks (option_map (λ b. b.value) e.tried)
+            (held (S.told self.old.store)) (held (S.told self.new.store))) }
+        ensures marked { IfErr result (λ e. ((e.fault ≡ SettleFault.OutOfMemory) × (self.new ≡ self.old)) ⊎ (self.new.marked ≡ true)) }
         ensures later { (S.told self.old.store).faults ≤ (S.told self.new.store).faults }
         ensures fine { OnOk result ((S.told self.new.store).faults ≡ (S.told self.old.store).faults) }
-        ensures fault { IfErr result (λ fault. IsSettleFault fault (S.told self.old.store) (S.told self.new.store)) }
+        ensures fault { IfErr result (λ e. IsSettleFault e.fault (S.told self.old.store) (S.told self.new.store)) }
     {
         let version = self.version.after(&block)?;
         self.blocks.make_room()?;
         let text = line(alloc, &block)?;
-        self.keeper.keep_line(text.as_str().as_bytes())?;
+        match self.keeper.keep_line(text.as_str().as_bytes()) {
+            Ok(()) => {}
+            Err(fault) => {
+                return Err(Unkept {
+                    fault,
+                    tried: Some(Snapshot::of(&block)),
+                });
+            }
+        }
         self.version = version;
         self.blocks.push(block).unwrap();
         Ok(())
