@@ -2,8 +2,9 @@
 ghost use Rattle.std.specs.Prelude.{◌≡◌, ◌++◌, OnOk, IfOk};
 ghost use Rattle.hash_forms.specs.Serialize.{escape, in_order, joined};
 
+use super::buffer::Buffer;
 use super::scalars::put_escaped;
-use lists::{Bytes, OutOfMemory};
+use lists::OutOfMemory;
 
 /// The hashes in the order of their bytes.
 pub fn ordered(hashes: Vec<[u8; 32]>) -> Result<Vec<[u8; 32]>, OutOfMemory>
@@ -15,7 +16,7 @@ pub fn ordered(hashes: Vec<[u8; 32]>) -> Result<Vec<[u8; 32]>, OutOfMemory>
 }
 
 /// Puts the hashes one after the other, escaped.
-pub fn put_hashes(out: &mut Bytes, hashes: &[[u8; 32]]) -> Result<(), OutOfMemory>
+pub fn put_hashes(out: &mut Buffer, hashes: &[[u8; 32]]) -> Result<(), OutOfMemory>
     ensures { OnOk result (out.new ≡ out.old ++ escape (joined hashes.now)) }
 {
     for hash in hashes {

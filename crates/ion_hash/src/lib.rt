@@ -1,6 +1,7 @@
 //! The serialization of values by the Ion Hash specification, and their hashes.
 #![tactic(auto)]
 
+mod buffer;
 mod fields;
 mod numbers;
 mod scalars;

@@ -2,11 +2,12 @@
 ghost use Rattle.std.specs.Prelude.{◌≡◌, ◌++◌, ◌<◌, ◌≤◌, ◌+◌, OnOk};
 ghost use Rattle.hash_forms.specs.Numbers.{digits_of, ended, int_field, magnitude, var_int, var_uint};
 
-use lists::{Bytes, OutOfMemory};
+use super::buffer::Buffer;
+use lists::OutOfMemory;
 
 // The digits in the base, the first of them below the limit and with the mark added.
 fn put_digits(
-    out: &mut Bytes,
+    out: &mut Buffer,
     base: u128,
     limit: u128,
     mark: u128,
@@ -27,7 +28,7 @@ fn put_digits(
 }
 
 // Groups of 7 bits, the first of them below the limit and with the mark added.
-fn put_groups(out: &mut Bytes, limit: u128, mark: u128, number: u128) -> Result<(), OutOfMemory>
+fn put_groups(out: &mut Buffer, limit: u128, mark: u128, number: u128) -> Result<(), OutOfMemory>
     requires some { 1 ≤ limit }
     requires room { mark + limit ≤ 128 }
     ensures { OnOk result (out.new ≡ out.old ++ ended (digits_of 128 limit mark number)) }
@@ -41,7 +42,7 @@ fn put_groups(out: &mut Bytes, limit: u128, mark: u128, number: u128) -> Result<
 }
 
 /// Puts a magnitude.
-pub fn put_magnitude(out: &mut Bytes, number: u128) -> Result<(), OutOfMemory>
+pub fn put_magnitude(out: &mut Buffer, number: u128) -> Result<(), OutOfMemory>
     ensures { OnOk result (out.new ≡ out.old ++ magnitude number) }
 {
     if number == 0 {
@@ -51,7 +52,7 @@ pub fn put_magnitude(out: &mut Bytes, number: u128) -> Result<(), OutOfMemory>
 }
 
 /// Puts an Int.
-pub fn put_int_field(out: &mut Bytes, negative: bool, number: u128) -> Result<(), OutOfMemory>
+pub fn put_int_field(out: &mut Buffer, negative: bool, number: u128) -> Result<(), OutOfMemory>
     ensures { OnOk result (out.new ≡ out.old ++ int_field negative number) }
 {
     if number == 0 && !negative {
@@ -61,14 +62,14 @@ pub fn put_int_field(out: &mut Bytes, negative: bool, number: u128) -> Result<()
 }
 
 /// Puts a VarUInt.
-pub fn put_var_uint(out: &mut Bytes, number: u32) -> Result<(), OutOfMemory>
+pub fn put_var_uint(out: &mut Buffer, number: u32) -> Result<(), OutOfMemory>
     ensures { OnOk result (out.new ≡ out.old ++ var_uint number) }
 {
     put_groups(out, 128, 0, number as u128)
 }
 
 /// Puts a VarInt.
-pub fn put_var_int(out: &mut Bytes, negative: bool, number: u32) -> Result<(), OutOfMemory>
+pub fn put_var_int(out: &mut Buffer, negative: bool, number: u32) -> Result<(), OutOfMemory>
     ensures { OnOk result (out.new ≡ out.old ++ var_int negative number) }
 {
     put_groups(out, 64, if negative { 64 } else { 0 }, number as u128)

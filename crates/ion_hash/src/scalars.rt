@@ -1,13 +1,15 @@
 //! Frames, and what stands in them of values that hold no others.
-ghost use Rattle.std.specs.Prelude.{◌≡◌, ◌++◌, ◌∷◌, [], unsigned_abs, OnOk, IfOk};
+ghost use Rattle.std.specs.Prelude.{◌≡◌, ◌≤◌, ◌++◌, ◌∷◌, [], drop, length, take, unsigned_abs, OnOk, IfOk};
 ghost use Rattle.hash_forms.specs.Numbers.{is_below_zero, magnitude};
-ghost use Rattle.hash_forms.specs.Serialize.{decimal_bytes, escape, escaped, framed, int_qualifier, is_control, null_qualifier, scalar, symbol_bytes};
+ghost use Rattle.hash_forms.specs.Serialize.{decimal_bytes, escape, escaped, framed, int_qualifier, null_qualifier, scalar, symbol_bytes};
 ghost use Rattle.hash_forms.specs.Timestamps.{timestamp_bytes};
 
+use super::buffer::Buffer;
 use super::numbers::{put_int_field, put_magnitude, put_var_int};
 use super::timestamps::put_timestamp;
 use ion_values::{Decimal, IonTime, Kind};
-use lists::{Bytes, OutOfMemory, Sequence};
+use lists::OutOfMemory;
+use memchr::memchr3;
 use std::alloc::Global;
 
 /// Begins a frame.
@@ -19,7 +21,7 @@ pub const ESCAPE: u8 = 0x0C;
 /// Ends a frame.
 pub const END: u8 = 0x0E;
 
-fn put_escaped_byte(out: &mut Bytes, byte: u8) -> Result<(), OutOfMemory>
+fn put_escaped_byte(out: &mut Buffer, byte: u8) -> Result<(), OutOfMemory>
     ensures { OnOk result (out.new ≡ out.old ++ escaped byte) }
 {
     if byte == BEGIN || byte == ESCAPE || byte == END {
@@ -28,19 +30,36 @@ fn put_escaped_byte(out: &mut Bytes, byte: u8) -> Result<(), OutOfMemory>
     out.push(byte)
 }
 
+/// How many bytes in front stand as they are.
+fn plain_len(bytes: &[u8]) -> usize
+    ensures plain { escape bytes.now ≡ take result bytes.now ++ escape (drop result bytes.now) }
+    ensures within { result ≤ length bytes.now }
+{
+    match memchr3(BEGIN, ESCAPE, END, bytes) {
+        Some(len) => len,
+        None => bytes.len(),
+    }
+}
+
 /// Puts the bytes with an escape before each that would else begin, end or escape.
-pub fn put_escaped(out: &mut Bytes, bytes: &[u8]) -> Result<(), OutOfMemory>
+pub fn put_escaped(out: &mut Buffer, bytes: &[u8]) -> Result<(), OutOfMemory>
     ensures { OnOk result (out.new ≡ out.old ++ escape bytes.now) }
 {
-    for byte in bytes {
+    let mut rest = bytes;
+    'runs: loop {
+        let (plain, others) = rest.split_at(plain_len(rest));
+        out.extend(plain)?;
+        let Some((byte, more)) = others.split_first() else {
+            return Ok(());
+        };
         put_escaped_byte(out, *byte)?;
+        rest = more;
     }
-    Ok(())
 }
 
 /// Puts a scalar of which this is the representation.
 pub fn put_scalar(
-    out: &mut Bytes,
+    out: &mut Buffer,
     type_qualifier: u8,
     representation: &[u8],
 ) -> Result<(), OutOfMemory>
@@ -53,7 +72,7 @@ pub fn put_scalar(
 }
 
 /// Puts a symbol.
-pub fn put_symbol(out: &mut Bytes, text: &str) -> Result<(), OutOfMemory>
+pub fn put_symbol(out: &mut Buffer, text: &str) -> Result<(), OutOfMemory>
     ensures { OnOk result (out.new ≡ out.old ++ symbol_bytes text.now) }
 {
     put_scalar(out, 0x70, text.as_bytes())
@@ -79,26 +98,26 @@ fn qualifier_of_null(kind: Kind) -> u8
 }
 
 /// Puts a null.
-pub fn put_null(out: &mut Bytes, kind: Kind) -> Result<(), OutOfMemory>
+pub fn put_null(out: &mut Buffer, kind: Kind) -> Result<(), OutOfMemory>
     ensures { OnOk result (out.new ≡ out.old ++ framed (null_qualifier kind) []) }
 {
     put_scalar(out, qualifier_of_null(kind), &[])
 }
 
 /// Puts an int.
-pub fn put_int(alloc: Global, out: &mut Bytes, number: i128) -> Result<(), OutOfMemory>
+pub fn put_int(alloc: Global, out: &mut Buffer, number: i128) -> Result<(), OutOfMemory>
     ensures { OnOk result (out.new ≡ out.old ++ scalar (int_qualifier number) (magnitude (unsigned_abs number))) }
 {
-    let mut representation = Sequence::new(alloc);
+    let mut representation = Buffer::new(alloc)?;
     put_magnitude(&mut representation, number.unsigned_abs())?;
     let type_qualifier = if number < 0 { 0x30 } else { 0x20 };
     put_scalar(out, type_qualifier, representation.as_slice())
 }
 
-fn decimal_representation(alloc: Global, number: &Decimal) -> Result<Bytes, OutOfMemory>
+fn decimal_representation(alloc: Global, number: &Decimal) -> Result<Buffer, OutOfMemory>
     ensures { IfOk result (λ bytes. bytes ≡ decimal_bytes number.now) }
 {
-    let mut representation = Sequence::new(alloc);
+    let mut representation = Buffer::new(alloc)?;
     if number.exponent == 0 && number.coefficient == 0 && !number.negative_zero {
         return Ok(representation);
     }
@@ -116,7 +135,7 @@ fn decimal_representation(alloc: Global, number: &Decimal) -> Result<Bytes, OutO
 }
 
 /// Puts a decimal.
-pub fn put_decimal(alloc: Global, out: &mut Bytes, number: &Decimal) -> Result<(), OutOfMemory>
+pub fn put_decimal(alloc: Global, out: &mut Buffer, number: &Decimal) -> Result<(), OutOfMemory>
     ensures { OnOk result (out.new ≡ out.old ++ scalar 0x50 (decimal_bytes number.now)) }
 {
     let representation = decimal_representation(alloc, number)?;
@@ -124,10 +143,10 @@ pub fn put_decimal(alloc: Global, out: &mut Bytes, number: &Decimal) -> Result<(
 }
 
 /// Puts a timestamp.
-pub fn put_time(alloc: Global, out: &mut Bytes, time: &IonTime) -> Result<(), OutOfMemory>
+pub fn put_time(alloc: Global, out: &mut Buffer, time: &IonTime) -> Result<(), OutOfMemory>
     ensures { OnOk result (out.new ≡ out.old ++ scalar 0x60 (timestamp_bytes time.now)) }
 {
-    let mut representation = Sequence::new(alloc);
+    let mut representation = Buffer::new(alloc)?;
     put_timestamp(&mut representation, time)?;
     put_scalar(out, 0x60, representation.as_slice())
 }

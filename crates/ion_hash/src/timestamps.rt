@@ -5,9 +5,10 @@ ghost use Rattle.ion_values.specs.Dates.{day_after, day_before};
 ghost use Rattle.hash_forms.specs.Timestamps.{clock_bytes, day_bytes, fields_to, fraction_bytes, minute_bytes, month_bytes, offset_bytes, second_bytes, timestamp_bytes, utc_clock, utc_date, minutes_from_local_date};
 ghost use Rattle.ion_hash.specs.Dates.{date_of};
 
+use super::buffer::Buffer;
 use super::numbers::{put_int_field, put_var_int, put_var_uint};
 use ion_values::{IonTime, Precision, TimeParts};
-use lists::{Bytes, OutOfMemory};
+use lists::OutOfMemory;
 
 // A day of the calendar.
 #[derive(Clone, Copy)]
@@ -126,7 +127,7 @@ fn clock_in_utc(t: &TimeParts) -> u32
     }
 }
 
-fn put_offset(out: &mut Bytes, offset: Option<i16>) -> Result<(), OutOfMemory>
+fn put_offset(out: &mut Buffer, offset: Option<i16>) -> Result<(), OutOfMemory>
     ensures { OnOk result (out.new ≡ out.old ++ offset_bytes offset) }
 {
     match offset {
@@ -136,7 +137,7 @@ fn put_offset(out: &mut Bytes, offset: Option<i16>) -> Result<(), OutOfMemory>
 }
 
 // The fraction in units of its last digit.
-fn put_fraction(out: &mut Bytes, digits: u8, nanos: u32) -> Result<(), OutOfMemory>
+fn put_fraction(out: &mut Buffer, digits: u8, nanos: u32) -> Result<(), OutOfMemory>
     ensures { OnOk result (out.new ≡ out.old ++ fraction_bytes digits nanos) }
 {
     if digits == 0 {
@@ -147,35 +148,35 @@ fn put_fraction(out: &mut Bytes, digits: u8, nanos: u32) -> Result<(), OutOfMemo
     put_int_field(out, false, (nanos / unit) as u128)
 }
 
-fn put_clock(out: &mut Bytes, minutes: u32) -> Result<(), OutOfMemory>
+fn put_clock(out: &mut Buffer, minutes: u32) -> Result<(), OutOfMemory>
     ensures { OnOk result (out.new ≡ out.old ++ clock_bytes minutes) }
 {
     put_var_uint(out, minutes / 60)?;
     put_var_uint(out, minutes % 60)
 }
 
-fn put_month(out: &mut Bytes, date: Day) -> Result<(), OutOfMemory>
+fn put_month(out: &mut Buffer, date: Day) -> Result<(), OutOfMemory>
     ensures { OnOk result (out.new ≡ out.old ++ month_bytes (date_of date)) }
 {
     put_var_uint(out, date.year)?;
     put_var_uint(out, date.month)
 }
 
-fn put_day(out: &mut Bytes, date: Day) -> Result<(), OutOfMemory>
+fn put_day(out: &mut Buffer, date: Day) -> Result<(), OutOfMemory>
     ensures { OnOk result (out.new ≡ out.old ++ day_bytes (date_of date)) }
 {
     put_month(out, date)?;
     put_var_uint(out, date.day)
 }
 
-fn put_minute(out: &mut Bytes, t: &TimeParts, date: Day) -> Result<(), OutOfMemory>
+fn put_minute(out: &mut Buffer, t: &TimeParts, date: Day) -> Result<(), OutOfMemory>
     ensures { OnOk result (out.new ≡ out.old ++ minute_bytes t.now (date_of date)) }
 {
     put_day(out, date)?;
     put_clock(out, clock_in_utc(t))
 }
 
-fn put_second(out: &mut Bytes, t: &TimeParts, date: Day) -> Result<(), OutOfMemory>
+fn put_second(out: &mut Buffer, t: &TimeParts, date: Day) -> Result<(), OutOfMemory>
     ensures { OnOk result (out.new ≡ out.old ++ second_bytes t.now (date_of date)) }
 {
     put_minute(out, t, date)?;
@@ -183,7 +184,7 @@ fn put_second(out: &mut Bytes, t: &TimeParts, date: Day) -> Result<(), OutOfMemo
     put_fraction(out, t.digits, t.nanos)
 }
 
-fn put_fields(out: &mut Bytes, t: &TimeParts, date: Day) -> Result<(), OutOfMemory>
+fn put_fields(out: &mut Buffer, t: &TimeParts, date: Day) -> Result<(), OutOfMemory>
     ensures { OnOk result (out.new ≡ out.old ++ fields_to t.now.precision t.now (date_of date)) }
 {
     match t.precision {
@@ -195,7 +196,7 @@ fn put_fields(out: &mut Bytes, t: &TimeParts, date: Day) -> Result<(), OutOfMemo
     }
 }
 
-fn put_parts(out: &mut Bytes, t: &TimeParts) -> Result<(), OutOfMemory>
+fn put_parts(out: &mut Buffer, t: &TimeParts) -> Result<(), OutOfMemory>
     ensures { OnOk result (out.new ≡ out.old ++ timestamp_bytes t.now) }
 {
     put_offset(out, t.offset)?;
@@ -203,7 +204,7 @@ fn put_parts(out: &mut Bytes, t: &TimeParts) -> Result<(), OutOfMemory>
 }
 
 /// Puts the representation of a timestamp.
-pub fn put_timestamp(out: &mut Bytes, time: &IonTime) -> Result<(), OutOfMemory>
+pub fn put_timestamp(out: &mut Buffer, time: &IonTime) -> Result<(), OutOfMemory>
     ensures { OnOk result (out.new ≡ out.old ++ timestamp_bytes time.now) }
 {
     put_parts(out, &time.parts())

@@ -4,12 +4,13 @@ ghost use Rattle.std.specs.List.{flat_map};
 ghost use Rattle.sha2.specs.Sha256.{sha256};
 ghost use Rattle.hash_forms.specs.Serialize.{annotated, field_digest, field_hash, hash_of, joined, serialize, serialize_body, symbol_bytes};
 
+use super::buffer::Buffer;
 use super::fields::{ordered, put_hashes};
 use super::scalars::{
     BEGIN, END, put_decimal, put_int, put_null, put_scalar, put_symbol, put_time,
 };
 use ion_values::{Body, Field, Names, Value};
-use lists::{Bytes, OutOfMemory, Sequence};
+use lists::{Bytes, OutOfMemory};
 use ql_types::Hash32;
 use sha2::{Digest, Sha256};
 use std::alloc::Global;
@@ -18,9 +19,9 @@ use std::alloc::Global;
 pub fn serialize(alloc: Global, v: &Value) -> Result<Bytes, OutOfMemory>
     ensures { IfOk result (λ bytes. bytes ≡ serialize v.now) }
 {
-    let mut out = Sequence::new(alloc);
+    let mut out = Buffer::new(alloc)?;
     put_value(alloc, &mut out, v)?;
-    Ok(out)
+    Ok(out.into_bytes())
 }
 
 /// The value's hash: SHA-256 of its serialization.
@@ -35,7 +36,7 @@ pub fn hash(alloc: Global, v: &Value) -> Result<Hash32, OutOfMemory>
 }
 
 #[cycle(serialize)]
-fn put_value(alloc: Global, out: &mut Bytes, value: &Value) -> Result<(), OutOfMemory>
+fn put_value(alloc: Global, out: &mut Buffer, value: &Value) -> Result<(), OutOfMemory>
     ensures { OnOk result (out.new ≡ out.old ++ serialize value.now) }
 {
     if value.annotations.is_empty() {
@@ -48,7 +49,7 @@ fn put_value(alloc: Global, out: &mut Bytes, value: &Value) -> Result<(), OutOfM
     out.push(END)
 }
 
-fn put_annotations(out: &mut Bytes, names: &Names) -> Result<(), OutOfMemory>
+fn put_annotations(out: &mut Buffer, names: &Names) -> Result<(), OutOfMemory>
     ensures { OnOk result (out.new ≡ out.old ++ flat_map symbol_bytes names.now) }
 {
     for name in names.as_slice() {
@@ -58,7 +59,7 @@ fn put_annotations(out: &mut Bytes, names: &Names) -> Result<(), OutOfMemory>
 }
 
 #[cycle(serialize)]
-fn put_body(alloc: Global, out: &mut Bytes, body: &Body) -> Result<(), OutOfMemory>
+fn put_body(alloc: Global, out: &mut Buffer, body: &Body) -> Result<(), OutOfMemory>
     ensures { OnOk result (out.new ≡ out.old ++ serialize_body body.now) }
 {
     match body {
@@ -84,7 +85,7 @@ fn put_body(alloc: Global, out: &mut Bytes, body: &Body) -> Result<(), OutOfMemo
             out.push(END)
         }
         Body::Struct(fields) => {
-            let hashes = ordered(hashes_of(alloc, fields.as_slice())?)?;
+            let hashes = ordered(hashes_of(alloc, out, fields.as_slice())?)?;
             out.push(BEGIN)?;
             out.push(0xD0)?;
             put_hashes(out, &hashes)?;
@@ -94,7 +95,7 @@ fn put_body(alloc: Global, out: &mut Bytes, body: &Body) -> Result<(), OutOfMemo
 }
 
 #[cycle(serialize)]
-fn put_values(alloc: Global, out: &mut Bytes, values: &[Value]) -> Result<(), OutOfMemory>
+fn put_values(alloc: Global, out: &mut Buffer, values: &[Value]) -> Result<(), OutOfMemory>
     ensures { OnOk result (out.new ≡ out.old ++ joined (map serialize values.now)) }
 {
     for value in values {
@@ -103,24 +104,33 @@ fn put_values(alloc: Global, out: &mut Bytes, values: &[Value]) -> Result<(), Ou
     Ok(())
 }
 
+// The hash of a field, whose bytes stand behind the others only until it is made.
 #[cycle(serialize)]
 #[tactic(auto, unfolding(hash_forms::specs::Serialize::field_digest))]
-fn hash_field(alloc: Global, field: &Field) -> Result<[u8; 32], OutOfMemory>
-    ensures { IfOk result (λ hash. hash ≡ field_hash field.now) }
+fn hash_field(alloc: Global, out: &mut Buffer, field: &Field) -> Result<[u8; 32], OutOfMemory>
+    ensures hash { IfOk result (λ hash. hash ≡ field_hash field.now) }
+    ensures kept { IfOk result (λ hash. out.new ≡ out.old) }
 {
-    let mut bytes = Sequence::new(alloc);
-    put_symbol(&mut bytes, field.name.as_str())?;
-    put_value(alloc, &mut bytes, &field.value)?;
-    Ok(Sha256::digest(bytes.as_slice()))
+    let start = out.len();
+    put_symbol(out, field.name.as_str())?;
+    put_value(alloc, out, &field.value)?;
+    let hash = Sha256::digest(out.behind(start));
+    out.truncate(start);
+    Ok(hash)
 }
 
 #[cycle(serialize)]
-fn hashes_of(alloc: Global, fields: &[Field]) -> Result<Vec<[u8; 32]>, OutOfMemory>
-    ensures { IfOk result (λ hashes. hashes.items ≡ map field_hash fields.now) }
+fn hashes_of(
+    alloc: Global,
+    out: &mut Buffer,
+    fields: &[Field],
+) -> Result<Vec<[u8; 32]>, OutOfMemory>
+    ensures hashes { IfOk result (λ hashes. hashes.items ≡ map field_hash fields.now) }
+    ensures kept { IfOk result (λ hashes. out.new ≡ out.old) }
 {
-    let mut hashes = Vec::new(alloc);
+    let mut hashes = Vec::with_capacity(alloc, fields.len())?;
     for field in fields {
-        hashes.push(hash_field(alloc, field)?)?;
+        hashes.push(hash_field(alloc, out, field)?)?;
     }
     Ok(hashes)
 }

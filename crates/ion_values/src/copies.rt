@@ -40,35 +40,35 @@ fn copy_body(alloc: Global, body: &Body) -> Result<Body, OutOfMemory>
 pub fn copy_values(alloc: Global, values: &[Value]) -> Result<Values, OutOfMemory>
     ensures { IfOk result (λ new. new ≡ values.now) }
 {
-    let mut new = Sequence::new(alloc);
+    let mut new = Vec::with_capacity(alloc, values.len())?;
     for value in values {
         new.push(copy(alloc, value)?)?;
     }
-    Ok(new)
+    Ok(Sequence::from_vec(new))
 }
 
 #[cycle(copy)]
 fn copy_fields(alloc: Global, fields: &[Field]) -> Result<Fields, OutOfMemory>
     ensures { IfOk result (λ new. new ≡ fields.now) }
 {
-    let mut new = Sequence::new(alloc);
+    let mut new = Vec::with_capacity(alloc, fields.len())?;
     for field in fields {
         new.push(Field {
             name: field.name.copy(alloc)?,
             value: copy(alloc, &field.value)?,
         })?;
     }
-    Ok(new)
+    Ok(Sequence::from_vec(new))
 }
 
 fn copy_names(alloc: Global, names: &Names) -> Result<Names, OutOfMemory>
     ensures { IfOk result (λ new. new ≡ names.now) }
 {
-    let mut new = Sequence::new(alloc);
+    let mut new = Vec::with_capacity(alloc, names.len())?;
     for name in names.as_slice() {
         new.push(name.copy(alloc)?)?;
     }
-    Ok(new)
+    Ok(Sequence::from_vec(new))
 }
 
 fn copy_bytes(alloc: Global, bytes: &Bytes) -> Result<Bytes, OutOfMemory>

@@ -1,6 +1,10 @@
-use Rattle.std.proofs.Common.{◌≡◌, ◌++◌, take}
+use Rattle.std.proofs.Common.{◌++◌, length}
 use Rattle.hash_forms.specs.Serialize.{escape}
+use Rattle.ion_hash.proofs.Plain.{Puts}
 use Rattle.ion_hash.proofs.scalars.put_escaped.Given as goal
 
-abbrev pub invariant-loop-byte : goal.invariant-loop-byte
-invariant-loop-byte l = l.out ≡ l.initial.out ++ escape (take l.byte-index l.bytes)
+abbrev pub invariant-runs : goal.invariant-runs
+invariant-runs l = Puts l.out l.rest (l.initial.out ++ escape l.bytes)
+
+abbrev pub decreases-runs : goal.decreases-runs
+decreases-runs l = length l.rest

@@ -1,0 +1,90 @@
+//! The bytes of serializations.
+ghost use Rattle.std.specs.Prelude.{◌≡◌, ◌≤◌, [], ◌∷◌, ◌++◌, drop, length, take, IfOk, OnOk, OnErr};
+
+use lists::{Bytes, OutOfMemory};
+use std::alloc::Global;
+use std::marker::Model;
+
+/// For how many bytes a new buffer has room.
+const ROOM: usize = 256;
+
+/// Growing bytes, which contracts see as their list.
+#[derive(Drop)]
+pub struct Buffer {
+    bytes: Vec<u8>,
+}
+
+impl Model for Buffer {
+    ghost use Rattle.std.specs.Prelude.{ℕ, List};
+
+    ghost Value = { List ℕ };
+
+    ghost view = { λ b. b.bytes.items };
+}
+
+impl Buffer {
+    /// No bytes.
+    pub fn new(alloc: Global) -> Result<Buffer, OutOfMemory>
+        ensures { IfOk result (λ b. b ≡ []) }
+    {
+        Ok(Buffer {
+            bytes: Vec::with_capacity(alloc, ROOM)?,
+        })
+    }
+
+    /// How many bytes there are.
+    pub fn len(&self) -> usize
+        ensures { result ≡ length self.now }
+    {
+        self.bytes.len()
+    }
+
+    /// Puts a byte at the end. After want of memory the bytes are as before.
+    pub fn push(&mut self, byte: u8) -> Result<(), OutOfMemory>
+        ensures ok { OnOk result (self.new ≡ self.old ++ byte ∷ []) }
+        ensures err { OnErr result (self.new ≡ self.old) }
+    {
+        self.bytes.push(byte)?;
+        Ok(())
+    }
+
+    /// Puts bytes at the end. After want of memory the bytes are as before.
+    pub fn extend(&mut self, more: &[u8]) -> Result<(), OutOfMemory>
+        ensures ok { OnOk result (self.new ≡ self.old ++ more.now) }
+        ensures err { OnErr result (self.new ≡ self.old) }
+    {
+        self.bytes.extend_from_slice(more)?;
+        Ok(())
+    }
+
+    /// The bytes, lent.
+    pub fn as_slice(&self) -> &[u8]
+        ensures { result.now ≡ self.now }
+    {
+        self.bytes.as_slice()
+    }
+
+    /// The bytes from a place on, lent.
+    pub fn behind(&self, start: usize) -> &[u8]
+        requires { start ≤ length self.now }
+        ensures { result.now ≡ drop start self.now }
+    {
+        let (_, behind) = self.bytes.as_slice().split_at(start);
+        behind
+    }
+
+    /// Keeps so many bytes from the front.
+    pub fn truncate(&mut self, len: usize)
+        ensures { self.new ≡ take len self.old }
+    {
+        self.bytes.truncate(len);
+    }
+
+    /// The bytes, handed over. It takes no memory.
+    pub fn into_bytes(self) -> Bytes
+        ensures { result ≡ self }
+    {
+        let Buffer { bytes } = self;
+        Bytes::from_vec(bytes)
+    }
+}
