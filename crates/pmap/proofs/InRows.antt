@@ -181,18 +181,18 @@ module _ {K V : Type 0} (order : K → K → Ordering) (total : IsTotalOrder ord
     pub leaf_changed : new ≡ with_put order key put leaf → IsParted new rows → IsChangedLeaf order key put leaf rows
     leaf_changed e p = record { pairs = p.members ∙ e; few = p.few; sizes = p.sizes }
 
-    pub leaf_is_short : IsPut key put → length leaf ≤ 256 → new ≡ with_put order key put leaf → length new ≤ 512
+    pub leaf_is_short : IsPut key put → length leaf ≤ 64 → new ≡ with_put order key put leaf → length new ≤ 128
     leaf_is_short p few e = omega (arith, ap length e, length_put order total same key put leaf, put_is_short key put p)
 
   -- what becomes of a middle row
   module _ (key : K) (put : List (K × V)) (middle : List (K × List (K × V))) (at : ℕ) (row : K × List (K × V)) (leaves spliced : List (K × List (K × V)))
       (m : AreLeaves order middle) (r : IsRowFor order key middle at) (f : slice_get middle at ≡ Some row)
       (l : IsChangedLeaf order key put row.1 leaves) (s : spliced ≡ (take at middle ++ leaves) ++ drop (suc at) middle) where
-    pub middle_is_short : length middle ≤ 256 → length spliced ≤ 512
+    pub middle_is_short : length middle ≤ 64 → length spliced ≤ 128
     middle_is_short few = omega (arith, ap length s, spliced_length at middle leaves r.within, l.few)
 
     abbrev IsRow : K × List (K × V) → Type 0
-    IsRow row = BeginsWith row.0 row.1 × (length row.1 ≤ 256)
+    IsRow row = BeginsWith row.0 row.1 × (length row.1 ≤ 64)
 
     pub middle_changed : (new : List (K × List (K × List (K × V)))) → IsParted spliced new → IsChangedMiddle order key put middle new
     middle_changed new p =
@@ -218,13 +218,13 @@ module _ {K V : Type 0} (order : K → K → Ordering) (total : IsTotalOrder ord
       ascending = ascends_in pairs_in upper at row u.ascending f;
     }
 
-    pub size_of : (0 < length row.1) × (length row.1 ≤ 256)
+    pub size_of : (0 < length row.1) × (length row.1 ≤ 64)
     size_of =
-        let is = each_get (λ (row : K × List (K × List (K × V))). BeginsWith row.0 row.1 × (length row.1 ≤ 256)) upper at row u.middles f in
+        let is = each_get (λ (row : K × List (K × List (K × V))). BeginsWith row.0 row.1 × (length row.1 ≤ 64)) upper at row u.middles f in
         (begins_some row.0 row.1 is.0, is.1)
 
     abbrev IsUpperRow : K × List (K × List (K × V)) → Type 0
-    IsUpperRow row = BeginsWith row.0 row.1 × (length row.1 ≤ 256)
+    IsUpperRow row = BeginsWith row.0 row.1 × (length row.1 ≤ 64)
 
     abbrev HasRows : K × List (K × List (K × V)) → Type 0
     HasRows row = AreRows row.1
@@ -258,7 +258,7 @@ module _ {K V : Type 0} (order : K → K → Ordering) (total : IsTotalOrder ord
         holds = holds;
         levels = record {
           middles = r.sizes;
-          leaves = each_in (λ (row : K × List (K × V)). BeginsWith row.0 row.1 × (length row.1 ≤ 256)) rows (subst AreRows (sym r.members) l.sizes);
+          leaves = each_in (λ (row : K × List (K × V)). BeginsWith row.0 row.1 × (length row.1 ≤ 64)) rows (subst AreRows (sym r.members) l.sizes);
           ascending = subst (Ascends order) (sym holds) (ascends_with_put order total same key put [] p tt);
         };
       }

@@ -141,8 +141,8 @@ module _ {K V : Type 0} (order : K → K → Ordering) (total : IsTotalOrder ord
             from_low = is;
             left = record {
               behind = record {
-                leaves = each_drop (λ (leaf : K × List (K × V)). BeginsWith leaf.0 leaf.1 × (length leaf.1 ≤ 256)) (suc across) above.1 middle_rows;
-                middles = each_drop (λ (middle : K × List (K × List (K × V))). BeginsWith middle.0 middle.1 × (length middle.1 ≤ 256)) (suc at) upper levels.middles;
+                leaves = each_drop (λ (leaf : K × List (K × V)). BeginsWith leaf.0 leaf.1 × (length leaf.1 ≤ 64)) (suc across) above.1 middle_rows;
+                middles = each_drop (λ (middle : K × List (K × List (K × V))). BeginsWith middle.0 middle.1 × (length middle.1 ≤ 64)) (suc at) upper levels.middles;
                 lower = each_drop (λ (middle : K × List (K × List (K × V))). AreRows middle.1) (suc at) upper levels.leaves;
               };
               ascending = subst (Ascends order) (sym is) (ascends_from order total same low (pairs_of upper) levels.ascending);

@@ -24,9 +24,9 @@ module _ {K X : Type 0} where
   BeginsWith key [] = ⊥
   BeginsWith key (pair ∷ pairs) = pair.0 ≡ key
 
-  -- each row has 1 to 256 members, and stands beside the key of the first one
+  -- each row has 1 to 64 members, and stands beside the key of the first one
   abbrev pub AreRows : List (K × List (K × X)) → Type 0
-  AreRows rows = Each (λ row. BeginsWith row.0 row.1 × (length row.1 ≤ 256)) rows
+  AreRows rows = Each (λ row. BeginsWith row.0 row.1 × (length row.1 ≤ 64)) rows
 
   -- one or two rows, or none where there are no members
   pub record IsParted (row : List (K × X)) (rows : List (K × List (K × X))) : Type 0 where

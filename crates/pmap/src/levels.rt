@@ -94,12 +94,26 @@ fn guided<K: Drop, X: Drop>(
     Ok(entry)
 }
 
+/// Where a row is parted that is too long: behind as many members as a row has at most where it is the last one, so that
+/// keys that only grow leave full rows behind them, and in the middle otherwise.
+fn cut_in(len: usize, is_last: bool) -> usize
+    requires long { 64 < len }
+    requires short { len ≤ 128 }
+    ensures front { result ≤ 64 }
+    ensures some { 0 < result }
+    ensures back { len ≤ result + 64 }
+    ensures within { result < len }
+{
+    if is_last { FULL } else { len / 2 }
+}
+
 /// The members as one row, or as two where one would be too long, or as none.
 fn parted<K: Drop, X: Drop>(
     alloc: Global,
     row: Row<Entry<K, X>>,
+    is_last: bool,
 ) -> Result<Row<Entry<K, Row<Entry<K, X>>>>, OutOfMemory>
-    requires { length row ≤ 512 }
+    requires { length row ≤ 128 }
     ensures { IfOk result (IsParted row) }
 {
     if row.is_empty() {
@@ -110,7 +124,7 @@ fn parted<K: Drop, X: Drop>(
         let rows = single(alloc, entry)?;
         return Ok(rows);
     }
-    let (front, back) = row.as_slice().split_at(row.len() / 2);
+    let (front, back) = row.as_slice().split_at(cut_in(row.len(), is_last));
     let front = guided(alloc, copied(alloc, front)?)?;
     let back = guided(alloc, copied(alloc, back)?)?;
     let mut rows = single(alloc, front)?;
@@ -130,22 +144,23 @@ fn end_of(place: Place) -> usize
     }
 }
 
-/// What becomes of a leaf where the key's pair is replaced, put there or taken away.
+/// What becomes of a leaf where the key's pair is replaced, put there or taken away; it may be the last one of all.
 fn leaf_with<K: Keyed + Drop, V: Drop>(
     alloc: Global,
     leaf: &[Shared<Entry<K, V>>],
     key: &K,
     put: &[Shared<Entry<K, V>>],
+    is_last: bool,
 ) -> Result<Middle<K, V>, OutOfMemory>
     requires ascending { Ascends K.order leaf.now }
-    requires size { length leaf.now ≤ 256 }
+    requires size { length leaf.now ≤ 64 }
     requires put { IsPut key.now put.now }
     ensures { IfOk result (IsChangedLeaf K.order key.now put.now leaf.now) }
 {
     let place = find(leaf, key, &mut Steps { taken: 0 });
     let end = end_of(place);
     let new = spliced(alloc, leaf, place.at, end, put)?;
-    let rows = parted(alloc, new)?;
+    let rows = parted(alloc, new, is_last && end == leaf.len())?;
     Ok(rows)
 }
 
@@ -155,10 +170,11 @@ fn middle_with<K: Keyed + Drop, V: Drop>(
     middle: &[Shared<Entry<K, Leaf<K, V>>>],
     key: &K,
     put: &[Shared<Entry<K, V>>],
+    is_last: bool,
 ) -> Result<Upper<K, V>, OutOfMemory>
     requires leaves { AreLeaves K.order middle.now }
     requires some { 0 < length middle.now }
-    requires size { length middle.now ≤ 256 }
+    requires size { length middle.now ≤ 64 }
     requires put { IsPut key.now put.now }
     ensures { IfOk result (IsChangedMiddle K.order key.now put.now middle.now) }
 {
@@ -166,9 +182,10 @@ fn middle_with<K: Keyed + Drop, V: Drop>(
     let Some(row) = member(middle, at) else {
         unreachable!()
     };
-    let leaves = leaf_with(alloc, row.get().value().as_slice(), key, put)?;
+    let is_last = is_last && at + 1 == middle.len();
+    let leaves = leaf_with(alloc, row.get().value().as_slice(), key, put, is_last)?;
     let new = spliced(alloc, middle, at, at + 1, leaves.as_slice())?;
-    let rows = parted(alloc, new)?;
+    let rows = parted(alloc, new, is_last)?;
     Ok(rows)
 }
 
@@ -182,8 +199,8 @@ fn first_rows<K: Keyed + Drop, V: Drop>(
     ensures { IfOk result (AreRowsOf K.order (with_put K.order key.now put.now [])) }
 {
     let leaf = copied(alloc, put)?;
-    let leaves = parted(alloc, leaf)?;
-    let rows = parted(alloc, leaves)?;
+    let leaves = parted(alloc, leaf, false)?;
+    let rows = parted(alloc, leaves, false)?;
     Ok(rows)
 }
 
@@ -206,7 +223,8 @@ pub(crate) fn rows_with<K: Keyed + Drop, V: Drop>(
     let Some(row) = member(upper, at) else {
         unreachable!()
     };
-    let middles = middle_with(alloc, row.get().value().as_slice(), key, put)?;
+    let is_last = at + 1 == upper.len();
+    let middles = middle_with(alloc, row.get().value().as_slice(), key, put, is_last)?;
     let new = spliced(alloc, upper, at, at + 1, middles.as_slice())?;
     Ok(new)
 }

@@ -28,18 +28,18 @@ joined_more : {X : Type 0} (rows : List (List X)) (row : List X) → joined (row
 joined_more rows row = joined-append rows (row ∷ []) ∙ ap (λ tail. joined rows ++ tail) (append-nil row)
 
 pub packed_last : {X : Type 0} (front : List (List X)) (old new : List X) → IsPacked (front ++ old ∷ []) → 0 < length new
-    → length new ≤ 256 → IsPacked (front ++ new ∷ [])
+    → length new ≤ 64 → IsPacked (front ++ new ∷ [])
 packed_last [] old new p some few = (some, few, (λ h. absurd (omega arith)), tt)
 packed_last (row ∷ front) old new p some few =
     (p.0, p.1, (λ h. p.2 (omega (arith, length-append front (old ∷ [])))), packed_last front old new p.3 some few)
 
-pub packed_more : {X : Type 0} (front : List (List X)) (old new : List X) → IsPacked (front ++ old ∷ []) → length old ≡ 256
-    → 0 < length new → length new ≤ 256 → IsPacked ((front ++ old ∷ []) ++ new ∷ [])
+pub packed_more : {X : Type 0} (front : List (List X)) (old new : List X) → IsPacked (front ++ old ∷ []) → length old ≡ 64
+    → 0 < length new → length new ≤ 64 → IsPacked ((front ++ old ∷ []) ++ new ∷ [])
 packed_more [] old new p full some few = (p.0, p.1, (λ h. full), (some, few, (λ h. absurd (omega arith)), tt))
 packed_more (row ∷ front) old new p full some few =
     (p.0, p.1, (λ h. p.2 (omega (arith, length-append front (old ∷ [])))), packed_more front old new p.3 full some few)
 
-last_is_packed : {X : Type 0} (front : List (List X)) (row : List X) → IsPacked (front ++ row ∷ []) → (0 < length row) × (length row ≤ 256)
+last_is_packed : {X : Type 0} (front : List (List X)) (row : List X) → IsPacked (front ++ row ∷ []) → (0 < length row) × (length row ≤ 64)
 last_is_packed [] row p = (p.0, p.1)
 last_is_packed (first ∷ front) row p = last_is_packed front row p.3
 
@@ -57,7 +57,7 @@ module _ {X : Type 0} (uppers : List (List (List X))) (middles : List (List X)) 
 
 module _ {X : Type 0} (uppers : List (List (List X))) (middles : List (List X)) (leaf : List X) (item : X)
     (p : IsLevelled (uppers ++ (middles ++ leaf ∷ []) ∷ [])) where
-  pub in_leaf : length leaf < 256 → IsGrown (uppers ++ (middles ++ leaf ∷ []) ∷ []) item (uppers ++ (middles ++ (leaf ++ item ∷ []) ∷ []) ∷ [])
+  pub in_leaf : length leaf < 64 → IsGrown (uppers ++ (middles ++ leaf ∷ []) ∷ []) item (uppers ++ (middles ++ (leaf ++ item ∷ []) ∷ []) ∷ [])
   in_leaf h =
       let sizes = last_is_packed uppers (middles ++ leaf ∷ []) p.middles in
       record {
@@ -75,7 +75,7 @@ module _ {X : Type 0} (uppers : List (List (List X))) (middles : List (List X)) 
 
   -- behind a full leaf, wherever the new one goes
   beside : (new : List (List (List X))) → joined new ≡ joined (uppers ++ (middles ++ leaf ∷ []) ∷ []) ++ (item ∷ []) ∷ [] → IsPacked new
-      → 256 ≤ length leaf → IsGrown (uppers ++ (middles ++ leaf ∷ []) ∷ []) item new
+      → 64 ≤ length leaf → IsGrown (uppers ++ (middles ++ leaf ∷ []) ∷ []) item new
   beside new e q h =
       let packed : IsPacked ((joined uppers ++ middles) ++ leaf ∷ []) = subst IsPacked (leaves uppers middles leaf) p.leaves in
       let sizes = last_is_packed (joined uppers ++ middles) leaf packed in
@@ -88,7 +88,7 @@ module _ {X : Type 0} (uppers : List (List (List X))) (middles : List (List X)) 
         };
       }
 
-  pub in_middle : 256 ≤ length leaf → length (middles ++ leaf ∷ []) < 256
+  pub in_middle : 64 ≤ length leaf → length (middles ++ leaf ∷ []) < 64
       → IsGrown (uppers ++ (middles ++ leaf ∷ []) ∷ []) item (uppers ++ ((middles ++ leaf ∷ []) ++ (item ∷ []) ∷ []) ∷ [])
   in_middle h k =
       let wider = length-append (middles ++ leaf ∷ []) ((item ∷ []) ∷ []) in
@@ -99,7 +99,7 @@ module _ {X : Type 0} (uppers : List (List (List X))) (middles : List (List X)) 
       (packed_last uppers (middles ++ leaf ∷ []) ((middles ++ leaf ∷ []) ++ (item ∷ []) ∷ []) p.middles (omega (arith, wider)) (omega (arith, wider)))
       h
 
-  pub in_upper : 256 ≤ length leaf → 256 ≤ length (middles ++ leaf ∷ [])
+  pub in_upper : 64 ≤ length leaf → 64 ≤ length (middles ++ leaf ∷ [])
       → IsGrown (uppers ++ (middles ++ leaf ∷ []) ∷ []) item ((uppers ++ (middles ++ leaf ∷ []) ∷ []) ++ ((item ∷ []) ∷ []) ∷ [])
   in_upper h k =
       let sizes = last_is_packed uppers (middles ++ leaf ∷ []) p.middles in
@@ -116,7 +116,7 @@ module _ {X : Type 0} (upper : List (List (List X))) (middle : List (List X)) (l
       let m = ends_in middle leaf g in
       (u.0, m.0, u.1 ∙ ap (λ last. u.0 ++ last ∷ []) m.1, m.1, u.1)
 
-  pub grown_in_leaf : length leaf < 256
+  pub grown_in_leaf : length leaf < 64
       → IsGrown upper item (slice_set upper (length upper - 1) (slice_set middle (length middle - 1) (leaf ++ item ∷ [])))
   grown_in_leaf h =
       let e = ends in
@@ -126,20 +126,20 @@ module _ {X : Type 0} (upper : List (List (List X))) (middle : List (List X)) (l
       subst (λ u. IsGrown u item (slice_set upper (length upper - 1) new)) (sym e.2)
       (subst (λ n. IsGrown (e.0 ++ (e.1 ++ leaf ∷ []) ∷ []) item n) (sym outer) (in_leaf e.0 e.1 leaf item (subst IsLevelled e.2 p) h))
 
-  pub grown_in_middle : 256 ≤ length leaf → length middle < 256
+  pub grown_in_middle : 64 ≤ length leaf → length middle < 64
       → IsGrown upper item (slice_set upper (length upper - 1) (middle ++ (item ∷ []) ∷ []))
   grown_in_middle h k =
       let e = ends in
       let outer = set_end upper e.0 middle (middle ++ (item ∷ []) ∷ []) e.4 ∙ ap (λ m. e.0 ++ (m ++ (item ∷ []) ∷ []) ∷ []) e.3 in
       subst (λ u. IsGrown u item (slice_set upper (length upper - 1) (middle ++ (item ∷ []) ∷ []))) (sym e.2)
       (subst (λ n. IsGrown (e.0 ++ (e.1 ++ leaf ∷ []) ∷ []) item n) (sym outer)
-      (in_middle e.0 e.1 leaf item (subst IsLevelled e.2 p) h (subst (λ m. length m < 256) e.3 k)))
+      (in_middle e.0 e.1 leaf item (subst IsLevelled e.2 p) h (subst (λ m. length m < 64) e.3 k)))
 
-  pub grown_in_upper : 256 ≤ length leaf → 256 ≤ length middle → IsGrown upper item (upper ++ ((item ∷ []) ∷ []) ∷ [])
+  pub grown_in_upper : 64 ≤ length leaf → 64 ≤ length middle → IsGrown upper item (upper ++ ((item ∷ []) ∷ []) ∷ [])
   grown_in_upper h k =
       let e = ends in
       subst (λ u. IsGrown u item (u ++ ((item ∷ []) ∷ []) ∷ [])) (sym e.2)
-      (in_upper e.0 e.1 leaf item (subst IsLevelled e.2 p) h (subst (λ m. 256 ≤ length m) e.3 k))
+      (in_upper e.0 e.1 leaf item (subst IsLevelled e.2 p) h (subst (λ m. 64 ≤ length m) e.3 k))
 
 pub not_empty : {X : Type 0} (upper : List (List (List X))) (middle : List (List X)) → IsLevelled upper → slice_get upper (length upper - 1) ≡ Some middle → 0 < length middle
 not_empty upper middle p f =
@@ -158,21 +158,21 @@ empty_from_none (x ∷ (y ∷ xs)) h =
 module _ {X : Type 0} (upper : List (List (List X))) (middle : List (List X)) (leaf : List X) (item : X)
     (f : slice_get upper (length upper - 1) ≡ Some middle) (g : slice_get middle (length middle - 1) ≡ Some leaf) (p : IsLevelled upper)
     (low : List X) (mid : List (List X)) (new : List (List (List X))) where
-  pub grown_in_leaf_by : length leaf < 256 → low ≡ leaf ++ item ∷ [] → mid ≡ slice_set middle (length middle - 1) low
+  pub grown_in_leaf_by : length leaf < 64 → low ≡ leaf ++ item ∷ [] → mid ≡ slice_set middle (length middle - 1) low
       → new ≡ slice_set upper (length upper - 1) mid → IsGrown upper item new
   grown_in_leaf_by h a b c =
       let same : new ≡ slice_set upper (length upper - 1) (slice_set middle (length middle - 1) (leaf ++ item ∷ [])) =
       c ∙ ap (slice_set upper (length upper - 1)) (b ∙ ap (slice_set middle (length middle - 1)) a) in
       subst (IsGrown upper item) (sym same) (grown_in_leaf upper middle leaf item f g p h)
 
-  pub grown_in_middle_by : 256 ≤ length leaf → length middle < 256 → low ≡ item ∷ [] → mid ≡ middle ++ low ∷ []
+  pub grown_in_middle_by : 64 ≤ length leaf → length middle < 64 → low ≡ item ∷ [] → mid ≡ middle ++ low ∷ []
       → new ≡ slice_set upper (length upper - 1) mid → IsGrown upper item new
   grown_in_middle_by h k a b c =
       let same : new ≡ slice_set upper (length upper - 1) (middle ++ (item ∷ []) ∷ []) =
       c ∙ ap (slice_set upper (length upper - 1)) (b ∙ ap (λ row. middle ++ row ∷ []) a) in
       subst (IsGrown upper item) (sym same) (grown_in_middle upper middle leaf item f g p h k)
 
-  pub grown_in_upper_by : 256 ≤ length leaf → 256 ≤ length middle → low ≡ item ∷ [] → mid ≡ low ∷ [] → new ≡ upper ++ mid ∷ []
+  pub grown_in_upper_by : 64 ≤ length leaf → 64 ≤ length middle → low ≡ item ∷ [] → mid ≡ low ∷ [] → new ≡ upper ++ mid ∷ []
       → IsGrown upper item new
   grown_in_upper_by h k a b c =
       let same : new ≡ upper ++ ((item ∷ []) ∷ []) ∷ [] = c ∙ ap (λ row. upper ++ row ∷ []) (b ∙ ap (λ row. row ∷ []) a) in

@@ -8,10 +8,10 @@ use Rattle.std.specs.declared.option.Option.TheVariants.{None, Some}
 abbrev pub joined : {X : Type 0} → List (List X) → List X
 joined rows = flat_map (λ row. row) rows
 
--- no row is empty or longer than 256, and each that another one follows has 256 members
+-- no row is empty or longer than 64, and each that another one follows has 64 members
 abbrev pub IsPacked : {X : Type 0} → List (List X) → Type 0
 IsPacked [] = Unit {0}
-IsPacked (row ∷ rows) = (0 < length row) × (length row ≤ 256) × (0 < length rows → length row ≡ 256) × IsPacked rows
+IsPacked (row ∷ rows) = (0 < length row) × (length row ≤ 64) × (0 < length rows → length row ≡ 64) × IsPacked rows
 
 -- there are no rows before the first item
 abbrev pub rows_of : {X : Type 0} → Option (List X) → List X

@@ -9,7 +9,7 @@ use std::alloc::Global;
 pub type Row<T> = Sequence<Shared<T>>;
 
 /// How many members a row of the two lower levels has at the most.
-pub const FULL: usize = 256;
+pub const FULL: usize = 64;
 
 /// The member at a place counted from 0, or None past the end.
 pub fn member<T>(row: &[Shared<T>], at: usize) -> Option<&Shared<T>>

@@ -126,10 +126,10 @@ impl<T: Drop> PVec<T> {
 #[tactic(auto, using(crate::proofs::Places::leaf_place))]
 fn leaf_at<T>(upper: &[Shared<Row<Row<T>>>], i: u64) -> Option<&Row<T>>
     requires { IsPacked upper.now }
-    ensures { option_copied result ≡ slice_get (joined upper.now) (i / 256) }
+    ensures { option_copied result ≡ slice_get (joined upper.now) (i / 64) }
 {
-    let middle = member(upper, (i / 256 / 256) as usize)?;
-    let leaf = member(middle.get().as_slice(), (i / 256 % 256) as usize)?;
+    let middle = member(upper, (i / 64 / 64) as usize)?;
+    let leaf = member(middle.get().as_slice(), (i / 64 % 64) as usize)?;
     Some(leaf.get())
 }
 
@@ -140,7 +140,7 @@ fn item_at<T>(upper: &[Shared<Row<Row<T>>>], i: u64) -> Option<&T>
     ensures { option_copied result ≡ slice_get (items_of upper.now) i }
 {
     let leaf = leaf_at(upper, i)?;
-    let item = member(leaf.as_slice(), (i % 256) as usize)?;
+    let item = member(leaf.as_slice(), (i % 64) as usize)?;
     Some(item.get())
 }
 
@@ -201,9 +201,9 @@ fn with_item<T: Drop>(
     ensures { IfOk result (IsChanged upper.now i item) }
 {
     let (up, across, along) = (
-        (i / 256 / 256) as usize,
-        (i / 256 % 256) as usize,
-        (i % 256) as usize,
+        (i / 64 / 64) as usize,
+        (i / 64 % 64) as usize,
+        (i % 64) as usize,
     );
     let Some(middle) = member(upper, up) else {
         unreachable!()

@@ -27,7 +27,7 @@ leaf_with-requires-clause-ascending g c =
 pub leaf_with-requires-clause-size : goal.leaf_with-requires-clause-size
 leaf_with-requires-clause-size g c =
     let leaf = c.as_slice.ensures ∙ c.value.ensures ∙ ap (λ r. r.1) c.get.ensures in
-    let size = each_get (λ row. BeginsWith row.0 row.1 × (length row.1 ≤ 256)) c.args.middle.now c.row_for-at.result c.in-Some.row.now c.requires.leaves.sizes (sym c.in-Some.ensures) in
+    let size = each_get (λ row. BeginsWith row.0 row.1 × (length row.1 ≤ 64)) c.args.middle.now c.row_for-at.result c.in-Some.row.now c.requires.leaves.sizes (sym c.in-Some.ensures) in
     omega (arith, ap length leaf, size.1)
 
 pub parted-requires : goal.parted-requires
