@@ -30,6 +30,7 @@ use Rattle.ledger_model.specs.declared.block.Info.{Info}
 use Rattle.ledger_model.specs.declared.block.Header.{Header}
 use Rattle.ledger_model.specs.declared.block.Block.{Block}
 use Rattle.block_form.specs.declared.read_blocks.Hashes.{Hashes}
+pub use Rattle.ledger_model.specs.Values.{blob_at, blob_in}
 use Rattle.ledger_model.specs.Values.{bare, string_in, list_in, fields_in}
 use Rattle.ledger_model.specs.Script.{and_then, each}
 use Rattle.ledger_model.specs.Journal.{block_value}
@@ -55,13 +56,6 @@ moment_at _ = None
 
 abbrev pub moment_in : Value → Option TimeParts
 moment_in v = moment_at (bare v)
-
-abbrev pub blob_at : Option (Body-F Body Field Value) → Option (List ℕ)
-blob_at (Some (Body-F.Blob bytes)) = Some bytes
-blob_at _ = None
-
-abbrev pub blob_in : Value → Option (List ℕ)
-blob_in v = blob_at (bare v)
 
 -- the number of an id
 abbrev pub id_in : Value → Option ℕ

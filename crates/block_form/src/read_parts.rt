@@ -1,63 +1,12 @@
 //! The parts of blocks that values spell.
 ghost use Rattle.std.specs.Prelude.{◌≡◌, ◌^◌, length, option_map};
 ghost use Rattle.std.specs.Option.{option_copied};
-ghost use Rattle.ledger_model.specs.Values.{string_in, list_in, fields_in};
 ghost use Rattle.block_form.specs.ReadBack as spec;
 
-use ion_values::{Body, Bytes, Field, Fields, IonTime, Text, Value, Values};
+use ion_values::{Body, Field, IonTime, Value};
+use ledger_model::blob_in;
+pub use ledger_model::{fields_in, list_in, string_in};
 use ql_types::{BlockAddress, Hash, Hash32, StrandId, id_read};
-
-/// The text of an unannotated string.
-pub fn string_in(v: &Value) -> Option<&Text>
-    ensures { option_copied result ≡ string_in v.now }
-{
-    if !v.annotations.is_empty() {
-        return None;
-    }
-    match &v.body {
-        Body::String(text) => Some(text),
-        _ => None,
-    }
-}
-
-/// The members of an unannotated list.
-pub fn list_in(v: &Value) -> Option<&Values>
-    ensures { option_copied result ≡ list_in v.now }
-{
-    if !v.annotations.is_empty() {
-        return None;
-    }
-    match &v.body {
-        Body::List(members) => Some(members),
-        _ => None,
-    }
-}
-
-/// The fields of an unannotated struct.
-pub fn fields_in(v: &Value) -> Option<&Fields>
-    ensures { option_copied result ≡ fields_in v.now }
-{
-    if !v.annotations.is_empty() {
-        return None;
-    }
-    match &v.body {
-        Body::Struct(fields) => Some(fields),
-        _ => None,
-    }
-}
-
-/// The bytes of an unannotated blob.
-fn blob_in(v: &Value) -> Option<&Bytes>
-    ensures { option_copied result ≡ spec.blob_in v.now }
-{
-    if !v.annotations.is_empty() {
-        return None;
-    }
-    match &v.body {
-        Body::Blob(bytes) => Some(bytes),
-        _ => None,
-    }
-}
 
 /// The number of an unannotated int of at most 64 bits without a sign.
 pub fn number_in(v: &Value) -> Option<u64>

@@ -5,8 +5,6 @@ use Rattle.std.specs.List.{list_any}
 use Rattle.std.specs.Option.{ok_or}
 use Rattle.std.specs.Str.{bytes_eq}
 use Rattle.ion_values.specs.declared.value.Value.{Value}
-use Rattle.ion_values.specs.declared.value.Body.{Body}
-use Rattle.ion_values.specs.declared.value.Body.TheOpen.{Body-F}
 use Rattle.ion_values.specs.declared.value.Field.{Field}
 use Rattle.ql_types.specs.declared.Hash32.{Hash32}
 use Rattle.ledger_model.specs.declared.script.Request.{Request}
@@ -14,31 +12,9 @@ use Rattle.ledger_model.specs.declared.script.Job.{Job}
 use Rattle.ledger_model.specs.declared.script.ScriptFault.{ScriptFault}
 use Rattle.ledger_model.specs.declared.script.ScriptKind.{ScriptKind}
 use Rattle.ledger_model.specs.declared.script.ScriptKind.TheVariants as kind
-use Rattle.ledger_model.specs.Values.{bare, list_in, fields_in}
+pub use Rattle.ledger_model.specs.Values.{blob_in, int_in, symbol_in}
+use Rattle.ledger_model.specs.Values.{list_in, fields_in}
 use Rattle.ledger_model.specs.Script.{and_then, each, request_of}
-
--- ---- what stands in an unannotated int, symbol or blob
-
-abbrev pub int_at : Option (Body-F Body Field Value) → Option ℤ
-int_at (Some (Body-F.Int n)) = Some n
-int_at _ = None
-
-abbrev pub symbol_at : Option (Body-F Body Field Value) → Option (List ℕ)
-symbol_at (Some (Body-F.Symbol name)) = Some name
-symbol_at _ = None
-
-abbrev pub blob_at : Option (Body-F Body Field Value) → Option (List ℕ)
-blob_at (Some (Body-F.Blob bytes)) = Some bytes
-blob_at _ = None
-
-abbrev pub int_in : Value → Option ℤ
-int_in v = int_at (bare v)
-
-abbrev pub symbol_in : Value → Option (List ℕ)
-symbol_in v = symbol_at (bare v)
-
-abbrev pub blob_in : Value → Option (List ℕ)
-blob_in v = blob_at (bare v)
 
 -- ---- the fields of a transaction
 

@@ -1,5 +1,5 @@
 -- Values that the ledger makes itself, and what it sees of those that it is given.
-use Rattle.std.specs.Prelude.{ℕ, ◌==◌, Bool, true, false, List, [], ◌∷◌, length, Option, Some, None, if◌then◌else◌}
+use Rattle.std.specs.Prelude.{ℕ, ◌==◌, Bool, true, false, List, [], ◌∷◌, length, ℤ, Option, Some, None, if◌then◌else◌}
 use Rattle.ion_values.specs.declared.value.Kind.{Kind}
 use Rattle.ion_values.specs.declared.value.Kind.TheVariants as kind
 use Rattle.ion_values.specs.declared.value.Value.{Value}
@@ -66,3 +66,25 @@ list_in v = list_at (bare v)
 -- a struct's fields, where the value is an unannotated struct
 abbrev pub fields_in : Value → Option (List Field)
 fields_in v = fields_at (bare v)
+
+abbrev pub int_at : Option (Body-F Body Field Value) → Option ℤ
+int_at (Some (Body-F.Int n)) = Some n
+int_at _ = None
+
+abbrev pub symbol_at : Option (Body-F Body Field Value) → Option (List ℕ)
+symbol_at (Some (Body-F.Symbol name)) = Some name
+symbol_at _ = None
+
+abbrev pub blob_at : Option (Body-F Body Field Value) → Option (List ℕ)
+blob_at (Some (Body-F.Blob bytes)) = Some bytes
+blob_at _ = None
+
+-- the same of an unannotated int, symbol and blob
+abbrev pub int_in : Value → Option ℤ
+int_in v = int_at (bare v)
+
+abbrev pub symbol_in : Value → Option (List ℕ)
+symbol_in v = symbol_at (bare v)
+
+abbrev pub blob_in : Value → Option (List ℕ)
+blob_in v = blob_at (bare v)

@@ -6,6 +6,7 @@ mod block;
 mod blocks;
 mod damage;
 mod outcome;
+mod parts;
 mod script;
 
 pub use block::{
@@ -15,5 +16,6 @@ pub use block::{
 pub use blocks::Blocks;
 pub use damage::Damage;
 pub use outcome::{Item, Named, Outcome, Outcomes, PlacedOutcome, Refusal};
+pub use parts::{blob_in, fields_in, int_in, list_in, string_in, symbol_in};
 pub use pql_model::{Answer, ParseKind, Row};
 pub use script::{Asked, Job, Request, Script, ScriptFault, ScriptKind, Session};

@@ -10,7 +10,6 @@ ghost use Rattle.frame_laws.specs.Touches.{conflict};
 ghost use Rattle.occ_check.specs.Behind.{block_touches};
 
 mod copies;
-mod keys;
 mod touches;
 
 use crate::copies::copy_item;

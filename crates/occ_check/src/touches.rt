@@ -7,9 +7,9 @@ ghost use Rattle.frame_laws.specs.Following as following;
 ghost use Rattle.frame_laws.specs.Touches as touches;
 ghost use Rattle.occ_check.specs.Behind as behind;
 
-use crate::keys::has_key;
 use ion_values::{Key, OutOfMemory, Text};
 use ledger_model::{Block, Content, Item, Revision, Schema};
+use pql_model::has_key;
 use ql_types::{DocId, TableId};
 use std::alloc::Global;
 use versions::Versions;

@@ -12,11 +12,11 @@ ghost use Rattle.pql_expr.specs.Words.{with_one, with_two};
 use crate::context::Context;
 use crate::made::{answer, is_unknown, null, truth};
 use crate::operators::{between, settled};
-use crate::paths::{Root, at_index, copied, field_of, id_value, root_of};
+use crate::paths::{Root, at_index, copied, id_value, root_of};
 use crate::words::{OneOperand, TwoOperands, with_one, with_two};
 use ion_values::{Body, Field, Value, copy};
 use lists::{OutOfMemory, Sequence};
-use pql_model::{Evaluated, Expr, Member, Path, PathStep, Scope};
+use pql_model::{Evaluated, Expr, Member, Path, PathStep, Scope, field_of};
 use std::alloc::Global;
 
 /// The meaning of the expression under one row and the parameters: MISSING or a value. A parameter

@@ -7,32 +7,11 @@ ghost use Rattle.pql_model.specs.Made.{found, made, onward, seen};
 ghost use Rattle.pql_model.specs.Steps as spec;
 ghost use Rattle.pql_expr.specs.Contexts.{meant_at};
 
-use ion_values::{Body, Field, Value, copy};
+use ion_values::{Body, Value, copy};
 use lists::{OutOfMemory, Sequence};
-use pql_model::{Bound, Evaluated, Resolved, id_text, resolve};
+use pql_model::{Bound, Evaluated, Resolved, field_of, id_text, resolve};
 use ql_types::DocId;
 use std::alloc::Global;
-
-fn first_field<'a>(name: &str, fields: &'a [Field]) -> Option<&'a Value>
-    ensures { option_copied result ≡ spec.first_field name.now fields.now }
-{
-    'fields: for field in fields {
-        if field.name.as_str() == name {
-            return Some(&field.value);
-        }
-    }
-    None
-}
-
-/// The first field of that name, of a struct.
-pub fn field_of<'a>(name: &str, v: &'a Value) -> Option<&'a Value>
-    ensures { option_copied result ≡ spec.field_of name.now v.now }
-{
-    match &v.body {
-        Body::Struct(fields) => first_field(name, fields.as_slice()),
-        _ => None,
-    }
-}
 
 fn at_place(place: i128, values: &[Value]) -> Option<&Value>
     ensures { option_copied result ≡ spec.at_place place values.now }

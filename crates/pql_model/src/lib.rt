@@ -4,6 +4,7 @@
 
 mod counts;
 mod expr;
+mod fields;
 mod ids;
 mod laws;
 mod mark;
@@ -16,6 +17,7 @@ mod token;
 
 pub use counts::parameters;
 pub use expr::{Expr, Exprs, Member, Members, Operator, Path, PathStep, PathSteps};
+pub use fields::{field_of, has_key, key_in};
 pub use ids::id_text;
 pub use laws::{answers_are_shallow, depth_is_bounded, parsed_is_shallow};
 pub use mark::{Mark, Marks, Place, Role};

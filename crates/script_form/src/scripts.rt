@@ -6,14 +6,12 @@ ghost use Rattle.script_form.specs.Answers.{Gives, IsCountable, members_in};
 
 mod fields;
 mod jobs;
-mod parts;
 mod statements;
 
 use ion_values::{OutOfMemory, Value};
 use jobs::{Stop, read_job};
-use ledger_model::{Job, Script, ScriptKind, Session};
+use ledger_model::{Job, Script, ScriptKind, Session, list_in};
 use lists::Sequence;
-use parts::list_in;
 use std::alloc::Global;
 
 /// Why no script is read.

@@ -6,10 +6,9 @@ ghost use Rattle.ledger_model.specs.ReadScript.{abort_in, abort_said, digest_in,
 ghost use Rattle.script_form.specs.Answers.{GivesKind};
 
 use super::jobs::Stop;
-use super::parts::{blob_in, int_in, symbol_in};
 use super::statements::statements_in;
 use ion_values::{Field, OutOfMemory, Value};
-use ledger_model::{Asked, ScriptKind};
+use ledger_model::{Asked, ScriptKind, blob_in, int_in, symbol_in};
 use ql_types::Hash32;
 use std::alloc::Global;
 use std::collections::BTreeSet;

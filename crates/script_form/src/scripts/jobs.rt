@@ -4,9 +4,8 @@ ghost use Rattle.ledger_model.specs.ReadScript.{job_of_fields, job_said, read_jo
 ghost use Rattle.script_form.specs.Answers.{GivesKind};
 
 use super::fields::{abort_said, digest_said, has_unknown, repeats, retries_said, statements_said};
-use super::parts::fields_in;
 use ion_values::{Field, OutOfMemory, Value};
-use ledger_model::{Job, ScriptKind};
+use ledger_model::{Job, ScriptKind, fields_in};
 use std::alloc::Global;
 
 /// Why no transaction is read.

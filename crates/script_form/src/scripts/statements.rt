@@ -3,9 +3,8 @@ ghost use Rattle.std.specs.Prelude.{◌≡◌, IfOk};
 ghost use Rattle.ledger_model.specs.Script.{each, in_fields, in_two, request_of};
 ghost use Rattle.ledger_model.specs.ReadScript.{statements_in};
 
-use super::parts::{fields_in, list_in, string_in};
 use ion_values::{Field, OutOfMemory, Value, copy_values};
-use ledger_model::{Asked, Request};
+use ledger_model::{Asked, Request, fields_in, list_in, string_in};
 use lists::Sequence;
 use std::alloc::Global;
 

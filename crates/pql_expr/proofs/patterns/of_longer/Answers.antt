@@ -7,7 +7,7 @@ pub ends-init : goal.ends-init
 ends-init c =
     let last : c.is_empty_run-fits.result ≡ fits c.args.pattern.now (drop (length c.args.text.now) c.args.text.now) = c.is_empty_run-fits.ensures ∙ first_end c.args.pattern.now c.args.text.now c.index-pattern-0.result c.args.shorter.now _ c.requires.some c.index-pattern-0.is c.requires.known in
     record {
-      told = rw (c.in_ok-push.ensures.items, c.new-ends.ensures.items) (told_first (fits c.args.pattern.now) c.args.text.now c.is_empty_run-fits.result last);
+      told = rw (c.in_ok-push.ensures.items, c.clear.ensures.items) (told_first (fits c.args.pattern.now) c.args.text.now c.is_empty_run-fits.result last);
       last = last;
       within = omega arith;
       room = omega (arith, c.in_ok-push.ensures.len);

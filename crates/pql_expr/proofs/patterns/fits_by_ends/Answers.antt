@@ -1,6 +1,6 @@
 use Rattle.std.proofs.Common.{◌∙◌, arith}
 use Rattle.pql_expr.proofs.Ends.{end_whole}
-use Rattle.pql_expr.proofs.patterns.fits.Goals as goal
+use Rattle.pql_expr.proofs.patterns.fits_by_ends.Goals as goal
 
 pub returns : goal.returns
 returns c =

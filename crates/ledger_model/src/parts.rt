@@ -1,8 +1,7 @@
 //! What stands in a value without annotations.
 ghost use Rattle.std.specs.Prelude.{◌≡◌};
 ghost use Rattle.std.specs.Option.{option_copied};
-ghost use Rattle.ledger_model.specs.Values.{string_in, list_in, fields_in};
-ghost use Rattle.ledger_model.specs.ReadScript.{int_in, symbol_in, blob_in};
+ghost use Rattle.ledger_model.specs.Values.{blob_in, fields_in, int_in, list_in, string_in, symbol_in};
 
 use ion_values::{Body, Bytes, Fields, Text, Value, Values};
 
