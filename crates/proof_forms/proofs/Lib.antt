@@ -1,4 +1,5 @@
 pub mod Inverses
 pub mod Chains
+pub mod Ends
 pub mod Accepted
 pub mod Rows

@@ -13,6 +13,10 @@ use Rattle.proof_forms.specs.declared.Proof.{Proof}
 use Rattle.proof_forms.specs.Chained.{Chained}
 use Rattle.proof_forms.specs.Verified.{Verified}
 
+-- the hashes of the blocks
+abbrev pub block_hashes : List Block → List Hash32
+block_hashes blocks = map (λ b. b.hash) blocks
+
 -- the hashes of the blocks up to a tip
 abbrev pub hashes_to : List Block → ℕ → List Hash32
 hashes_to blocks tip = map (λ b. b.hash) (take (tip + 1) blocks)

@@ -1,5 +1,5 @@
 -- Which digests and proofs there are none of.
-use Rattle.std.specs.Prelude.{ℕ, ◌≡◌, ◌<◌, ◌≤◌, nat_le, nat_lt, List, length, Option, Some, None, slice_get, if◌then◌else◌}
+use Rattle.std.specs.Prelude.{ℕ, ◌≡◌, ◌<◌, ◌≤◌, nat_le, nat_lt, List, [], ◌∷◌, length, Option, Some, None, slice_get, if◌then◌else◌}
 use Rattle.ledger_model.specs.declared.block.Block.{Block}
 use Rattle.proof_issue.specs.declared.NoSuch.{NoSuch}
 use Rattle.proof_issue.specs.declared.NoSuch.TheVariants as none_such
@@ -23,6 +23,11 @@ abbrev pub refusal : List Block → ℕ → ℕ → ℕ → Option NoSuch
 refusal blocks sequence index tip =
     or_then (past_end blocks tip) (or_then (past_end blocks sequence)
     (if nat_lt tip sequence then Some (none_such.PastTip sequence tip) else past_revisions (slice_get blocks sequence) index))
+
+-- the same with the last block as the tip, and where there are no blocks, no block has the number
+abbrev pub refusal_at_end : List Block → ℕ → ℕ → Option NoSuch
+refusal_at_end [] sequence index = Some (none_such.Block sequence 0)
+refusal_at_end (b ∷ blocks) sequence index = refusal (b ∷ blocks) sequence index (length blocks)
 
 -- an answer other than want of memory is the refusal that there is
 abbrev pub IsRefused : Option NoSuch → NoSuch → Type 0

@@ -9,8 +9,12 @@ ghost use Rattle.ledger_model.specs.Damages.{has_hashes};
 ghost use Rattle.ledger_model.specs.Journal.{info_value};
 ghost use Rattle.proof_forms.specs.Chained.{Chained, IsLinked};
 ghost use Rattle.proof_forms.specs.Issued.{hashes_to, IsDigest, proof_for, IsAccepted};
+ghost use Rattle.proof_issue.specs.Parts as parts;
 ghost use Rattle.proof_issue.specs.Refusals as spec;
 
+mod grown;
+
+pub use grown::prove_grown;
 use ion_values::OutOfMemory;
 use ledger_model::{Block, Blocks, Revision};
 use lists::Sequence;
@@ -182,6 +186,29 @@ fn put_all(hashes: &mut Hashes, more: &[Hash32]) -> Result<(), OutOfMemory>
     Ok(())
 }
 
+/// The proof of a revision of this block, with the path from the block up to the digest.
+fn proof_with(
+    alloc: Global,
+    block: &Block,
+    index: u32,
+    above: &[Hash32],
+) -> Result<Proof, OutOfMemory>
+    requires there { index < block.now.header.revisions }
+    requires linked { (before : List Block) × IsLinked before block.now }
+    ensures { IfOk result (λ p. p ≡ parts.proof_with block.now index above.now) }
+{
+    let leaves = revision_hashes(alloc, block.revisions.as_slice())?;
+    let mut hashes = path(alloc, leaves.as_slice(), u64::from(index))?;
+    hashes.push(info_hash(block))?;
+    hashes.push(block.previous)?;
+    put_all(&mut hashes, above)?;
+    Ok(Proof {
+        header: block.header,
+        index,
+        path: hashes,
+    })
+}
+
 /// The proof of a revision of this block, which is one of these.
 fn proof_of(
     alloc: Global,
@@ -193,18 +220,10 @@ fn proof_of(
     requires linked { (before : List Block) × IsLinked before block.now }
     ensures { IfOk result (λ p. p ≡ proof_for blocks.now block.now wanted.sequence wanted.index wanted.tip) }
 {
-    let leaves = revision_hashes(alloc, block.revisions.as_slice())?;
-    let mut hashes = path(alloc, leaves.as_slice(), u64::from(wanted.index))?;
-    hashes.push(info_hash(block))?;
-    hashes.push(block.previous)?;
     let tips = hashes_to(alloc, blocks, wanted.tip)?;
     let above = path(alloc, tips.as_slice(), wanted.sequence)?;
-    put_all(&mut hashes, above.as_slice())?;
-    Ok(Proof {
-        header: block.header,
-        index: wanted.index,
-        path: hashes,
-    })
+    let proof = proof_with(alloc, block, wanted.index, above.as_slice())?;
+    Ok(proof)
 }
 
 /// The proof of a revision of a chained journal, by its block's number and its index there, both counted from 0, for the

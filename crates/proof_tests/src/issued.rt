@@ -2,7 +2,6 @@
 ghost use Rattle.std.specs.Prelude.{IfSome};
 ghost use Rattle.proof_forms.specs.Chained.{Chained};
 
-use crate::journals::{ONE_BLOCK, ONE_BUNDLE, THREE_BLOCKS, THREE_BUNDLE};
 use crate::verdicts::verdict;
 use block_form::revision_value;
 use ion_text::write;
@@ -12,10 +11,11 @@ use ledger_model::Blocks;
 use lists::Text;
 use proof_forms::{digest_value, proof_value, undamaged_is_chained};
 use proof_issue::{NoSuch, digest, prove};
+use sample_journals::{ONE_BLOCK, ONE_BUNDLE, THREE_BLOCKS, THREE_BUNDLE};
 use std::alloc::Global;
 
 /// The blocks of an undamaged journal.
-fn blocks(alloc: Global, journal: &str) -> Option<Blocks>
+pub fn blocks(alloc: Global, journal: &str) -> Option<Blocks>
     ensures { IfSome result (λ blocks. Chained blocks.list) }
 {
     undamaged_is_chained();
@@ -24,7 +24,7 @@ fn blocks(alloc: Global, journal: &str) -> Option<Blocks>
 }
 
 /// Puts the text of a value behind the others, and a line feed.
-fn put(alloc: Global, text: &mut Text, value: &Value) -> Option<()> {
+pub fn put(alloc: Global, text: &mut Text, value: &Value) -> Option<()> {
     text.push_str(write(alloc, value).ok()?.as_str()).ok()?;
     text.push_str("\n").ok()
 }

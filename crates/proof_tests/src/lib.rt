@@ -4,9 +4,9 @@
 #[cfg(test)]
 mod forged;
 #[cfg(test)]
-mod issued;
+mod grown;
 #[cfg(test)]
-mod journals;
+mod issued;
 #[cfg(test)]
 mod malformed;
 #[cfg(test)]

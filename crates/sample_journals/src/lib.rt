@@ -1,4 +1,5 @@
-//! Journals with what a separate program issues for them.
+//! Journals and bundles that tests read: their texts, as the ledger's own rules spell them.
+#![tactic(auto)]
 
 /// One block with one revision.
 pub const ONE_BLOCK: &str =
