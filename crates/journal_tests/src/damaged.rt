@@ -188,6 +188,14 @@ fn altered(alloc: Global, what: &str) -> Result<Text, Fail> {
     Ok(line(alloc, &block)?)
 }
 
+/// A journal in whose last line one digit of the block's hash is wrong.
+pub fn journal_with_a_wrong_digit(alloc: Global) -> Result<Text, Fail> {
+    let (mut lines, _) = beginning(alloc)?;
+    let last = altered(alloc, "a digit")?;
+    lines.push_str(last.as_str())?;
+    Ok(lines)
+}
+
 #[test]
 fn each_hash_is_the_computed_one(rt: HostRuntime) -> Result<(), Fail> {
     let alloc = rt.alloc();

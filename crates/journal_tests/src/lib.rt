@@ -6,6 +6,8 @@ mod building;
 #[cfg(test)]
 mod damaged;
 #[cfg(test)]
+mod feeding;
+#[cfg(test)]
 mod kept;
 #[cfg(test)]
 mod lines;

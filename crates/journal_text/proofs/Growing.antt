@@ -16,7 +16,7 @@ use Rattle.journal_text.specs.Stands.{Stands}
 use Rattle.journal_text.specs.Reading.{StandsBehind}
 use Rattle.journal_text.proofs.Feeds as feeds
 
-journal_more : (blocks : List Block) (b : Block) (rest : List ℕ) → journal_bytes (blocks ++ b ∷ []) ++ rest ≡ journal_bytes blocks ++ (line b ++ rest)
+pub journal_more : (blocks : List Block) (b : Block) (rest : List ℕ) → journal_bytes (blocks ++ b ∷ []) ++ rest ≡ journal_bytes blocks ++ (line b ++ rest)
 journal_more blocks b rest =
     ap (λ z. z ++ rest) (flat_map-append line blocks (b ∷ []) ∙ ap (λ z. journal_bytes blocks ++ z) (append-nil (line b)))
     ∙ append_assoc (journal_bytes blocks) (line b) rest

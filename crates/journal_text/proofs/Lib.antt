@@ -14,5 +14,6 @@ pub mod Feeds
 pub mod Readings
 pub mod LineReads
 pub mod Growing
+pub mod Fed
 pub mod FirstFeed
 pub mod TableSteps

@@ -3,3 +3,4 @@ pub mod Stands
 pub mod Laws
 pub mod Lines
 pub mod Reading
+pub mod Feeding

@@ -42,7 +42,7 @@ fn first_feed(bytes: &[u8]) -> Option<usize>
 }
 
 /// What stands in front of the first line feed, if there is one.
-fn first_line(bytes: &[u8]) -> Option<&[u8]>
+pub(crate) fn first_line(bytes: &[u8]) -> Option<&[u8]>
     ensures { MatchOption result (has_no_line_feed bytes.now ≡ true) (λ text. (has_no_line_feed text.now ≡ true) × (bytes.now ≡ text.now ++ 10 ∷ drop (length text.now + 1) bytes.now)) }
 {
     let Some(end) = first_feed(bytes) else {
@@ -63,7 +63,7 @@ fn rest_of(bytes: &[u8], at: usize) -> &[u8]
 
 /// The block whose line this text is, with a line feed behind it, where it passes each check behind these blocks, of
 /// which the registry is. The registry takes it in; after an error it is of no more use.
-fn next_block(
+pub(crate) fn next_block(
     alloc: Global,
     registry: &mut Registry,
     before: &[Block],

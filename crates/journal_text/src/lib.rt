@@ -8,6 +8,7 @@ mod checks;
 mod journal;
 mod laws;
 mod lines;
+mod reader;
 mod registry;
 
 use block_form::to_ion;
@@ -16,6 +17,7 @@ use ion_values::{OutOfMemory, Text};
 pub use journal::{JournalFault, read_journal};
 pub use laws::{journals_tell, written_on_one_line};
 use ledger_model::Block;
+pub use reader::JournalReader;
 use std::alloc::Global;
 
 /// A block's line in the journal: its value as it is written, and a line feed.
