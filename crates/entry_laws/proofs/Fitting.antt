@@ -27,13 +27,13 @@ use Rattle.entry_laws.specs.Runs.{IsRunBy, RunsFit, Served, opening_of}
 use Rattle.entry_laws.proofs.Dealt.{dealt_in_order, dealt_rest, rest_of, same_served}
 use Rattle.entry_laws.proofs.Links.{InTime, IsLink, Link}
 use Rattle.entry_laws.proofs.Lists.{all_stand, one_before, one_length, prefix_front, prefix_take, stands_all, stands_contains, stands_map}
-use Rattle.entry_laws.proofs.Makes.{IsCommittedAs}
+use Rattle.entry_laws.proofs.Makes.{IsCommittedAs, is_committed}
 use Rattle.entry_laws.proofs.Order.{outcomes_hold}
 use Rattle.entry_laws.proofs.Owners.{Owner, Told, line, link_dealt, link_is, link_served, owner, owner_at, same_line, stands_mapped, told_job}
 use Rattle.entry_laws.proofs.Reaches.{IsToldIn, comes_behind, count_told, counts_on, failed_by, fewer_blocks, blocks_sealed, lasts_on, may_come, reached_blocks, reached_mask, run_prefix, sealed_in}
 use Rattle.entry_laws.proofs.Serial.{runs_are_legal}
 use Rattle.entry_laws.proofs.Sealed.{all_ordered, drop_front, each_sealed, strand_all}
-use Rattle.entry_laws.proofs.Tells.{IsFailed, IsNumbered, is_committed}
+use Rattle.entry_laws.proofs.Tells.{IsFailed, IsNumbered}
 use Rattle.entry_laws.proofs.Told.{all_apart, all_tells, counts_told, greatest_most, ids_told, least_greatest, one_count, one_id, stands_greatest, stands_told, tells}
 
 -- the block that is told
@@ -77,7 +77,7 @@ module _ (t : RunRecord) (ss : List Served) (es : List Entry) (pass_of : ℕ →
   abbrev o : Opening
   o = opening_of t
 
-  ordered : InOrder (map (λ (s : Served). s.placed) ss)
+  pub ordered : InOrder (map (λ (s : Served). s.placed) ss)
   ordered = subst InOrder r.jobs r.in_order
 
   -- ---- the blocks that were made
@@ -85,39 +85,38 @@ module _ (t : RunRecord) (ss : List Served) (es : List Entry) (pass_of : ℕ →
   after_is : t.after ≡ t.before ++ sealed_in es
   after_is = r.after ∙ reached_blocks (reach_at o) es
 
-  made_is : made t ≡ sealed_in es
+  pub made_is : made t ≡ sealed_in es
   made_is = ap (λ (bs : List Block). drop (length t.before) bs) after_is ∙ drop_front t.before (sealed_in es)
 
-  module _ (front : List Entry) (number : ℕ) (b : Block) (p : IsPrefix (front ++ sealed number b ∷ []) es) where
-    abbrev owns : Owner t ss es pass_of r (length front) (sealed number b)
-    owns = owner_at t ss es pass_of r front (sealed number b) p
-
-    pub says : IsCommittedAs o (owns).link.served.placed (owns).link.served.outcome (owns).entry.front b
-    says = (owns).entry.says
+  -- who made an entry
+  module _ (front : List Entry) (e : Entry) (p : IsPrefix (front ++ e ∷ []) es) where
+    abbrev pub owns : Owner t ss es pass_of r (length front) e
+    owns = owner_at t ss es pass_of r front e p
 
     pub job_there : Stands (owns).link.served ss
     job_there = link_served t ss es pass_of r (owns).rest (owns).low (owns).link (owns).among
 
-    within_es : IsPrefix ((owns).entry.front ++ sealed number b ∷ []) es
+    within_es : IsPrefix ((owns).entry.front ++ e ∷ []) es
     within_es =
-        prefix_trans ((owns).entry.front ++ sealed number b ∷ []) (owns).link.until es (owns).entry.within
+        prefix_trans ((owns).entry.front ++ e ∷ []) (owns).link.until es (owns).entry.within
         (link_is t ss es pass_of r (owns).rest (owns).low (owns).link (owns).among).inside
 
     pub same_front : (owns).entry.front ≡ front
     same_front =
-        one_length (owns).entry.front front es (prefix_front (owns).entry.front (sealed number b) es within_es)
-        (prefix_front front (sealed number b) es p) (sym (owns).entry.place)
+        one_length (owns).entry.front front es (prefix_front (owns).entry.front e es within_es)
+        (prefix_front front e es p) (sym (owns).entry.place)
 
   pub block_job : (front : List Entry) (number : ℕ) (b : Block) → IsPrefix (front ++ sealed number b ∷ []) es
       → (s : Served) × Stands s ss × IsCommittedAs o s.placed s.outcome front b
   block_job front number b p = (
-    (owns front number b p).link.served,
-    job_there front number b p,
-    subst (λ (f : List Entry). IsCommittedAs o (owns front number b p).link.served.placed
-        (owns front number b p).link.served.outcome f b) (same_front front number b p) (says front number b p),
+    (owns front (sealed number b) p).link.served,
+    job_there front (sealed number b) p,
+    subst (λ (f : List Entry). IsCommittedAs o (owns front (sealed number b) p).link.served.placed
+        (owns front (sealed number b) p).link.served.outcome f b) (same_front front (sealed number b) p)
+        (owns front (sealed number b) p).entry.says,
   )
 
-  each_made : (P : Block → Type 0) → ((front : List Entry) (number : ℕ) (b : Block)
+  pub each_made : (P : Block → Type 0) → ((front : List Entry) (number : ℕ) (b : Block)
       → IsPrefix (front ++ sealed number b ∷ []) es → P b) → AllByRecursion P (made t)
   each_made P f =
       subst (AllByRecursion P) (sym made_is) (each_sealed P es [] es refl (λ front number b low p. f front number b p))
@@ -150,7 +149,7 @@ module _ (t : RunRecord) (ss : List Served) (es : List Entry) (pass_of : ℕ →
         of_job = j.2.of_job;
       })
 
-  digests : AllByRecursion (IsOfOwnDigest t.jobs) (made t)
+  pub digests : AllByRecursion (IsOfOwnDigest t.jobs) (made t)
   digests =
       each_made (IsOfOwnDigest t.jobs)
       (λ front number b p q among place.
@@ -163,14 +162,17 @@ module _ (t : RunRecord) (ss : List Served) (es : List Entry) (pass_of : ℕ →
 
   -- ---- the order of a session's blocks
 
-  module _ (front : List Entry) (number : ℕ) (b : Block) (later : List Entry) (more : ℕ) (c : Block)
-      (p : IsPrefix (front ++ sealed number b ∷ []) later) (q : IsPrefix (later ++ sealed more c ∷ []) es) where
-    abbrev first : Owner t ss es pass_of r (length front) (sealed number b)
-    first = owner_at t ss es pass_of r front (sealed number b)
-        (prefix_trans (front ++ sealed number b ∷ []) later es p (prefix_front later (sealed more c) es q))
+  -- a sealed block, and a later entry
+  module _ (front : List Entry) (number : ℕ) (b : Block) (later : List Entry) (e : Entry)
+      (p : IsPrefix (front ++ sealed number b ∷ []) later) (q : IsPrefix (later ++ e ∷ []) es) where
+    pub sealed_inside : IsPrefix (front ++ sealed number b ∷ []) es
+    sealed_inside = prefix_trans (front ++ sealed number b ∷ []) later es p (prefix_front later e es q)
 
-    abbrev second : Owner t ss es pass_of r (length later) (sealed more c)
-    second = owner_at t ss es pass_of r later (sealed more c) q
+    abbrev pub first : Owner t ss es pass_of r (length front) (sealed number b)
+    first = owns front (sealed number b) sealed_inside
+
+    abbrev pub second : Owner t ss es pass_of r (length later) e
+    second = owns later e q
 
     fewer : length front < length later
     fewer =
@@ -180,62 +182,22 @@ module _ (t : RunRecord) (ss : List Served) (es : List Entry) (pass_of : ℕ →
         omega (arith, low, more)
 
     first_front : (first).entry.front ≡ front
-    first_front =
-        same_front front number b
-        (prefix_trans (front ++ sealed number b ∷ []) later es p (prefix_front later (sealed more c) es q))
-
-    second_front : (second).entry.front ≡ later
-    second_front = same_front later more c q
+    first_front = same_front front (sealed number b) sealed_inside
 
     first_place : b.info.place ≡ (first).link.served.placed.place
     first_place = ((first).entry.says).of_job.place
 
-    second_place : c.info.place ≡ (second).link.served.placed.place
-    second_place = ((second).entry.says).of_job.place
-
-    second_among : b.info.place.session ≡ c.info.place.session
-        → Stands (second).link (line t ss es pass_of r (first).rest (first).low).links
-    second_among same =
-        let one : rest_of t.workers (first).link.served ≡ (first).rest =
-        dealt_rest t.workers (first).rest (first).link.served ss
-        (link_dealt t ss es pass_of r (first).rest (first).low (first).link (first).among) in
-        let two : rest_of t.workers (second).link.served ≡ (second).rest =
-        dealt_rest t.workers (second).rest (second).link.served ss
-        (link_dealt t ss es pass_of r (second).rest (second).low (second).link (second).among) in
-        let sessions : (second).link.served.placed.place.session ≡ (first).link.served.placed.place.session =
-        ap (λ (x : Place). x.session) (sym second_place) ∙ sym same ∙ ap (λ (x : Place). x.session) first_place in
-        same_line t ss es pass_of r (first).rest (second).rest (first).low (second).low (second).link
-        (sym two ∙ ap (λ n. n % t.workers) sessions ∙ one) (second).among
-
-    -- a job has one block at most
-    not_one : (first).link ≡ (second).link → ⊥
-    not_one same =
-        let told : block_told (first).link.served.outcome ≡ length (blocks_in o (first).entry.front) =
-        ap block_told ((first).entry.says).told in
-        let tells : block_told (second).link.served.outcome ≡ length (blocks_in o (second).entry.front) =
-        ap block_told ((second).entry.says).told in
-        let one : length (blocks_in o (first).entry.front) ≡ length (blocks_in o front) =
-        ap (λ (f : List Entry). length (blocks_in o f)) first_front in
-        let two : length (blocks_in o (second).entry.front) ≡ length (blocks_in o later) =
-        ap (λ (f : List Entry). length (blocks_in o f)) second_front in
-        let both : block_told (first).link.served.outcome ≡ block_told (second).link.served.outcome =
-        ap (λ (l : Link). block_told l.served.outcome) same in
-        let more : length (blocks_in o (front ++ sealed number b ∷ [])) ≡ length (blocks_in o front) + 1 =
-        ap length (blocks_sealed (reach_at o) front number b) ∙ length-append (blocks_in o front) (b ∷ []) in
-        let low = fewer_blocks (reach_at o) (front ++ sealed number b ∷ []) later p in
-        omega (arith, told, tells, one, two, both, more, low)
-
     not_back : IsPrefix (second).link.until (first).link.from → ⊥
     not_back back =
         let low =
-        prefix_length ((second).entry.front ++ sealed more c ∷ []) (first).entry.front
-        (prefix_trans ((second).entry.front ++ sealed more c ∷ []) (second).link.until (first).entry.front
+        prefix_length ((second).entry.front ++ e ∷ []) (first).entry.front
+        (prefix_trans ((second).entry.front ++ e ∷ []) (second).link.until (first).entry.front
         (second).entry.within
         (prefix_trans (second).link.until (first).link.from (first).entry.front back (first).entry.behind)) in
         let one : length (first).entry.front ≡ length front = sym (first).entry.place in
         let two : length (second).entry.front ≡ length later = sym (second).entry.place in
-        let one_more : length ((second).entry.front ++ sealed more c ∷ []) ≡ length (second).entry.front + 1 =
-        length-append (second).entry.front (sealed more c ∷ []) in
+        let one_more : length ((second).entry.front ++ e ∷ []) ≡ length (second).entry.front + 1 =
+        length-append (second).entry.front (e ∷ []) in
         omega (arith, low, one, two, fewer, one_more)
 
     ordered_in : InOrder (placed_in (line t ss es pass_of r (first).rest (first).low).links)
@@ -244,28 +206,75 @@ module _ (t : RunRecord) (ss : List Served) (es : List Entry) (pass_of : ℕ →
         (sym (line t ss es pass_of r (first).rest (first).low).served)
         (dealt_in_order t.workers (first).rest ss ordered)
 
-    before_by : b.info.place.session ≡ c.info.place.session
-        → ((first).link ≡ (second).link)
-        ⊎ ((IsPrefix (first).link.until (second).link.from
-        × IsBehind (first).link.served.placed.place (second).link.served.placed)
-        ⊎ IsPrefix (second).link.until (first).link.from)
-        → b.info.place.transaction < c.info.place.transaction
-    before_by same (inl one) = absurd (not_one one)
-    before_by same (inr (inl there)) =
-        let less =
-        there.1 (ap (λ (x : Place). x.session) (sym first_place) ∙ same ∙ ap (λ (x : Place). x.session) second_place) in
-        let one : b.info.place.transaction ≡ (first).link.served.placed.place.transaction =
-        ap (λ (x : Place). x.transaction) first_place in
-        let two : c.info.place.transaction ≡ (second).link.served.placed.place.transaction =
-        ap (λ (x : Place). x.transaction) second_place in
-        omega (arith, less, one, two)
-    before_by same (inr (inr back)) = absurd (not_back back)
+    -- the block of that entry is another job's
+    module _ (c : Block) (second_place : c.info.place ≡ (second).link.served.placed.place)
+        (not_one : (first).link ≡ (second).link → ⊥) where
+      second_among : b.info.place.session ≡ c.info.place.session
+          → Stands (second).link (line t ss es pass_of r (first).rest (first).low).links
+      second_among same =
+          let one : rest_of t.workers (first).link.served ≡ (first).rest =
+          dealt_rest t.workers (first).rest (first).link.served ss
+          (link_dealt t ss es pass_of r (first).rest (first).low (first).link (first).among) in
+          let two : rest_of t.workers (second).link.served ≡ (second).rest =
+          dealt_rest t.workers (second).rest (second).link.served ss
+          (link_dealt t ss es pass_of r (second).rest (second).low (second).link (second).among) in
+          let sessions : (second).link.served.placed.place.session ≡ (first).link.served.placed.place.session =
+          ap (λ (x : Place). x.session) (sym second_place) ∙ sym same ∙ ap (λ (x : Place). x.session) first_place in
+          same_line t ss es pass_of r (first).rest (second).rest (first).low (second).low (second).link
+          (sym two ∙ ap (λ n. n % t.workers) sessions ∙ one) (second).among
+
+      before_by : b.info.place.session ≡ c.info.place.session
+          → ((first).link ≡ (second).link)
+          ⊎ ((IsPrefix (first).link.until (second).link.from
+          × IsBehind (first).link.served.placed.place (second).link.served.placed)
+          ⊎ IsPrefix (second).link.until (first).link.from)
+          → b.info.place.transaction < c.info.place.transaction
+      before_by same (inl one) = absurd (not_one one)
+      before_by same (inr (inl there)) =
+          let less =
+          there.1 (ap (λ (x : Place). x.session) (sym first_place) ∙ same ∙ ap (λ (x : Place). x.session) second_place) in
+          let one : b.info.place.transaction ≡ (first).link.served.placed.place.transaction =
+          ap (λ (x : Place). x.transaction) first_place in
+          let two : c.info.place.transaction ≡ (second).link.served.placed.place.transaction =
+          ap (λ (x : Place). x.transaction) second_place in
+          omega (arith, less, one, two)
+      before_by same (inr (inr back)) = absurd (not_back back)
+
+      pub one_ordered : Before b.info.place c
+      one_ordered same =
+          before_by same
+          (in_line_of (line t ss es pass_of r (first).rest (first).low).links (first).link (second).link
+          (line t ss es pass_of r (first).rest (first).low).in_time ordered_in (first).among (second_among same))
+
+  -- two sealed blocks
+  module _ (front : List Entry) (number : ℕ) (b : Block) (later : List Entry) (more : ℕ) (c : Block)
+      (p : IsPrefix (front ++ sealed number b ∷ []) later) (q : IsPrefix (later ++ sealed more c ∷ []) es) where
+    abbrev one : Owner t ss es pass_of r (length front) (sealed number b)
+    one = first front number b later (sealed more c) p q
+
+    abbrev other : Owner t ss es pass_of r (length later) (sealed more c)
+    other = second front number b later (sealed more c) p q
+
+    -- a job has one block at most
+    not_one : (one).link ≡ (other).link → ⊥
+    not_one same =
+        let told : block_told (one).link.served.outcome ≡ length (blocks_in o (one).entry.front) =
+        ap block_told ((one).entry.says).told in
+        let tells : block_told (other).link.served.outcome ≡ length (blocks_in o (other).entry.front) =
+        ap block_told ((other).entry.says).told in
+        let here : length (blocks_in o (one).entry.front) ≡ length (blocks_in o front) =
+        ap (λ (f : List Entry). length (blocks_in o f)) (first_front front number b later (sealed more c) p q) in
+        let there : length (blocks_in o (other).entry.front) ≡ length (blocks_in o later) =
+        ap (λ (f : List Entry). length (blocks_in o f)) (same_front later (sealed more c) q) in
+        let both : block_told (one).link.served.outcome ≡ block_told (other).link.served.outcome =
+        ap (λ (l : Link). block_told l.served.outcome) same in
+        let one_more : length (blocks_in o (front ++ sealed number b ∷ [])) ≡ length (blocks_in o front) + 1 =
+        ap length (blocks_sealed (reach_at o) front number b) ∙ length-append (blocks_in o front) (b ∷ []) in
+        let low = fewer_blocks (reach_at o) (front ++ sealed number b ∷ []) later p in
+        omega (arith, told, tells, here, there, both, one_more, low)
 
     pub pair_ordered : Before b.info.place c
-    pair_ordered same =
-        before_by same
-        (in_line_of (line t ss es pass_of r (first).rest (first).low).links (first).link (second).link
-        (line t ss es pass_of r (first).rest (first).low).in_time ordered_in (first).among (second_among same))
+    pair_ordered = one_ordered front number b later (sealed more c) p q c ((other).entry.says).of_job.place not_one
 
   once : InSessionOrder (made t)
   once =
@@ -284,7 +293,7 @@ module _ (t : RunRecord) (ss : List Served) (es : List Entry) (pass_of : ℕ →
       (may_come (reach_at o) front (sealed number b) es p r.right.run).made.block_is
       ∙ reached_mask (reach_at o) front
 
-  blocks_fit : FitsBlocks t
+  pub blocks_fit : FitsBlocks t
   blocks_fit = record {
     begins = prefix_take t.before t.after begins_with;
     undamaged = subst (λ (bs : List Block). Undamaged bs) (sym r.after) r.right.undamaged;
@@ -461,7 +470,7 @@ module _ (t : RunRecord) (ss : List Served) (es : List Entry) (pass_of : ℕ →
       let s : Served = w.link.served in
       let there : Stands s ss = link_served t ss es pass_of r w.rest w.low w.link w.among in
       stands_greatest t.opened (tells told_count ss) n
-      (stands_told told_count n s ss there (subst (λ (xs : List ℕ). Stands n xs) (sym w.entry.says) (inl e)))
+      (stands_told told_count n s ss there (subst (λ (xs : List ℕ). Stands n xs) (sym w.entry.says.0) (inl e)))
   failure_told place (failed number count b) n w (inr h) = absurd h
   failure_told place (wanted number b) n w h = absurd h
 

@@ -11,6 +11,7 @@ pub mod Serial
 pub mod Owners
 pub mod Order
 pub mod Fitting
+pub mod Tried
 pub mod Earlier
 pub mod Pairs
 pub mod Made

@@ -25,9 +25,9 @@ use Rattle.entry_laws.specs.Attempts.{Attempted, IsInConflict}
 use Rattle.entry_laws.specs.Claims.{Holds, retried, stood_behind}
 use Rattle.entry_laws.specs.Runs.{Served, Works, opening_of}
 use Rattle.entry_laws.proofs.Lists.{stands_front, stands_parts, stands_rest}
-use Rattle.entry_laws.proofs.Makes.{IsEntryOf, Makes, drawn, drawn-append, makes_both, makes_seen, makes_still}
+use Rattle.entry_laws.proofs.Makes.{IsEntryOf, Makes, drawn, drawn-append, makes_both, makes_seen, makes_still, is_committed}
 use Rattle.entry_laws.proofs.Reaches.{fewer_blocks}
-use Rattle.entry_laws.proofs.Tells.{IsFailed, IsNumbered, IsTold, draws, holds, is_committed, moves, spare, told}
+use Rattle.entry_laws.proofs.Tells.{IsFailed, IsNumbered, IsTold, draws, holds, moves, spare, told}
 
 -- ---- what is shown
 

@@ -14,7 +14,7 @@ use Rattle.entry_laws.proofs.Fitting.{contains_stands}
 use Rattle.entry_laws.proofs.Lists.{stands_all, stands_contains, stands_map}
 use Rattle.entry_laws.proofs.Owners.{stands_mapped}
 use Rattle.entry_laws.proofs.Pairs.{AreServed, all_served, get_behind, get_some, got, no_block, once_at}
-use Rattle.entry_laws.proofs.Tells.{is_committed}
+use Rattle.entry_laws.proofs.Makes.{is_committed}
 
 module _ (t : RunRecord) (h : FitsInterleaved t) where
   pub served : AreServed t [] t.jobs t.outcomes

@@ -1,12 +1,14 @@
 -- Which entries an attempt makes, and which all attempts of a job make.
-use Rattle.std.proofs.Common.{◌≡◌, ℕ, ◌+◌, ◌≤◌, List, [], ◌∷◌, ◌++◌, length, length-append, sym, refl, ap, ◌∙◌, subst, arith, append-nil, append_assoc}
+use Rattle.std.proofs.Common.{◌≡◌, ℕ, ◌+◌, ◌<◌, ◌≤◌, ◌^◌, Bool, true, false, List, [], ◌∷◌, ◌++◌, length, length-append, Some, None, sym, refl, ap, ◌∙◌, subst, arith, append-nil, append_assoc}
 use Rattle.std.specs.List.{AllByRecursion}
 use mathlib.Core.List.{IsPrefix}
+use Rattle.ion_values.specs.declared.time.TimeParts.{TimeParts}
 use Rattle.ql_types.specs.declared.Place.{Place}
 use Rattle.ql_types.specs.declared.TxId.{TxId}
 use Rattle.ledger_model.specs.declared.block.Block.{Block}
 use Rattle.ledger_model.specs.declared.outcome.Outcome.{Outcome}
 use Rattle.ledger_model.specs.declared.outcome.Outcome.TheVariants.{Committed}
+use Rattle.ledger_model.specs.Making.{IsMadeOf}
 use Rattle.ledger_model.specs.Script.{Placed}
 use Rattle.turn_lock.specs.declared.view.Known.{Known}
 use Rattle.turn_lock.specs.declared.view.Placed as own
@@ -27,12 +29,28 @@ pub record IsCommittedAs (o : Opening) (p : Placed) (x : Outcome) (front : List 
   pub of_job : IsOfJob b p
   pub digest : SendsOwn p.job b.header.tx
 
+abbrev pub is_committed : Outcome → Bool
+is_committed (Committed tx block) = true
+is_committed other = false
+
+-- the block is that of the job's statements behind the blocks of these entries, as the transaction of a number behind the
+-- last one, and it isn't told as committed
+pub record IsTriedAs (o : Opening) (p : Placed) (x : Outcome) (front : List Entry) (b : Block) : Type 0 where
+  pub untold : is_committed x ≡ false
+  pub commits : p.job.abort ≡ false
+  pub digest : SendsOwn p.job b.header.tx
+  pub last : ℕ
+  pub counted : last + 1 < 2 ^ 64
+  pub time : TimeParts
+  pub made : IsMadeOf (record { mask = o.mask; number = last + 1 }) (blocks_in o front) p.place time p.job.statements b
+
 -- what the entry says of the job's outcome
 abbrev pub Says : Opening → Placed → Outcome → List Entry → Entry → Type 0
 Says o p x front (begun_at place number since) = Unit {0}
 Says o p x front (sealed number block) = IsCommittedAs o p x front block
-Says o p x front (failed number count block) = told_count x ≡ count ∷ []
-Says o p x front (wanted number block) = Unit {0}
+Says o p x front (failed number count block) = (told_count x ≡ count ∷ []) × IsTriedAs o p x front block
+Says o p x front (wanted number None) = Unit {0}
+Says o p x front (wanted number (Some block)) = IsTriedAs o p x front block
 
 -- the entry came between what had been seen before and behind
 pub record IsEntryOf (o : Opening) (p : Placed) (x : Outcome) (from until : List Entry)

@@ -22,7 +22,8 @@ use Rattle.entry_laws.proofs.Links.{InTime, IsLink, Link}
 use Rattle.entry_laws.proofs.Owners.{bound, line, rest_low}
 use Rattle.entry_laws.proofs.Reaches.{comes_behind, fewer_blocks, lasts_on, may_come, run_prefix}
 use Rattle.entry_laws.proofs.Lists.{prefix_front}
-use Rattle.entry_laws.proofs.Tells.{IsNumbered, is_committed, spare}
+use Rattle.entry_laws.proofs.Makes.{is_committed}
+use Rattle.entry_laws.proofs.Tells.{IsNumbered, spare}
 
 module _ (t : RunRecord) (ss : List Served) (es : List Entry) (pass_of : ℕ → Known Entry) (r : IsRunBy t ss es pass_of)
     (blockless : (s : Served) → Stands s ss → is_committed s.outcome ≡ false → HasNoBlock t s.placed) where

@@ -13,7 +13,7 @@ use Rattle.ledger_claims.specs.Fits.{RunRecord, Before, HasNoBlock, HaveOneWorke
 use Rattle.entry_laws.specs.Claims.{AllBefore, EachHolds, Holds, RunsBefore}
 use Rattle.entry_laws.specs.Runs.{Served, told_of}
 use Rattle.entry_laws.proofs.Lists.{stands_all}
-use Rattle.entry_laws.proofs.Tells.{is_committed}
+use Rattle.entry_laws.proofs.Makes.{is_committed}
 
 -- ---- lists by place
 

@@ -27,7 +27,7 @@ use Rattle.core_machine.proofs.Conflicts.{commit_is_made}
 use Rattle.core_machine.proofs.Histories.{history_stays_legal}
 use Rattle.core_machine.proofs.Lists.{found}
 use Rattle.core_machine.proofs.OnBase.{AllOnBase, OnBase, all_on_base}
-use Rattle.entry_laws.specs.Attempts.{Adds, Begins, Readies, Sees, SendsOwn, begun_as}
+use Rattle.entry_laws.specs.Attempts.{Adds, Begins, Comes, Readies, Sees, SendsOwn, begun_as}
 use Rattle.entry_laws.specs.Seen.{blocks_in}
 use Rattle.entry_laws.specs.Steps.{IsCommitting, CommitsEndAttempts, EndsAttempt}
 use Rattle.entry_laws.proofs.Grown.{few_blocks}
@@ -101,13 +101,13 @@ module _ (o : Opening) (job : Job) (place : Place) (k : Known Entry) (tx : TxId)
 
   -- behind the checks
   module _ (digest : SendsOwn job tx) where
-    made : ending m c t t.done ≡ seals (own_block m t c r.progress)
+    made : block_in (ending m c t t.done) ≡ Some (own_block m t c r.progress)
         → IsMadeOf (begun_as o begun.number) (blocks_in o front) place c.time job.statements
         (own_block m t c r.progress)
     made is =
         let b : IsMadeOf (record { mask = m.mask; number = t.number }) m.blocks t.place c.time t.asked
         (own_block m t c r.progress) =
-        commit_is_made m t.number t c (own_block m t c r.progress) r.reached (ap block_in is) in
+        commit_is_made m t.number t c (own_block m t c r.progress) r.reached is in
         record {
           progress = b.progress;
           runs =
@@ -117,6 +117,10 @@ module _ (o : Opening) (job : Job) (place : Place) (k : Known Entry) (tx : TxId)
               ∙ (λ i. block_of (record { mask = r.mask i; number = r.number i }) (r.blocks i) (r.at i) c.time
               b.progress);
         }
+
+    comes : block_in (ending m c t t.done) ≡ Some (own_block m t c r.progress)
+        → Comes o job place k tx begun.number front (own_block m t c r.progress)
+    comes is = record { commits = r.commits; digest = digest; time = c.time; is_made = made is }
 
     by_service : (s : Service) → ending m c t t.done ≡ ends_by s (own_block m t c r.progress)
         → Told (ends_by s (own_block m t c r.progress))
@@ -129,18 +133,22 @@ module _ (o : Opening) (job : Job) (place : Place) (k : Known Entry) (tx : TxId)
         made = own_block m t c r.progress;
         adds = adds (λ n. sealed n (own_block m t c r.progress));
         time = c.time;
-        is_made = made is;
+        is_made = made (ap block_in is);
         block_is = ap length r.blocks;
       },
     )
-    by_service no_memory is = (OutOfMemory, refl, inr (tx, begun, inr (None, adds (λ n. wanted n None))))
+    by_service no_memory is = (OutOfMemory, refl, inr (tx, begun, inr (None, adds (λ n. wanted n None), tt)))
     by_service store_wants is = (
       OutOfMemory,
       refl,
       inr (
         tx,
         begun,
-        inr (Some (own_block m t c r.progress), adds (λ n. wanted n (Some (own_block m t c r.progress)))),
+        inr (
+          Some (own_block m t c r.progress),
+          adds (λ n. wanted n (Some (own_block m t c r.progress))),
+          comes (ap block_in is),
+        ),
       ),
     )
     by_service (store_failed count) is = (
@@ -151,6 +159,7 @@ module _ (o : Opening) (job : Job) (place : Place) (k : Known Entry) (tx : TxId)
         digest = digest;
         block = own_block m t c r.progress;
         adds = adds (λ n. failed n count (own_block m t c r.progress));
+        comes = comes (ap block_in is);
       },
     )
 

@@ -1,5 +1,5 @@
 -- What one attempt at a job's transaction tells of the whole history.
-use Rattle.std.proofs.Common.{◌≡◌, ℕ, ◌+◌, ◌-◌, ◌^◌, ◌<◌, ◌≤◌, Bool, true, false, List, [], ◌∷◌, ◌++◌, length, length-append, take, slice_get, Some, IfSome, sym, refl, ap, ◌∙◌, subst, inl, inr, arith}
+use Rattle.std.proofs.Common.{◌≡◌, ℕ, ◌+◌, ◌-◌, ◌^◌, ◌<◌, ◌≤◌, Bool, true, false, List, [], ◌∷◌, ◌++◌, length, length-append, take, slice_get, Option, None, Some, IfSome, sym, refl, ap, ◌∙◌, subst, inl, inr, arith}
 use Rattle.std.specs.List.{AllByRecursion}
 use mathlib.Core.List.{IsPrefix}
 use Rattle.ql_types.specs.Ids.{raw_id}
@@ -13,7 +13,7 @@ use Rattle.ledger_model.specs.declared.outcome.Outcome.TheVariants.{Committed, C
 use Rattle.ledger_model.specs.declared.outcome.Refusal.{Refusal}
 use Rattle.ledger_model.specs.Journal.{said_in}
 use Rattle.ledger_model.specs.Legal.{asked_in}
-use Rattle.ledger_model.specs.Making.{block_of}
+use Rattle.ledger_model.specs.Making.{IsMadeOf, block_of}
 use Rattle.ledger_model.specs.Run.{run}
 use Rattle.ledger_model.specs.State.{state}
 use Rattle.ledger_model.specs.Script.{Placed}
@@ -28,14 +28,14 @@ use Rattle.ledger_claims.proofs.Lists.{slice_get_seam}
 use Rattle.core_machine.specs.Entries.{Entry, Opening, Reach, begun_at, failed, reach_at, sealed, wanted}
 use Rattle.entry_laws.specs.Seen.{IsRight, blocks_in, reach}
 use Rattle.entry_laws.specs.Alone.{is_spent}
-use Rattle.entry_laws.specs.Attempts.{Attempted, Begins, SendsOwn, begun_as, ran_in}
+use Rattle.entry_laws.specs.Attempts.{Adds, Attempted, Begins, SendsOwn, begun_as, ran_in}
 use Rattle.entry_laws.specs.Attempts as attempt
 use Rattle.entry_laws.specs.Claims.{Holds, stood_behind}
 use Rattle.entry_laws.specs.Claims as claim
 use Rattle.entry_laws.specs.Runs.{opening_of}
 use Rattle.entry_laws.proofs.Grown.{conflict_on, found_first, stays_full}
 use Rattle.entry_laws.proofs.Lists.{prefix_front, prefix_take}
-use Rattle.entry_laws.proofs.Makes.{IsCommittedAs, Makes, adds_later, adds_within, makes_both, makes_none, makes_seen, makes_still, makes_two}
+use Rattle.entry_laws.proofs.Makes.{IsCommittedAs, IsTriedAs, Makes, Says, adds_later, adds_within, is_committed, makes_both, makes_none, makes_seen, makes_still, makes_two}
 use Rattle.entry_laws.proofs.Reaches.{blocks_on, blocks_sealed, comes_behind, counts_on, fewer_blocks, lasts_on, may_come, run_prefix}
 
 -- ---- a number that is told, and a count
@@ -68,10 +68,6 @@ spare other = 0
 abbrev pub draws : Outcome → ℕ
 draws (IdsSpent last) = 0
 draws other = 1
-
-abbrev pub is_committed : Outcome → Bool
-is_committed (Committed tx block) = true
-is_committed other = false
 
 begun_numbered : (o : Opening) (place : Place) (k now : Known Entry) (tx : TxId) (b : Begins o place k tx)
     → IsPrefix b.now.seen now.seen → IsNumbered o place k.seen now.seen tx.raw
@@ -252,13 +248,33 @@ module _ (t : RunRecord) (es : List Entry) (right : IsRight (opening_of t) es)
       spends = λ e. not_so e;
     }
 
+    -- the block with which it came to its store
+    tried_as : (x : Outcome) → is_committed x ≡ false → (tx : TxId) (b : Begins o p.place k tx) → IsPrefix b.now.seen es
+        → (front : List Entry) (block : Block) → attempt.Comes o p.job p.place k tx b.number front block
+        → IsTriedAs o p x front block
+    tried_as x untold tx b inside front block h =
+        let next : b.number ≡ (reach o b.adds.front).last + 1 =
+        (may_come (reach_at o) b.adds.front (begun_at p.place b.number b.since) es (there tx b inside) right.run).0 in
+        let id : block.header.tx ≡ tx =
+        ap (λ (y : Block). y.header.tx) h.is_made.block_is ∙ (λ i. record { raw = sym b.id i }) in
+        record {
+          untold = untold;
+          commits = h.commits;
+          digest = subst (SendsOwn p.job) (sym id) h.digest;
+          last = (reach o b.adds.front).last;
+          counted = subst (λ n. n < 2 ^ 64) next b.counted;
+          time = h.time;
+          made = subst (λ n. IsMadeOf (begun_as o n) (blocks_in o front) p.place h.time p.job.statements block) next h.is_made;
+        }
+
     told_StoreFault : (tx : TxId) (count : ℕ) → attempt.Fails o p.job p.place k tx count now
         → IsTold o p (StoreFault tx count) k now
     told_StoreFault tx count h =
         let e : Entry = failed h.ready.begun.number count h.block in
         let later : IsPrefix h.ready.begun.now.seen now.seen = adds_later h.ready.begun.now e now h.adds in
         record {
-          makes = makes_two o p (StoreFault tx count) p.place k e now tx h.ready.begun h.adds refl refl;
+          makes = makes_two o p (StoreFault tx count) p.place k e now tx h.ready.begun h.adds
+              (refl, tried_as (StoreFault tx count) refl tx h.ready.begun (begun_inside tx h.ready.begun later) h.adds.front h.block h.comes) refl;
           numbers = one_number tx h.ready.begun later;
           counts = (
             record {
@@ -288,6 +304,13 @@ module _ (t : RunRecord) (es : List Entry) (right : IsRight (opening_of t) es)
           spends = λ e. h.last_is ∙ h.greatest_last;
         }
 
+    says_wanted : (tx : TxId) (b : Begins o p.place k tx) (block : Option Block) (a : Adds b.now (wanted b.number block) now)
+        → attempt.WantsAt o p.job p.place k tx b.number a.front block
+        → Says o p OutOfMemory a.front (wanted b.number block)
+    says_wanted tx b None a h = tt
+    says_wanted tx b (Some block) a h =
+        tried_as OutOfMemory refl tx b (begun_inside tx b (adds_later b.now (wanted b.number (Some block)) now a)) a.front block h
+
     told_behind : (tx : TxId) (b : Begins o p.place k tx) → attempt.WantsBehind o p.job p.place k tx b now
         → IsTold o p OutOfMemory k now
     told_behind tx b (inl s) =
@@ -300,7 +323,7 @@ module _ (t : RunRecord) (es : List Entry) (right : IsRight (opening_of t) es)
           spends = λ e. not_so e;
         }
     told_behind tx b (inr a) = record {
-      makes = makes_two o p OutOfMemory p.place k (wanted b.number a.0) now tx b a.1 tt refl;
+      makes = makes_two o p OutOfMemory p.place k (wanted b.number a.0) now tx b a.1 (says_wanted tx b a.0 a.1 a.2) refl;
       numbers = tt;
       counts = tt;
       starts = tt;

@@ -1,7 +1,7 @@
 -- One attempt at a job's transaction, by its outcome, as far as the pass with which it was made knows it: which
 -- entries it made, and what is true of its outcome on the entries that had come. Entries of others may stand between
 -- its own (the ledger's own).
-use Rattle.std.specs.Prelude.{◌≡◌, ◌⊎◌, ℕ, ◌-◌, ◌^◌, ◌<◌, true, false, List, length, Option, Some, IfSome}
+use Rattle.std.specs.Prelude.{◌≡◌, ◌⊎◌, ℕ, ◌-◌, ◌^◌, ◌<◌, true, false, List, length, Option, None, Some, IfSome}
 use mathlib.Core.List.{IsPrefix}
 use Rattle.ion_values.specs.declared.time.TimeParts.{TimeParts}
 use Rattle.ql_types.specs.Ids.{raw_id}
@@ -119,12 +119,20 @@ module _ (o : Opening) (job : Job) (place : Place) (k : Known Entry) where
     pub full : length (blocks_in o now.seen) ≡ 2 ^ 32 - 1
     pub told : blocks ≡ 2 ^ 32 - 1
 
-  -- the store failed
+  -- so is this block that of its statements behind all blocks, with which it came to its store
+  pub record Comes (tx : TxId) (number : ℕ) (front : List Entry) (block : Block) : Type 0 where
+    pub commits : job.abort ≡ false
+    pub digest : SendsOwn job tx
+    pub time : TimeParts
+    pub is_made : IsMadeOf (begun_as o number) (blocks_in o front) place time job.statements block
+
+  -- the store failed at it
   pub record Fails (tx : TxId) (count : ℕ) (now : Known Entry) : Type 0 where
     pub ready : Readies o job place k tx
     pub digest : SendsOwn job tx
     pub block : Block
     pub adds : Adds ready.begun.now (failed ready.begun.number count block) now
+    pub comes : Comes tx ready.begun.number adds.front block
 
   -- it is sealed as the block of its statements behind all blocks
   pub record Commits (tx : TxId) (block : ℕ) (now : Known Entry) : Type 0 where
@@ -139,9 +147,15 @@ module _ (o : Opening) (job : Job) (place : Place) (k : Known Entry) where
   -- ---- want of memory
 
   -- before the commit has come to its store, or there
+  abbrev pub WantsAt : TxId → (number : ℕ) → (front : List Entry) → Option Block → Type 0
+  WantsAt tx number front None = Unit {0}
+  WantsAt tx number front (Some block) = Comes tx number front block
+
   abbrev pub WantsBehind : (tx : TxId) → Begins o place k tx → Known Entry → Type 0
   WantsBehind tx begun now =
-      Sees begun.now now ⊎ ((block : Option Block) × Adds begun.now (wanted begun.number block) now)
+      Sees begun.now now
+      ⊎ ((block : Option Block) × (adds : Adds begun.now (wanted begun.number block) now)
+      × WantsAt tx begun.number adds.front block)
 
   -- before a transaction has begun, or behind that
   abbrev pub Wants : Known Entry → Type 0

@@ -5,3 +5,4 @@ pub mod Runs
 pub mod Alone
 pub mod Passes
 pub mod Steps
+pub mod Tried

@@ -8,6 +8,7 @@ ghost use Rattle.entry_laws.specs.Passes.{PassesWork};
 ghost use Rattle.entry_laws.specs.Runs.{RunsFit};
 ghost use Rattle.entry_laws.specs.Seen.{MachinesLeaveRight, RunsAreLegal};
 ghost use Rattle.entry_laws.specs.Steps.{CommitsEndAttempts};
+ghost use Rattle.entry_laws.specs.Tried.{TriedFit};
 
 /// The blocks that a run of entries leaves are one serial history behind those of its opening.
 pub fn runs_are_legal()
@@ -33,6 +34,12 @@ pub fn passes_work()
 /// what is claimed of it.
 pub fn runs_fit()
     ensures { RunsFit }
+{}
+
+/// Where the store was left with the block of a commit that it refused behind the run's blocks, all of them are blocks of
+/// its jobs still.
+pub fn tried_fit()
+    ensures { TriedFit }
 {}
 
 /// Each block that a run made is told as committed, so no outcome leaves one out.

@@ -246,6 +246,12 @@ module _ (o : Opening) (k : Known Entry) (s : Standing) (before : ℕ) (at : Sta
           digest = c.digest;
           block = b;
           adds = adds_one (behind p.place) (failed (s.last + 1) count b);
+          comes = record {
+            commits = c.is_next.commits;
+            digest = c.digest;
+            time = c.time;
+            is_made = made_behind o.mask (blocks_in o (behind p.place).seen) c.time b at.mask blocks_behind c.is_next.made;
+          };
         })
     enters (JournalFull tx blocks) now after h f =
         no_more (JournalFull tx blocks) now after h.0.now_is f
