@@ -3,13 +3,12 @@ ghost use Rattle.std.specs.Prelude.{◌≡◌, length, option_map, sum_by, IfOk}
 ghost use Rattle.std.specs.Option.{option_copied};
 ghost use Rattle.ledger_model.specs.ReadScript.{named};
 ghost use Rattle.ledger_model.specs.State.{draft_of, state};
-ghost use Rattle.ledger_model.specs.Values.{fields_in};
 ghost use Rattle.ledger_model.specs.Views.{row_of};
 ghost use Rattle.versions.specs.Held.{drafts_lent, recorded_of};
 ghost use Rattle.made_workload.specs.Sums.{amount_in, amount_of, made_rows, number_in, row_amount, rows_among, summary, summary_text, totals_of};
 
-use ion_values::{Body, Field, Fields, OutOfMemory, Text, Value};
-use ledger_model::{Block, Content};
+use ion_values::{Body, Field, OutOfMemory, Text, Value};
+use ledger_model::{Block, Content, fields_in};
 use ql_types::TableId;
 use std::alloc::Global;
 use versions::{Recorded, Versions, active_table};
@@ -20,19 +19,6 @@ pub struct Totals {
     pub blocks: u64,
     pub documents: u64,
     pub amounts: u128,
-}
-
-/// The fields of an unannotated struct.
-fn fields_in(v: &Value) -> Option<&Fields>
-    ensures { option_copied result ≡ fields_in v.now }
-{
-    if !v.annotations.is_empty() {
-        return None;
-    }
-    match &v.body {
-        Body::Struct(fields) => Some(fields),
-        _ => None,
-    }
 }
 
 /// The number of an unannotated int of at most 64 bits without a sign.
