@@ -1,18 +1,33 @@
--- A run that was reported holds its journal.
+-- A run that was told whole holds its journal.
 use Rattle.std.proofs.Common.{ℕ, List}
-use Rattle.ledger_model.specs.declared.script.Job.{Job}
+use Rattle.ledger_model.specs.Script.{Placed}
+use Rattle.command_words.specs.declared.MakeOptions.{MakeOptions}
 use Rattle.outside.specs.Told.{StoreTold, held}
 use Rattle.ledger_claims.specs.Calls.{Span}
+use Rattle.ledger_claims.specs.Fits.{RunRecord}
 use Rattle.ledger_claims.proofs.Left.{all-HoldingWithRest}
-use Rattle.command_claims.specs.Runs.{Terms, IsReportOf, HoldsRun}
+use Rattle.command_claims.specs.Clocks.{Answers}
+use Rattle.command_claims.specs.Making.{IsSummaryOf, made_jobs, made_terms}
+use Rattle.command_claims.specs.Runs.{Terms, IsDone, IsLeft, IsReportOf, HoldsRun}
 
-pub reported_holds : (terms : Terms) (script : List (List Job)) (store : Span StoreTold) (text : List ℕ)
-    → IsReportOf terms script store text
-    → HoldsRun terms script store
-reported_holds terms script store text r = record {
-  told = r.told;
-  of_run = r.done.of_run;
-  fits = r.done.fits.blocks;
-  digests = r.done.fits.digests;
-  holding = all-HoldingWithRest r.told.after (held store.after) r.done.holding;
+pub done_leaves : (terms : Terms) (workers : ℕ) (jobs : List Placed) (store : Span StoreTold) (t : RunRecord)
+    → IsDone terms workers jobs store t
+    → IsLeft terms workers jobs store t
+done_leaves terms workers jobs store t done = record {
+  of_run = done.of_run;
+  fits = done.fits.blocks;
+  digests = done.fits.digests;
+  holding = all-HoldingWithRest t.after (held store.after) done.holding;
 }
+
+pub reported_holds : (terms : Terms) (workers : ℕ) (jobs : List Placed) (store : Span StoreTold) (text : List ℕ)
+    → IsReportOf terms workers jobs store text
+    → HoldsRun terms workers jobs store
+reported_holds terms workers jobs store text r =
+    record { told = r.told; left = done_leaves terms workers jobs store r.told r.done }
+
+pub summarized_holds : (o : MakeOptions) (store : Span StoreTold) (clock : Span Answers) (text : List ℕ)
+    → IsSummaryOf o store clock text
+    → HoldsRun (made_terms o clock) o.workers (made_jobs o) store
+summarized_holds o store clock text r =
+    record { told = r.told; left = done_leaves (made_terms o clock) o.workers (made_jobs o) store r.told r.done }

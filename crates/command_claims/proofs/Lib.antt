@@ -1,3 +1,4 @@
 pub mod Addresses
+pub mod First
 pub mod Holding
 mod Rows

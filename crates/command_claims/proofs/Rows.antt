@@ -8,7 +8,7 @@ use Rattle.ledger_model.specs.declared.damage.Damage.TheVariants as damage
 use Rattle.ledger_model.specs.declared.script.ScriptKind.TheVariants as script
 use Rattle.proof_issue.specs.declared.NoSuch.TheVariants as none_such
 use Rattle.proof_verify.specs.declared.ProofFault.TheVariants as fault
-use Rattle.command_claims.specs.Lines.{words_line, misspelt, input_line, no_such_line, damaged_line, faults_line, proof_fault_line}
+use Rattle.command_claims.specs.Lines.{words_line, misspelt, input_line, no_such_line, not_empty_line, damaged_line, faults_line, proof_fault_line}
 use Rattle.command_claims.specs.Journals.{HasNone, tip_in}
 use Rattle.command_claims.specs.Journals as asks
 use Rattle.command_claims.specs.Outputs.{verified_text, counts_text}
@@ -47,6 +47,11 @@ row_three a b c = refl
 row_order : (a b c : Block) → HasNone (asks.proof 4 9 (Some 3)) (a ∷ b ∷ c ∷ []) (none_such.Block 3 3)
     × HasNone (asks.proof 2 9 (Some 1)) (a ∷ b ∷ c ∷ []) (none_such.PastTip 2 1)
 row_order a b c = (refl, refl)
+
+-- a workload on a journal of two blocks
+row_not_empty : not_empty_line 2 ≡ codes "{status:2,fault:{kind:JournalNotEmpty,blocks:2}}\n"
+unfolding digits
+row_not_empty = refl
 
 row_script : input_line (misspelt (record { session = 1; transaction = 0; kind = script.NotASession }))
     ≡ codes "{status:2,fault:{session:1,transaction:0,kind:NotASession}}\n"

@@ -4,6 +4,7 @@ pub mod Clocks
 pub mod Inputs
 pub mod Journals
 pub mod Lines
+pub mod Making
 pub mod Outputs
 pub mod Runs
 pub mod Top

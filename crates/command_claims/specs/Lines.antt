@@ -87,6 +87,12 @@ no_such_text none_such.OutOfMemory = codes "kind:OutOfMemory"
 abbrev pub no_such_line : NoSuch → List ℕ
 no_such_line refused = fault_line (no_such_text refused)
 
+-- ---- that the journal isn't empty, with the status 2
+
+-- the journal of so many blocks
+abbrev pub not_empty_line : ℕ → List ℕ
+not_empty_line blocks = fault_line (codes "kind:JournalNotEmpty,blocks:" ++ decimal blocks)
+
 -- ---- which line of the journal is damaged, with the status 3
 
 abbrev pub damage_name : Damage → List ℕ

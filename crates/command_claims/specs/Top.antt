@@ -1,5 +1,5 @@
 -- What the program does, by the command that its words ask for and the status with which it ends.
-use Rattle.std.specs.Prelude.{◌≡◌, ℕ, ◌<◌, ◌⊎◌, List, map, codes, string_bytes, Option, Some, None, Bool, true, false, is_none, ◌||◌}
+use Rattle.std.specs.Prelude.{◌≡◌, ℕ, ◌<◌, ◌⊎◌, List, length, map, codes, string_bytes, Option, Some, None, Bool, true, false, is_none, ◌||◌}
 use Rattle.ion_values.specs.declared.value.Value.{Value}
 use Rattle.ledger_model.specs.declared.block.Block.{Block}
 use Rattle.ledger_model.specs.declared.damage.Damage.{Damage}
@@ -18,7 +18,8 @@ use Rattle.command_claims.specs.Calls.{Outside, Call}
 use Rattle.command_claims.specs.Inputs.{IsIdle, SourceFailed, SpellsScript, IsNoScript, HasValues, IsNoText}
 use Rattle.command_claims.specs.Journals.{Question, Answers, HasNone, IsUncalled, IsUnchanged, HasFailed, Reads, ReadsDamage}
 use Rattle.command_claims.specs.Journals as asks
-use Rattle.command_claims.specs.Lines.{BadInput, words_line, input_line, no_such_line, damaged_line, faults_line, memory_line, proof_fault_line}
+use Rattle.command_claims.specs.Lines.{BadInput, words_line, input_line, no_such_line, not_empty_line, damaged_line, faults_line, memory_line, proof_fault_line}
+use Rattle.command_claims.specs.Making.{Summarizes, LeavesMade}
 use Rattle.command_claims.specs.Outputs.{verified_text}
 use Rattle.command_claims.specs.Runs.{Reports, LeavesRun}
 
@@ -62,6 +63,13 @@ pub record NoSuchLine (question : Question) (x : Outside) (line : List ℕ) : Ty
   pub none : HasNone question blocks why
   pub line_is : line ≡ no_such_line why
 
+-- the journal that was read has blocks already
+pub record NotEmptyLine (x : Outside) (line : List ℕ) : Type 0 where
+  pub blocks : List Block
+  pub reads : Reads x.store blocks
+  pub some : 0 < length blocks
+  pub line_is : line ≡ not_empty_line (length blocks)
+
 -- the journal that was read is damaged
 pub record DamagedLine (x : Outside) (line : List ℕ) : Type 0 where
   pub sequence : ℕ
@@ -101,6 +109,21 @@ RunRefuses same x store_failed line = SpellsScript x.source × StoreLine x line
 RunRefuses same x sink_failed line = ⊥
 RunRefuses same x not_accepted line = ⊥
 RunRefuses same x out_of_memory line = ⊥
+
+-- ---- a workload
+
+-- At 2 the journal isn't empty, and at 3 it is damaged. At 5 the store failed when the journal was read or was to be cut
+-- at the end.
+abbrev pub MakeRefuses : Outside → Status → List ℕ → Type 0
+MakeRefuses x done line = ⊥
+MakeRefuses x bad_words line = ⊥
+MakeRefuses x bad_input line = NotEmptyLine x line
+MakeRefuses x damaged line = DamagedLine x line
+MakeRefuses x source_failed line = ⊥
+MakeRefuses x store_failed line = StoreLine x line
+MakeRefuses x sink_failed line = ⊥
+MakeRefuses x not_accepted line = ⊥
+MakeRefuses x out_of_memory line = ⊥
 
 -- ---- a question to the journal
 
@@ -167,6 +190,7 @@ Gives (Some (command.Digest tip)) x text = JournalGives (asks.digest tip) x text
 Gives (Some (command.Prove sequence index tip)) x text = JournalGives (asks.proof sequence index tip) x text
 Gives (Some command.Verify) x text = VerifyGives x text
 Gives (Some command.Audit) x text = JournalGives asks.counts x text
+Gives (Some (command.Make options)) x text = Summarizes options x text
 
 -- it isn't given, for a cause with this status and this line
 abbrev pub Refuses : Type 0 → Option Command → Outside → Status → List ℕ → Type 0
@@ -177,10 +201,11 @@ Refuses same (Some (command.Prove sequence index tip)) x status line =
     JournalRefuses (asks.proof sequence index tip) x status line
 Refuses same (Some command.Verify) x status line = VerifyRefuses x status line
 Refuses same (Some command.Audit) x status line = JournalRefuses asks.counts x status line
+Refuses same (Some (command.Make options)) x status line = MakeRefuses x status line
 
 -- What is so at every status. Words that ask for nothing, and a bundle, never touch the store; a question to the
 -- journal leaves what it holds, and the source is not read; a run leaves what the store held or the journal of the run
--- or a part of it.
+-- or a part of it, and so does a workload's, for which the source is not read either.
 abbrev pub Keeps : Type 0 → Option Command → Outside → Type 0
 Keeps same None x = IsUncalled same x.store × IsIdle x.source
 Keeps same (Some (command.Run options)) x = LeavesRun options x
@@ -188,6 +213,7 @@ Keeps same (Some (command.Digest tip)) x = IsUnchanged x.store × IsIdle x.sourc
 Keeps same (Some (command.Prove sequence index tip)) x = IsUnchanged x.store × IsIdle x.source
 Keeps same (Some command.Verify) x = IsUncalled same x.store
 Keeps same (Some command.Audit) x = IsUnchanged x.store × IsIdle x.source
+Keeps same (Some (command.Make options)) x = LeavesMade options x × IsIdle x.source
 
 -- ---- the end
 
@@ -244,7 +270,8 @@ is_first_answer ids.Plain = false
 is_first_answer (ids.Seed seed) = false
 is_first_answer ids.FirstAnswer = true
 
--- only a run asks the clock, where the words leave out its time or the source of its ids
+-- Only a run asks the clock, where the words leave out its time or the source of its ids, and a workload's always does.
 abbrev pub asks_clock : Option Command → Bool
 asks_clock (Some (command.Run options)) = is_none options.time || is_first_answer options.ids
+asks_clock (Some (command.Make options)) = true
 asks_clock _ = false

@@ -1,10 +1,14 @@
 //! Words that are read.
 use crate::words::asked;
-use command_words::{Command, IdSource, RunOptions};
+use command_words::{Command, IdSource, MakeOptions, RunOptions};
 
-/// A run that takes its ids from there, at the clock's times.
+/// A run that takes its ids from there, at the clock's times, by four workers.
 fn from_ids(ids: IdSource) -> Command {
-    Command::Run(RunOptions { ids, time: None })
+    Command::Run(RunOptions {
+        ids,
+        time: None,
+        workers: 4,
+    })
 }
 
 #[test]
@@ -60,6 +64,61 @@ fn times_of_run(rt: HostRuntime) {
         let wanted = Command::Run(RunOptions {
             ids: IdSource::Plain,
             time: Some(time),
+            workers: 4,
+        });
+        assert!(rt; asked(rt.alloc(), line) == Some(Ok(wanted)), "{line}");
+    }
+}
+
+#[test]
+fn workers_of_run(rt: HostRuntime) {
+    for (line, workers) in [
+        ("run --workers 1 --plain-ids", 1),
+        ("run --plain-ids --workers=2", 2),
+        ("run --plain-ids", 4),
+        ("run --workers 64 --plain-ids", 64),
+    ] {
+        let wanted = Command::Run(RunOptions {
+            ids: IdSource::Plain,
+            time: None,
+            workers,
+        });
+        assert!(rt; asked(rt.alloc(), line) == Some(Ok(wanted)), "{line}");
+    }
+}
+
+// Each row is a line, a seed, how many sessions, how many transactions of each, and how many workers.
+#[test]
+fn words_of_make(rt: HostRuntime) {
+    for (line, seed, sessions, transactions, workers) in [
+        ("make --seed 1 --sessions 2 --transactions 3", 1, 2, 3, 4),
+        (
+            "make --workers 1 --transactions=3 --sessions=2 --seed=0",
+            0,
+            2,
+            3,
+            1,
+        ),
+        (
+            "make --seed 18446744073709551615 --sessions 1024 --transactions 97 --workers 64",
+            18_446_744_073_709_551_615,
+            1024,
+            97,
+            64,
+        ),
+        (
+            "make --seed 7 --sessions 100 --transactions 1000",
+            7,
+            100,
+            1000,
+            4,
+        ),
+    ] {
+        let wanted = Command::Make(MakeOptions {
+            seed,
+            sessions,
+            transactions,
+            workers,
         });
         assert!(rt; asked(rt.alloc(), line) == Some(Ok(wanted)), "{line}");
     }

@@ -16,6 +16,15 @@ help";
 const RUNS: &str = "run extra
 run run
 run --workers 0
+run --workers 65
+run --workers
+run --workers=
+run --workers -1
+run --workers +1
+run --workers 04
+run --workers x
+run --workers 4294967297
+run --workers 1 --workers 1
 run --tip 1
 run --see 1
 run -s 1
@@ -105,9 +114,36 @@ audit 1
 audit --plain-ids
 audit --version";
 
+const MAKES: &str = "make
+make --seed 1
+make --seed 1 --sessions 2
+make --seed 1 --transactions 3
+make --sessions 2 --transactions 3
+make 1 --sessions 2 --transactions 3
+make --seed 1 --sessions 2 --transactions 3 4
+make --seed 1 --sessions 0 --transactions 3
+make --seed 1 --sessions 1025 --transactions 3
+make --seed 1 --sessions 2 --transactions 0
+make --seed 1 --sessions 2 --transactions 1001
+make --seed 1 --sessions 101 --transactions 1000
+make --seed 1 --sessions 1024 --transactions 98
+make --seed 1 --sessions 02 --transactions 3
+make --seed 1 --sessions 2 --transactions +3
+make --seed -1 --sessions 2 --transactions 3
+make --seed 18446744073709551616 --sessions 2 --transactions 3
+make --seed 1 --seed 1 --sessions 2 --transactions 3
+make --seed 1 --sessions 2 --sessions 2 --transactions 3
+make --seed 1 --sessions 2 --transactions 3 --transactions 3
+make --seed 1 --sessions 2 --transactions 3 --workers 0
+make --seed 1 --sessions 2 --transactions 3 --workers 65
+make --seed 1 --sessions 2 --transactions 3 --workers
+make --seed 1 --sessions 2 --transactions 3 --plain-ids
+make --seed 1 --sessions 2 --transactions 3 --at 2020T
+make --seed 1 --sessions 2 --transactions 3 --help";
+
 #[test]
 fn words_that_are_refused(rt: HostRuntime) {
-    for lines in [COMMANDS, RUNS, TIMES, PROOFS] {
+    for lines in [COMMANDS, RUNS, TIMES, PROOFS, MAKES] {
         for line in lines.lines() {
             assert!(rt;
                 asked(rt.alloc(), line) == Some(Err(WordsFault::Refused)),

@@ -4,7 +4,7 @@ use Rattle.clap.specs.Faults.{defaults_fault, walk_fault}
 use Rattle.clap.specs.Walk.{walked}
 use Rattle.command_words.specs.declared.Command.TheVariants as command
 use Rattle.command_words.specs.declared.IdSource.TheVariants as ids
-use Rattle.command_words.specs.Forms.{audit_app, digest_app, found_in, prove_app, run_app, verify_app}
+use Rattle.command_words.specs.Forms.{audit_app, digest_app, found_in, make_app, prove_app, run_app, verify_app}
 use Rattle.command_words.specs.Numbers.{number_of}
 use Rattle.command_words.specs.Words.{asked}
 
@@ -15,16 +15,16 @@ no_command : asked (codes "frobnicate" ∷ []) ≡ None
 no_command = refl
 
 plain_run : asked (codes "run" ∷ codes "--plain-ids" ∷ [])
-    ≡ Some (command.Run (record { ids = ids.Plain; time = None }))
+    ≡ Some (command.Run (record { ids = ids.Plain; time = None; workers = 4 }))
 unfolding found_in walk_fault defaults_fault walked run_app
 plain_run = refl
 
-bare_run : asked (codes "run" ∷ []) ≡ Some (command.Run (record { ids = ids.FirstAnswer; time = None }))
+bare_run : asked (codes "run" ∷ []) ≡ Some (command.Run (record { ids = ids.FirstAnswer; time = None; workers = 4 }))
 unfolding found_in walk_fault defaults_fault walked run_app
 bare_run = refl
 
 seeded_run : asked (codes "run" ∷ codes "--seed" ∷ codes "1" ∷ [])
-    ≡ Some (command.Run (record { ids = ids.Seed 1; time = None }))
+    ≡ Some (command.Run (record { ids = ids.Seed 1; time = None; workers = 4 }))
 unfolding found_in walk_fault defaults_fault walked run_app number_of
 seeded_run = refl
 
@@ -82,3 +82,32 @@ audits = refl
 word_more : asked (codes "audit" ∷ codes "x" ∷ []) ≡ None
 unfolding found_in walk_fault defaults_fault walked audit_app
 word_more = refl
+
+workers : asked (codes "run" ∷ codes "--plain-ids" ∷ codes "--workers" ∷ codes "64" ∷ [])
+    ≡ Some (command.Run (record { ids = ids.Plain; time = None; workers = 64 }))
+unfolding found_in walk_fault defaults_fault walked run_app number_of
+workers = refl
+
+no_workers : asked (codes "run" ∷ codes "--workers" ∷ codes "0" ∷ []) ≡ None
+unfolding found_in walk_fault defaults_fault walked run_app number_of
+no_workers = refl
+
+many_workers : asked (codes "run" ∷ codes "--workers" ∷ codes "65" ∷ []) ≡ None
+unfolding found_in walk_fault defaults_fault walked run_app number_of
+many_workers = refl
+
+makes : asked (codes "make" ∷ codes "--seed" ∷ codes "1" ∷ codes "--sessions" ∷ codes "2" ∷ codes "--transactions" ∷ codes "3" ∷ [])
+    ≡ Some (command.Make (record { seed = 1; sessions = 2; transactions = 3; workers = 4 }))
+unfolding found_in walk_fault defaults_fault walked make_app number_of
+makes = refl
+
+no_seed : asked (codes "make" ∷ codes "--sessions" ∷ codes "2" ∷ codes "--transactions" ∷ codes "3" ∷ []) ≡ None
+unfolding found_in walk_fault defaults_fault walked make_app number_of
+no_seed = refl
+
+-- 101 sessions of 1,000 transactions
+many_transactions :
+    asked (codes "make" ∷ codes "--seed" ∷ codes "1" ∷ codes "--sessions" ∷ codes "101" ∷ codes "--transactions" ∷ codes "1000" ∷ [])
+    ≡ None
+unfolding found_in walk_fault defaults_fault walked make_app number_of
+many_transactions = refl

@@ -13,6 +13,10 @@ use Rattle.command_words.specs.declared.WordsFault.TheVariants as fault
 abbrev pub option_rule : Text → Rule
 option_rule name = record (new_rule name) { long = Some name; action = Some Set }
 
+-- `--name VALUE`, which has to stand
+abbrev pub wanted_rule : Text → Rule
+wanted_rule name = record (new_rule name) { long = Some name; action = Some Set; required = true }
+
 -- `--name`, at will
 abbrev pub flag_rule : Text → Rule
 flag_rule name = record (new_rule name) { long = Some name; action = Some SetTrue }
@@ -26,11 +30,12 @@ abbrev pub bare_app : Text → App
 bare_app name =
     on_top (λ s. record s { no_binary_name = true; disable_help_flag = true; disable_version_flag = true }) (new_app name)
 
--- `run [--seed S] [--plain-ids] [--at TIME]`
+-- `run [--seed S] [--plain-ids] [--at TIME] [--workers N]`
 unfoldable pub run_app : App
 run_app =
-    with_rule (with_rule (with_rule (bare_app (codes "run")) (option_rule (codes "seed"))) (flag_rule (codes "plain-ids")))
-    (option_rule (codes "at"))
+    with_rule (with_rule
+    (with_rule (with_rule (bare_app (codes "run")) (option_rule (codes "seed"))) (flag_rule (codes "plain-ids")))
+    (option_rule (codes "at"))) (option_rule (codes "workers"))
 
 -- `digest [--tip N]`
 unfoldable pub digest_app : App
@@ -49,6 +54,13 @@ verify_app = bare_app (codes "verify")
 -- `audit`
 unfoldable pub audit_app : App
 audit_app = bare_app (codes "audit")
+
+-- `make --seed S --sessions K --transactions N [--workers W]`
+unfoldable pub make_app : App
+make_app =
+    with_rule (with_rule
+    (with_rule (with_rule (bare_app (codes "make")) (wanted_rule (codes "seed"))) (wanted_rule (codes "sessions")))
+    (wanted_rule (codes "transactions"))) (option_rule (codes "workers"))
 
 -- what is found of each argument in these words, where `clap` has no cause to refuse them
 unfoldable pub found_in : App → List Text → Option (List Row)

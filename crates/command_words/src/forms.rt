@@ -2,14 +2,14 @@
 ghost use Rattle.std.specs.Prelude.{◌≡◌, false, true, map, string_bytes, IfOk};
 ghost use Rattle.clap.specs.Words.{app_of, rule_of, with_rule, is_simple_and_free, kind_of};
 ghost use Rattle.command_words.specs.Forms as spec;
-ghost use Rattle.command_words.specs.Forms.{Finds, option_rule, flag_rule, place_rule, bare_app};
+ghost use Rattle.command_words.specs.Forms.{Finds, option_rule, wanted_rule, flag_rule, place_rule, bare_app};
 
 use crate::WordsFault;
 use clap::error::ErrorKind;
 use clap::{Arg, ArgAction, ArgMatches, Command, Error};
 use std::alloc::{AllocError, Global};
 
-/// `run [--seed S] [--plain-ids] [--at TIME]`.
+/// `run [--seed S] [--plain-ids] [--at TIME] [--workers N]`.
 #[tactic(auto, unfolding(crate::specs::Forms::run_app))]
 pub fn run_form<'a>(alloc: Global) -> Result<Command<'a>, AllocError>
     ensures app { IfOk result (λ form. app_of form ≡ spec.run_app) }
@@ -17,7 +17,8 @@ pub fn run_form<'a>(alloc: Global) -> Result<Command<'a>, AllocError>
 {
     let form = with(bare(alloc, "run"), option(alloc, "seed"))?;
     let form = with(form, flag(alloc, "plain-ids"))?;
-    with(form, option(alloc, "at"))
+    let form = with(form, option(alloc, "at"))?;
+    with(form, option(alloc, "workers"))
 }
 
 /// `digest [--tip N]`.
@@ -58,6 +59,18 @@ pub fn audit_form<'a>(alloc: Global) -> Command<'a>
     bare(alloc, "audit")
 }
 
+/// `make --seed S --sessions K --transactions N [--workers W]`.
+#[tactic(auto, unfolding(crate::specs::Forms::make_app))]
+pub fn make_form<'a>(alloc: Global) -> Result<Command<'a>, AllocError>
+    ensures app { IfOk result (λ form. app_of form ≡ spec.make_app) }
+    ensures simple { is_simple_and_free spec.make_app ≡ true }
+{
+    let form = with(bare(alloc, "make"), wanted(alloc, "seed"))?;
+    let form = with(form, wanted(alloc, "sessions"))?;
+    let form = with(form, wanted(alloc, "transactions"))?;
+    with(form, option(alloc, "workers"))
+}
+
 /// A form that takes no words.
 fn bare<'a>(alloc: Global, name: &'a str) -> Command<'a>
     ensures { app_of result ≡ bare_app name.entry.now }
@@ -74,6 +87,17 @@ fn option<'a>(alloc: Global, name: &'a str) -> Arg<'a>
     ensures local { result.global ≡ false }
 {
     Arg::new(alloc, name).long(name).action(ArgAction::Set)
+}
+
+/// `--name VALUE`, which has to stand.
+fn wanted<'a>(alloc: Global, name: &'a str) -> Arg<'a>
+    ensures rule { rule_of result ≡ wanted_rule name.entry.now }
+    ensures local { result.global ≡ false }
+{
+    Arg::new(alloc, name)
+        .long(name)
+        .action(ArgAction::Set)
+        .required(true)
 }
 
 /// `--name`, at will.

@@ -12,7 +12,7 @@ mod numbers;
 mod times;
 mod values;
 
-use commands::{audit_in, digest_in, prove_in, run_in, verify_in};
+use commands::{audit_in, digest_in, make_in, prove_in, run_in, verify_in};
 use std::alloc::{AllocError, Global};
 
 /// A command of the program, with what its words say of it. Blocks and revisions are counted from 0.
@@ -35,6 +35,8 @@ pub enum Command {
     Verify,
     /// Counts the blocks and the revisions of the journal.
     Audit,
+    /// Runs a workload that is made from a seed.
+    Make(MakeOptions),
 }
 
 /// What the words of `run` say.
@@ -45,6 +47,21 @@ pub struct RunOptions {
     /// The time that each block is given, in milliseconds since 1970 in UTC, or none, where the
     /// clock is asked.
     pub time: Option<i64>,
+    /// How many workers run the sessions, 1 to 64.
+    pub workers: u32,
+}
+
+/// What the words of `make` say.
+#[derive(Clone, Copy, Debug, PartialEq, Eq)]
+pub struct MakeOptions {
+    /// Of the amounts and of the ids.
+    pub seed: u64,
+    /// How many sessions are made, 1 to 1,024.
+    pub sessions: u32,
+    /// How many transactions each of them has, 1 to 1,000. All have 100,000 at the most.
+    pub transactions: u32,
+    /// How many workers run the sessions, 1 to 64.
+    pub workers: u32,
 }
 
 /// Where the mask comes from that hides the numbers in ids.
@@ -78,11 +95,13 @@ impl From<AllocError> for WordsFault {
 }
 
 /// The command that the words name. The first word is the command's own: `run`, `digest`, `prove`,
-/// `verify` or `audit`. Those behind it are read by `clap`, each option at most once. `Refused`
-/// comes exactly where there is no first word or another; where `clap` has a cause to refuse those
-/// behind it; where a number isn't decimal digits without a sign and without a zero in front, or
-/// passes 64 bits or, for the index of a revision, 32; where a time, read as Ion text, isn't one
-/// timestamp without annotations; or where both `--seed` and `--plain-ids` stand there.
+/// `verify`, `audit` or `make`. Those behind it are read by `clap`, each option at most once.
+/// `Refused` comes exactly where there is no first word or another; where `clap` has a cause to
+/// refuse those behind it; where a number isn't decimal digits without a sign and without a zero in
+/// front, or passes 64 bits or, for the index of a revision, 32; where the number of workers isn't
+/// from 1 to 64, that of sessions from 1 to 1,024 or that of a session's transactions from 1 to
+/// 1,000, or the sessions have more than 100,000 transactions; where a time, read as Ion text, isn't
+/// one timestamp without annotations; or where both `--seed` and `--plain-ids` stand there.
 pub fn command_in(alloc: Global, words: &[String]) -> Result<Command, WordsFault>
     ensures { Gives result (asked (map string_bytes words.now)) }
 {
@@ -110,6 +129,9 @@ fn asked_by(alloc: Global, word: &str, rest: &[String]) -> Result<Command, Words
     }
     if word == "audit" {
         return audit_in(alloc, rest);
+    }
+    if word == "make" {
+        return make_in(alloc, rest);
     }
     Err(WordsFault::Refused)
 }

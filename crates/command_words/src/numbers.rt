@@ -2,7 +2,7 @@
 ghost use Rattle.std.specs.Prelude.{◌≡◌};
 ghost use Rattle.std.specs.Char.{is_ascii_digit};
 ghost use Rattle.std.specs.List.{list_all};
-ghost use Rattle.command_words.specs.Numbers.{has_zero_in_front, is_number, number_of};
+ghost use Rattle.command_words.specs.Numbers.{count_of, from_one_to, has_zero_in_front, is_number, number_of};
 
 /// The number that the word writes in decimal digits without a sign and without a zero in front, if it fits 64 bits.
 #[tactic(auto, unfolding(crate::specs::Numbers::number_of))]
@@ -24,6 +24,23 @@ pub fn small_number_of(word: &str) -> Option<u32>
         return None;
     }
     word.parse::<u32>().ok()
+}
+
+/// The number, where it is from 1 to this many.
+fn from_one_to(most: u32, count: u32) -> Option<u32>
+    ensures { result ≡ from_one_to most count }
+{
+    if count == 0 || count > most {
+        return None;
+    }
+    Some(count)
+}
+
+/// How many of something the word says, from 1 to this many.
+pub fn count_of(word: &str, most: u32) -> Option<u32>
+    ensures { result ≡ count_of most word.now }
+{
+    from_one_to(most, small_number_of(word)?)
 }
 
 fn is_number(word: &[u8]) -> bool

@@ -2,16 +2,22 @@
 ghost use Rattle.std.specs.Prelude.{◌≡◌, option_map, codes};
 ghost use Rattle.clap.specs.Words.{first_of};
 ghost use Rattle.command_words.specs.Forms.{Gives, rows_in};
-ghost use Rattle.command_words.specs.Numbers.{number_of};
+ghost use Rattle.command_words.specs.Numbers.{count_of, number_of};
 ghost use Rattle.command_words.specs.Times.{time_of};
 ghost use Rattle.command_words.specs.Words as spec;
 ghost use Rattle.command_words.specs.Words.{at_will};
 
-use crate::numbers::{number_of, small_number_of};
+use crate::numbers::{count_of, number_of, small_number_of};
 use crate::times::time_of;
 use crate::{IdSource, WordsFault};
 use clap::ArgMatches;
 use std::alloc::Global;
+
+/// The most workers of a run.
+const MOST_WORKERS: u32 = 64;
+
+/// How many workers there are where the words say nothing.
+const WORKERS: u32 = 4;
 
 /// The word that was given for an argument.
 fn word_of<'a>(found: &ArgMatches<'a>, name: &str) -> Option<&'a str>
@@ -85,5 +91,22 @@ fn id_source(seed: Option<u64>, is_plain: bool) -> Option<IdSource>
         (Some(seed), false) => Some(IdSource::Seed(seed)),
         (None, true) => Some(IdSource::Plain),
         (None, false) => Some(IdSource::FirstAnswer),
+    }
+}
+
+/// How many of something the word of an argument that has to stand says, from 1 to this many.
+pub fn count_at(found: &ArgMatches<'_>, name: &str, most: u32) -> Option<u32>
+    ensures { result ≡ spec.count_at most name.now (rows_in found.now) }
+{
+    count_of(word_of(found, name)?, most)
+}
+
+/// The number of workers. None comes where it can't be read, or isn't from 1 to 64.
+pub fn workers_of(found: &ArgMatches<'_>) -> Option<u32>
+    ensures { result ≡ spec.workers_of (rows_in found.now) }
+{
+    match word_of(found, "workers") {
+        Some(word) => count_of(word, MOST_WORKERS),
+        None => Some(WORKERS),
     }
 }
