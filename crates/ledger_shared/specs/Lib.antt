@@ -1,0 +1,11 @@
+pub mod EntryCode
+pub mod Told
+pub mod Behind
+pub mod Calls
+pub mod Known
+pub mod Workers
+pub mod Sessions
+pub mod Desks
+pub mod Crew
+pub mod Ran
+pub mod Rests

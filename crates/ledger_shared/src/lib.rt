@@ -1,0 +1,20 @@
+//! The ledger of several threads: the tail of a journal and the entries that its calls have made, behind one turn.
+#![tactic(auto)]
+
+mod desks;
+mod entry;
+mod ledger;
+mod merging;
+mod room;
+mod run;
+mod session;
+mod shared;
+mod worker;
+mod workers;
+
+pub use entry::{Entries, Entry};
+pub use ledger::{Closed, Ledger, NotMade, Pass};
+pub use run::{AllRan, run_all};
+pub use shared::{Shared, Told};
+pub use worker::Worker;
+pub use workers::{Desk, run_workers};

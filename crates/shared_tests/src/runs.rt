@@ -1,0 +1,96 @@
+//! Scripts that several workers run.
+ghost use Rattle.std.specs.Prelude.{◌≡◌, ◌<◌, ◌^◌, IfSome, length};
+ghost use Rattle.ledger_shared.specs.Sessions.{AreNumbered};
+
+use crate::tails::{memory_store, sure_store, tail_of};
+use ion_values::Text;
+use ledger_model::{Job, Outcome, Outcomes, Request, Session};
+use ledger_shared::run_all;
+use lists::Sequence;
+use outside::{FreeGate, JournalStore};
+use std::alloc::Global;
+use std::sync::Wait;
+use std::test::Fail;
+use std::thread::Threads;
+
+/// A session of one job with this one statement.
+fn session_of(alloc: Global, statement: &str) -> Option<Session>
+    ensures { IfSome result (λ session. length session ≡ 1) }
+{
+    let text = Text::from_text(alloc, statement).ok()?;
+    let request = Request {
+        text,
+        params: Sequence::new(alloc),
+    };
+    let statements = Sequence::from_vec(vec![in alloc; request].ok()?);
+    let job = Job {
+        statements,
+        retries: 4,
+        digest: None,
+        abort: false,
+    };
+    Some(Sequence::from_vec(vec![in alloc; job].ok()?))
+}
+
+/// Three sessions, each of which makes a table of its own.
+fn script_of(alloc: Global) -> Option<Vec<Session>>
+    ensures { IfSome result (λ script. AreNumbered script.items) }
+{
+    let first = session_of(alloc, "CREATE TABLE a")?;
+    let second = session_of(alloc, "CREATE TABLE b")?;
+    let third = session_of(alloc, "CREATE TABLE c")?;
+    vec![in alloc; first, second, third].ok()
+}
+
+/// How many of the outcomes are of committed jobs, where they stand in the script's order.
+fn committed(outcomes: &Outcomes) -> Option<u64> {
+    let mut count: u64 = 0;
+    let mut session: u32 = 0;
+    for placed in outcomes.as_slice() {
+        if placed.place.session <= session {
+            return None;
+        }
+        session = placed.place.session;
+        if let Outcome::Committed { .. } = placed.outcome {
+            count = count.checked_add(1)?;
+        }
+    }
+    Some(count)
+}
+
+/// How many jobs are committed, and how many blocks are left, where so many workers run the script on an empty store.
+fn ends<S: JournalStore + Send + Drop, R: Threads + Wait + Sync>(
+    rt: &R,
+    alloc: Global,
+    store: S,
+    workers: u32,
+) -> Option<(u64, u64)>
+    requires { 0 < workers }
+{
+    let script = script_of(alloc)?;
+    let tail = tail_of(alloc, store)?;
+    let ran = run_all(rt, alloc, script.as_slice(), workers, &FreeGate, tail).ok()?;
+    Some((committed(&ran.outcomes)?, ran.tail.blocks().len()))
+}
+
+#[test]
+fn two_workers_run_three_sessions(rt: HostRuntime) -> Result<(), Fail> {
+    assert_eq!(&rt;
+        ends(&rt, rt.alloc(), sure_store(rt.alloc()), 2),
+        Some((3, 3))
+    );
+    assert_eq!(&rt;
+        ends(&rt, rt.alloc(), memory_store(rt.alloc()), 2),
+        Some((3, 3))
+    );
+    Ok(())
+}
+
+#[test]
+fn a_worker_without_a_session_does_nothing(rt: HostRuntime) -> Result<(), Fail> {
+    assert_eq!(&rt;
+        ends(&rt, rt.alloc(), sure_store(rt.alloc()), 5),
+        Some((3, 3))
+    );
+    Ok(())
+}
