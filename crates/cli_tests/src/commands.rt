@@ -1,6 +1,6 @@
 //! A command on a journal in memory.
 use ledger_cli::ledger_top;
-use outside::{Failing, FreeGate, MemorySink, MemorySource, MemoryStore, SetClock};
+use outside::{Failing, FreeGate, Gate, MemorySink, MemorySource, MemoryStore, SetClock};
 use std::alloc::Global;
 use std::sync::Wait;
 use std::thread::Threads;
@@ -68,6 +68,16 @@ fn told(alloc: Global, status: u8, output: &[u8]) -> Option<String> {
 
 /// Runs the command.
 pub fn run<R: Threads + Wait + Sync>(rt: &R, alloc: Global, given: &Given<'_>) -> Option<Left> {
+    run_gated(rt, alloc, given, &FreeGate)
+}
+
+/// Runs the command with a gate that its workers call.
+pub fn run_gated<R: Threads + Wait + Sync, G: Gate + Sync>(
+    rt: &R,
+    alloc: Global,
+    given: &Given<'_>,
+    gate: &G,
+) -> Option<Left> {
     let words = words_of(alloc, given.line)?;
     let mut source = source_of(alloc, given)?;
     let mut sink = MemorySink::new(alloc, given.writes.to_vec(alloc).ok()?);
@@ -81,7 +91,7 @@ pub fn run<R: Threads + Wait + Sync>(rt: &R, alloc: Global, given: &Given<'_>) -
         &mut sink,
         store,
         clock,
-        &FreeGate,
+        gate,
     );
     let told = told(alloc, ended.status, sink.written())?;
     let held = ended.store.held().to_vec(alloc).ok()?;

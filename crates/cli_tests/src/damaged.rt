@@ -1,8 +1,8 @@
 //! Journals that are damaged, or cut inside their last line.
 use crate::commands::{run, unfailing};
-use crate::journals::THREE_BLOCKS;
 use crate::rows::is_told;
 use crate::runs::RUN;
+use sample_journals::THREE_BLOCKS;
 use std::alloc::Global;
 use std::sync::Wait;
 use std::thread::Threads;

@@ -12,11 +12,17 @@ mod failing;
 #[cfg(test)]
 mod faults;
 #[cfg(test)]
+mod gates;
+#[cfg(test)]
 mod journals;
 #[cfg(test)]
 mod limits;
 #[cfg(test)]
+mod makes;
+#[cfg(test)]
 mod proofs;
+#[cfg(test)]
+mod registration;
 #[cfg(test)]
 mod rows;
 #[cfg(test)]
@@ -25,3 +31,5 @@ mod runs;
 mod selects;
 #[cfg(test)]
 mod verdicts;
+#[cfg(test)]
+mod workers;

@@ -1,7 +1,7 @@
 //! Digests, proofs and counts of journals, and words that ask for none.
 use crate::commands::{run, unfailing};
-use crate::journals::{ONE_BLOCK, ONE_BUNDLE, THREE_BLOCKS, THREE_BUNDLE};
 use crate::rows::is_so;
+use sample_journals::{ONE_BLOCK, ONE_BUNDLE, THREE_BLOCKS, THREE_BUNDLE};
 use std::alloc::Global;
 use std::sync::Wait;
 use std::thread::Threads;
@@ -29,6 +29,7 @@ const WORDS: &str = "||1 {status:1}
 frobnicate||1 {status:1}
 run --seed 1 --plain-ids|5|1 {status:1}
 run --workers 0|5|1 {status:1}
+run --workers 65|5|1 {status:1}
 run --plain-ids --at|5|1 {status:1}
 run --at 2020|5|1 {status:1}
 digest --tip 01||1 {status:1}

@@ -6,7 +6,7 @@ use std::sync::Wait;
 use std::thread::Threads;
 
 /// The words of most runs.
-pub const RUN: &str = "run --plain-ids --at 2020-01-01T00:00:00.000Z";
+pub const RUN: &str = "run --workers 1 --plain-ids --at 2020-01-01T00:00:00.000Z";
 
 /// The script that makes the first line.
 pub const FIRST: &str =
@@ -26,6 +26,14 @@ const FOUR_OUTCOMES: &str =
     {session:1,transaction:2,outcome:aborted,tx:\"000000000000000002Gn2W\",since:1}\n\
     {session:2,transaction:1,outcome:committed,tx:\"000000000000000003PBYm\",block:1,answers:[[{documentId:\"000000000000000003PBYn\"}]]}\n\
     {session:2,transaction:2,outcome:committed,tx:\"000000000000000004Xa52\",block:2,answers:[[{a:2}]]}\n";
+
+/// The first script with a select of what is committed, which shows nothing yet.
+const COMMITTED_VIEW: &str =
+    "[{statements:[\"CREATE TABLE t\",{text:\"INSERT INTO t ?\",params:[{a:5}]},\"SELECT * FROM t\",\
+    \"SELECT * FROM _ql_committed_t\"]}]";
+
+const NONE_COMMITTED: &str =
+    "{session:1,transaction:1,outcome:committed,tx:\"0000000000000000018OWG\",block:0,answers:[[{tableId:\"0000000000000000018OWH\"}],[{documentId:\"0000000000000000018OWI\"}],[{a:5}],[]]}\n";
 
 /// That the table is there already.
 const EXISTS: &str =
@@ -48,6 +56,7 @@ fn reports_of_runs(rt: HostRuntime) {
     for (script, held, report) in [
         ("", "", ""),
         (FIRST, "", COMMITTED),
+        (COMMITTED_VIEW, "", NONE_COMMITTED),
         (SESSIONS, "", FOUR_OUTCOMES),
         (FIRST, FIRST_LINE, EXISTS),
     ] {
@@ -70,8 +79,10 @@ fn leaves<R: Threads + Wait + Sync>(
     Some(left.held.as_slice() == wanted.as_bytes())
 }
 
-/// Words with which the first line is made. The clock answers the same time.
+/// Words with which the first line is made, by any number of workers. The clock answers the same time.
 const LINES: &str = "run --plain-ids --at 2020-01-01T00:00:00.000Z
+run --workers 1 --plain-ids --at 2020-01-01T00:00:00.000Z
+run --plain-ids --workers 64 --at 2020T
 run --at 2020T --plain-ids
 run --plain-ids --at=2020-01-01T00:00:00.0009Z
 run --plain-ids --at 2020-01-01T01:00+01:00

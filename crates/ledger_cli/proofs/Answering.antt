@@ -48,6 +48,7 @@ unanswered question blocks (stop.NoSuch why) store reads h = (blocks, reads, h)
 unanswered question blocks (stop.Damaged sequence kind) store reads h = absurd h
 unanswered question blocks stop.SourceFailed store reads h = absurd h
 unanswered question blocks stop.StoreFailed store reads h = absurd h
+unanswered question blocks (stop.NotEmpty count) store reads h = absurd h
 unanswered question blocks (stop.NotAccepted fault) store reads h = absurd h
 unanswered question blocks stop.OutOfMemory store reads h = tt
 
@@ -64,6 +65,7 @@ unread_so question (stop.NoSuch why) store h same = absurd h
 unread_so question (stop.Damaged sequence kind) store h same = (h, same)
 unread_so question stop.SourceFailed store h same = absurd h
 unread_so question stop.StoreFailed store h same = (h, same)
+unread_so question (stop.NotEmpty blocks) store h same = absurd h
 unread_so question (stop.NotAccepted fault) store h same = absurd h
 unread_so question stop.OutOfMemory store h same = (tt, same)
 
@@ -84,6 +86,7 @@ module _ (same : Type 0) (what : Option Command) (question : Question) (x : Outs
       (refuses _ _ (record { sequence = sequence; kind = kind; reads = h; line_is = refl }), fine x idle)
   works_so (Err stop.SourceFailed) h = absurd h
   works_so (Err stop.StoreFailed) h = (refuses _ _ (record { failed = h; line_is = refl }), fine x idle)
+  works_so (Err (stop.NotEmpty blocks)) h = absurd h
   works_so (Err (stop.NotAccepted fault)) h = absurd h
   works_so (Err stop.OutOfMemory) h = fine x idle
 

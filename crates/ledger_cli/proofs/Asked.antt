@@ -4,6 +4,7 @@ use Rattle.std.specs.Prelude.{IfOk, IfErr, IfSome, OnErr, is_none, ◌||◌}
 use Rattle.ion_time.specs.Millis.{BeginsAt, nearest}
 use Rattle.ion_values.specs.declared.time.TimeParts.{TimeParts}
 use Rattle.ledger_model.specs.declared.script.Job.{Job}
+use Rattle.ledger_model.specs.Script.{Placed, all_placed}
 use Rattle.outside.specs.Told.{StoreTold, held}
 use Rattle.command_words.specs.declared.Command.TheVariants as command
 use Rattle.command_words.specs.declared.IdSource.{IdSource}
@@ -72,8 +73,8 @@ so_by_clock mask a b Is goes so first given extends told = (
 )
 
 -- what the store held, or the journal of a run on these terms or of a part of it
-abbrev pub IsLeft : List (List Job) → Span StoreTold → Terms → Type 0
-IsLeft script store terms = (held store.after ≡ held store.before) ⊎ HoldsRun terms script store
+abbrev pub Leaves : ℕ → List Placed → Span StoreTold → Terms → Type 0
+Leaves workers jobs store terms = (held store.after ≡ held store.before) ⊎ HoldsRun terms workers jobs store
 
 -- where there is a text, and where there is none
 pub done_so : {A E : Type 0} (P Q : A → Type 0) (r : Result A E) → ((x : A) → P x → Q x) → IfOk r P → IfOk r Q
@@ -96,6 +97,7 @@ module _ (same : Type 0) (o : RunOptions) (x : Outside) (script : List (List Job
       ((record { script = script; has = has }, record { sequence = sequence; kind = kind; reads = h; line_is = refl }), fine)
   loads stop.SourceFailed h = absurd h
   loads stop.StoreFailed h = ((record { script = script; has = has }, record { failed = h; line_is = refl }), fine)
+  loads (stop.NotEmpty blocks) h = absurd h
   loads (stop.NotAccepted fault) h = absurd h
   loads stop.OutOfMemory h = fine
 
@@ -103,25 +105,25 @@ module _ (same : Type 0) (o : RunOptions) (x : Outside) (script : List (List Job
   on Is so = on_terms o x.clock.before between x.clock.after mask extends given Is so
 
   pub works_run : (came : Result (List ℕ) Stop)
-      → IfOk came (λ text. IsSoOnTerms mask o.time between x.clock.after (λ terms. IsReportOf terms script x.store text))
+      → IfOk came (λ text. IsSoOnTerms mask o.time between x.clock.after (λ terms. IsReportOf terms o.workers (all_placed script) x.store text))
       → IfErr came (λ why. IsLoadStop why x.store) → Works same (Some (command.Run o)) came x
   works_run (Ok text) done stops =
-      let told = on (λ terms. IsReportOf terms script x.store text) done in
+      let told = on (λ terms. IsReportOf terms o.workers (all_placed script) x.store text) done in
       (record { script = script; has = has; terms = told.terms; are = told.are; reported = told.is }, fine)
   works_run (Err why) done stops = loads why stops
 
-  left_so : (terms : Terms) → AreTerms o x.clock terms → IsLeft script x.store terms → LeavesRun o x
+  left_so : (terms : Terms) → AreTerms o x.clock terms → Leaves o.workers (all_placed script) x.store terms → LeavesRun o x
   left_so terms are (inl is) = inl is
   left_so terms are (inr run) = inr (record { script = script; has = has; terms = terms; are = are; holds = run })
 
   pub keeps_run : (came : Result (List ℕ) Stop)
-      → IfOk came (λ text. IsSoOnTerms mask o.time between x.clock.after (λ terms. IsReportOf terms script x.store text))
-      → OnErr came (IsSoOnTerms mask o.time between x.clock.after (λ terms. IsLeft script x.store terms)) → LeavesRun o x
+      → IfOk came (λ text. IsSoOnTerms mask o.time between x.clock.after (λ terms. IsReportOf terms o.workers (all_placed script) x.store text))
+      → OnErr came (IsSoOnTerms mask o.time between x.clock.after (λ terms. Leaves o.workers (all_placed script) x.store terms)) → LeavesRun o x
   keeps_run (Ok text) done left =
-      let told = on (λ terms. IsReportOf terms script x.store text) done in
-      left_so told.terms told.are (inr (reported_holds told.terms script x.store text told.is))
+      let told = on (λ terms. IsReportOf terms o.workers (all_placed script) x.store text) done in
+      left_so told.terms told.are (inr (reported_holds told.terms o.workers (all_placed script) x.store text told.is))
   keeps_run (Err why) done left =
-      let told = on (λ terms. IsLeft script x.store terms) left in
+      let told = on (λ terms. Leaves o.workers (all_placed script) x.store terms) left in
       left_so told.terms told.are told.is
 
 -- ---- no script
@@ -133,6 +135,7 @@ works_unread same o x (stop.NoSuch why) un h = absurd h
 works_unread same o x (stop.Damaged sequence kind) un h = absurd h
 works_unread same o x stop.SourceFailed un h = (record { failed = h; line_is = refl }, un)
 works_unread same o x stop.StoreFailed un h = absurd h
+works_unread same o x (stop.NotEmpty blocks) un h = absurd h
 works_unread same o x (stop.NotAccepted fault) un h = absurd h
 works_unread same o x stop.OutOfMemory un h = h
 

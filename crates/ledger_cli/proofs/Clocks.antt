@@ -1,5 +1,5 @@
 -- The answers of a clock from one moment to a later one, and the times and the mask that are taken of them.
-use Rattle.std.proofs.Common.{◌≡◌, ◌∙◌, ◌+◌, ℤ, List, [], ◌∷◌, ◌++◌, length, length-append, drop, append-nil, append_assoc, refl, sym, ap, subst, arith, Option, Some, None, inl, inr, ◌⊎◌}
+use Rattle.std.proofs.Common.{◌≡◌, ◌∙◌, ◌+◌, ℤ, List, [], ◌∷◌, ◌++◌, length, length-append, drop, append-nil, append_assoc, refl, sym, ap, subst, arith, Option, Some, None}
 use Rattle.std.specs.Prelude.{IfSome}
 use Rattle.std.specs.List.{Contains}
 use Rattle.std.proofs.lemmas.Grind.{common_steps}
@@ -10,8 +10,8 @@ use Rattle.ion_values.specs.declared.time.TimeParts.{TimeParts}
 use Rattle.outside.specs.Clocks.{AddsAnswer}
 use Rattle.ledger_claims.specs.Fits.{Times, one_time, IsTimeIn}
 use Rattle.command_claims.specs.Clocks.{Answers, times_between, mask_between, first_mask, seed_of}
-use Rattle.ledger_core.specs.Committing.{IsAnswer}
-use Rattle.ledger_cli.specs.Clocks.{ClockTold, GoesOn, IsAnswered, IsGivenTime, Covers, Extends}
+use Rattle.ledger_shared.specs.Behind.{GaveBetween}
+use Rattle.ledger_cli.specs.Clocks.{ClockTold, GoesOn, IsAnswered, Covers, Extends}
 
 -- ---- what is in a list is in a longer one
 
@@ -28,6 +28,13 @@ in_back [] ys x h = h
 in_back (z ∷ xs) ys x h =
     let rest = in_back xs ys x h in
     (rest.0 + 1, omega (arith, rest.1), grind (arith, common_steps, rest.2))
+
+-- ---- an answer that was given since
+
+pub answered_since : (before now : Answers) (answer : ℤ) → GaveBetween before now answer → IsAnswered before now answer
+answered_since None now answer h = tt
+answered_since (Some xs) None answer h = tt
+answered_since (Some xs) (Some ys) answer h = subst (λ (l : List ℤ). Contains l answer) (sym (drop_front xs h.0 ys h.1)) h.2
 
 -- ---- longer lists of answers
 
@@ -55,29 +62,7 @@ goes_same a = record { extends = extends_same a.answers; same = refl }
 pub goes_on : (a b c : ClockTold) → GoesOn a b → GoesOn b c → GoesOn a c
 goes_on a b c e f = record { extends = extends_on a.answers b.answers c.answers e.extends f.extends; same = f.same ∙ e.same }
 
--- where it is asked once or not at all
-pub goes_by : {C : Type 0} (answers : C → Answers) (a b : C) (always : Option ℤ)
-    → (b ≡ a) ⊎ ((time : TimeParts) × IsAnswer (answers a) (answers b) always time) → Extends (answers a) (answers b)
-goes_by answers a b always (inl same) = subst (λ c. Extends (answers a) (answers c)) (sym same) (extends_same (answers a))
-goes_by answers a b always (inr (time, is)) = extends_by (answers a) (answers b) is.answer is.adds
-
 -- ---- times
-
--- the one answer that was given
-answered_by : (a b : Answers) (answer : ℤ) → AddsAnswer a b answer → IsAnswered a b answer
-answered_by None b answer adds = tt
-answered_by (Some xs) None answer adds = tt
-answered_by (Some xs) (Some ys) answer adds =
-    let only : Contains (answer ∷ []) answer = (0, omega arith, refl) in
-    subst (λ (l : List ℤ). Contains l answer) (sym (drop_front xs (answer ∷ []) ys adds)) only
-
-pub given_by_answer : (a b : ClockTold) (time : TimeParts) → IsAnswer a.answers b.answers a.always time → IsGivenTime a b time
-given_by_answer a b time is = record {
-  answer = is.answer;
-  among = answered_by a.answers b.answers is.answer is.adds;
-  one = is.one;
-  begins = is.begins;
-}
 
 -- an answer of the first part is one of the whole
 answered_front : (a b c : Answers) (answer : ℤ) → Extends a b → Extends b c → IsAnswered a b answer → IsAnswered a c answer

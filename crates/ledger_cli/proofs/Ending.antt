@@ -45,6 +45,7 @@ keeps_all same (Some (command.Digest tip)) x un idle = (ap (λ (t : StoreTold). 
 keeps_all same (Some (command.Prove sequence index tip)) x un idle = (ap (λ (t : StoreTold). t.content) un.told, idle)
 keeps_all same (Some command.Verify) x un idle = un
 keeps_all same (Some command.Audit) x un idle = (ap (λ (t : StoreTold). t.content) un.told, idle)
+keeps_all same (Some (command.Make options)) x un idle = (inl (ap held un.told), idle)
 
 -- a run that isn't begun leaves what there was
 pub keeps_run_all : (options : RunOptions) (x : Outside) → x.store.after ≡ x.store.before → LeavesRun options x
@@ -111,6 +112,8 @@ module _ (same : Type 0) (what : Option Command) (x : Outside) (sink : Span Sink
       own_line_ends s status.SourceFailed _ end (λ line. record { line = _; cause = works; written = line }) (inr refl)
   by_work (Err stop.StoreFailed) s works end =
       own_line_ends s status.StoreFailed _ end (λ line. record { line = _; cause = works.0; written = line }) (inl works.1)
+  by_work (Err (stop.NotEmpty blocks)) s works end =
+      line_ends s status.BadInput _ end (λ line. record { line = _; cause = works.0; written = line }) works.1
   by_work (Err (stop.NotAccepted fault)) s works end =
       line_ends s status.NotAccepted _ end (λ line. record { line = _; cause = works.0; written = line }) works.1
   by_work (Err stop.OutOfMemory) s works end = want_ends s end.0 (record { of_source = inl works; of_sink = end.1 })

@@ -3,9 +3,11 @@ pub mod Asked
 pub mod Clocks
 pub mod Ending
 pub mod Loaded
+pub mod Making
 pub mod Pieces
 pub mod Proving
 pub mod Runnable
+pub mod Leaving
 pub mod Running
-pub mod Serving
 pub mod Verifying
+pub mod Words

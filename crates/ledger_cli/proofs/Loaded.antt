@@ -1,25 +1,49 @@
--- The run on a journal that was loaded, from its report to what is told of the whole.
-use Rattle.std.proofs.Common.{◌≡◌, ℕ, List, [], length, refl, sym, subst, arith, Option, Result, Ok, Err, ◌⊎◌, inr}
-use Rattle.std.specs.Prelude.{IfOk, IfErr, IfSome, OnOk, OnErr}
-use Rattle.ledger_model.specs.declared.script.Job.{Job}
-use Rattle.ledger_model.specs.Script.{all_placed}
+-- The run on a journal that was loaded, from its outcomes to what is told of the whole.
+use Rattle.std.proofs.Common.{◌≡◌, ℕ, ℤ, ◌<◌, ◌≤◌, true, List, [], ◌∷◌, ◌++◌, length, take, take_all, drop, refl, sym, ap, subst, arith, Option, Result, Ok, Err, ◌⊎◌, inl, inr, Contains}
+use Rattle.std.specs.Prelude.{IfOk, IfErr, IfSome, OnErr}
+use Rattle.std.specs.List.{AllByRecursion}
+use Rattle.std.proofs.lemmas.List.{drop_all}
+use Rattle.ion_values.specs.declared.value.Value.{Value}
+use Rattle.ion_forms.specs.Write.{value_text}
+use Rattle.ledger_model.specs.declared.block.Block.{Block}
+use Rattle.ledger_model.specs.declared.outcome.PlacedOutcome.{PlacedOutcome}
+use Rattle.ledger_model.specs.Damages.{Undamaged}
+use Rattle.ledger_model.specs.Journal.{journal_bytes}
+use Rattle.ledger_model.specs.Legal.{LegalFrom}
+use Rattle.ledger_model.specs.Recovered.{has_no_line_feed}
+use Rattle.ledger_model.specs.State.{state}
+use Rattle.ledger_model.specs.Script.{Placed}
 use Rattle.outside.specs.Store.{Content}
 use Rattle.outside.specs.Told.{StoreTold, held}
-use Rattle.ledger_claims.specs.Calls.{Span, span}
-use Rattle.ledger_claims.specs.Fits.{RunRecord, greatest, mask_of}
-use Rattle.ledger_claims.specs.Attempts.{IsStanding}
-use Rattle.ledger_claims.specs.Stores.{IsSynced}
-use Rattle.command_claims.specs.Runs.{Terms, IsReportOf, HoldsRun}
-use Rattle.ledger_core.specs.Loads.{IsLoaded, IsCause}
+use Rattle.ledger_claims.specs.Attempts.{Standing}
+use Rattle.ledger_claims.specs.Calls.{span}
+use Rattle.ledger_claims.specs.Fits.{RunRecord, FitsBlocks, HaveTimes, InSessionOrder, IsOfSomeJob}
+use Rattle.ledger_claims.specs.SoFar.{InOrder}
+use Rattle.ledger_claims.specs.Stores.{HasJournal, HoldingWithRest, IsSynced}
+use Rattle.ledger_claims.proofs.BlocksFit.{FitsBlocks-same}
+use Rattle.ledger_claims.proofs.Left.{all-HoldingWithRest}
+use Rattle.command_claims.specs.Runs.{Terms, IsDone, IsOfRun, IsReportOf, HoldsRun}
+use Rattle.command_claims.proofs.Holding.{done_leaves}
+use Rattle.entry_laws.specs.Alone.{RunsInOrder}
+use Rattle.entry_laws.specs.Claims.{FitsInterleaved, IsOfOwnDigest}
+use Rattle.entry_laws.specs.Tried.{tried_in}
+use Rattle.ledger_core.specs.Faults.{IsSettleFault}
+use Rattle.ledger_core.specs.Loads.{IsCause}
+use Rattle.ledger_core.specs.Tails.{MayBeCut, TailHeld}
+use Rattle.ledger_core.specs.declared.keeping.SettleFault.{SettleFault}
+use Rattle.ledger_core.specs.declared.keeping.SettleFault.TheVariants as settle
 use Rattle.ledger_core.specs.declared.reload.LoadCause.{LoadCause}
 use Rattle.ledger_core.specs.declared.reload.LoadCause.TheVariants as load
+use Rattle.ledger_shared.specs.Behind.{Keeps}
+use Rattle.ledger_shared.specs.Ran.{AllHaveRun}
 use Rattle.ledger_cli.specs.declared.stop.Stop.{Stop}
 use Rattle.ledger_cli.specs.declared.stop.Stop.TheVariants as stop
-use Rattle.ledger_cli.specs.Clocks.{AreCovered, ClockTold, Covers}
-use Rattle.ledger_cli.specs.Runs.{Come, IsRunning, IsKept, IsReported, LeavesJournal}
-use Rattle.ledger_cli.specs.Stops.{IsLoadStop, IsTailStop, load_stop}
+use Rattle.ledger_cli.specs.Clocks.{AreCovered, ClockTold, Covers, GoesOn, clock_told}
+use Rattle.ledger_cli.specs.Runs.{Comes, HasLoaded, HasSettled, HasStopped, IsSettled, Reports, Settles}
+use Rattle.ledger_cli.specs.Stops.{IsLoadStop, IsTailStop, load_stop, settle_stop}
 use Rattle.ledger_cli.proofs.Ending.{same_held}
-use Rattle.ledger_cli.proofs.Running.{loaded, loaded_begun, loaded_reported, loaded_left}
+use Rattle.ledger_cli.proofs.Leaving.{cut_by, left_by, loaded_journal}
+use Rattle.ledger_cli.proofs.Running.{clock_goes, later_faults, masked, record_of, run_fits, run_in_order, run_record, tried_fits}
 
 -- ---- a journal that was not loaded
 
@@ -42,63 +66,254 @@ unloaded_stop {A} r cause before after is same h =
 
 -- ---- a journal that was loaded
 
-tail_run : (why : Stop) (before opened after : StoreTold) → opened.faults ≡ before.faults → IsTailStop why (span opened after) → IsLoadStop why (span before after)
-tail_run (stop.BadInput cause) before opened after same h = absurd h
-tail_run (stop.NoSuch why) before opened after same h = absurd h
-tail_run (stop.Damaged sequence kind) before opened after same h = absurd h
-tail_run stop.SourceFailed before opened after same h = absurd h
-tail_run stop.StoreFailed before opened after same h = record { rose = omega (arith, same, h.rose); last = h.last }
-tail_run (stop.NotAccepted fault) before opened after same h = absurd h
-tail_run stop.OutOfMemory before opened after same h = tt
-
--- what was loaded, where this mask is given
-pub record HasLoaded (given : ℕ) (s : Span StoreTold) (c : Come) : Type 0 where
-  pub journal : IsLoaded (held s.before) c.stands.blocks c.marked
-  pub sound : IsStanding c.stands
-  pub mask : c.stands.mask ≡ mask_of given c.stands.blocks
-  pub last : c.stands.last ≡ greatest c.stands.mask c.stands.blocks
-  pub store : (c.store.content ≡ s.before.content) × (c.store.faults ≡ s.before.faults)
-  pub none : c.outcomes ≡ []
-
 synced_content : (before after : StoreTold) → after.content ≡ before.content → IsSynced before → IsSynced after
 synced_content before after same is =
     subst (λ (c : Option Content). IfSome c (λ content. content.synced ≡ length content.bytes)) (sym same) is
 
-module _ (given : ℕ) (script : List (List Job)) (s : Span StoreTold) (c : Come) (has : HasLoaded given s c) (before now : ClockTold) where
-  kept_still : IsSynced s.before → IsKept c
-  kept_still is = λ _. synced_content s.before c.store has.store.0 is
+-- a failure after a later time is one after an earlier time
+later_stop : (why : Stop) (before ran after : StoreTold) → before.faults ≤ ran.faults → IsTailStop why (span ran after)
+    → IsLoadStop why (span before after)
+later_stop (stop.BadInput cause) before ran after low h = absurd h
+later_stop (stop.NoSuch why) before ran after low h = absurd h
+later_stop (stop.Damaged sequence kind) before ran after low h = absurd h
+later_stop stop.SourceFailed before ran after low h = absurd h
+later_stop stop.StoreFailed before ran after low h = record { rose = omega (arith, low, h.rose); last = h.last }
+later_stop (stop.NotEmpty blocks) before ran after low h = absurd h
+later_stop (stop.NotAccepted fault) before ran after low h = absurd h
+later_stop stop.OutOfMemory before ran after low h = tt
 
-  module _ (terms : Terms) (covered : AreCovered given before now terms) where
-    abbrev t : RunRecord
-    t = loaded terms script s.before.faults c.stands
+pub settle_stops : (why : SettleFault) (ran now : StoreTold) → IsSettleFault why ran now → IsTailStop (settle_stop why) (span ran now)
+settle_stops (settle.StoreFault count) ran now h = record { rose = omega (arith, h.rose, h.count_is); last = h.last }
+settle_stops settle.OutOfMemory ran now h = tt
 
-    begun : IsRunning t (all_placed script) c
-    begun =
-        loaded_begun terms given covered.given script s c.stands c.marked has.journal has.mask c refl has.none has.store.1 (same_held s.before c.store has.store.0)
-        has.sound has.last
+module _ {S C : Type 0} (told : S → StoreTold) (answers : C → Option (List ℤ)) (always : C → Option ℤ) (given : ℕ) (before : StoreTold)
+    (opened : TailHeld S C) (has : HasLoaded told given before opened) (workers : ℕ) (some : 0 < workers) (jobs : List Placed) (in_order : InOrder jobs) where
+  abbrev pub clocks : C → ClockTold
+  clocks c = clock_told answers always c
 
-    reported : (text : List ℕ) → ((t : RunRecord) → Covers before now t.times → IsRunning t (all_placed script) c → IsReported t s.after text)
-        → (IsKept c → IsSynced s.after) → IsReportOf terms script s text
-    reported text done kept =
-        loaded_reported terms given covered.given script s c.stands c.marked has.journal has.mask text (done t covered.times begun) (λ is. kept (kept_still is))
+  journal : HasJournal opened.standing.blocks (held (told opened.store))
+  journal =
+      subst (λ (x : Option (List ℕ)). HasJournal opened.standing.blocks x) (sym (same_held before (told opened.store) has.content))
+      (loaded_journal (held before) opened.standing.blocks opened.marked has.journal)
 
-    stopped : ((t : RunRecord) → Covers before now t.times → IsRunning t (all_placed script) c → LeavesJournal t (held s.after))
-        → HoldsRun terms script s
-    stopped left = loaded_left terms given covered.given script s c.stands c.marked has.journal has.mask (left t covered.times begun)
+  none_made : drop (length opened.standing.blocks) opened.standing.blocks ≡ []
+  none_made = drop_all (length opened.standing.blocks) opened.standing.blocks (omega arith)
 
-  pub loaded_done : (r : Result (List ℕ) Stop)
-      → IfOk r (λ text. (t : RunRecord) → Covers before now t.times → IsRunning t (all_placed script) c → IsReported t s.after text)
-      → OnOk r (IsKept c → IsSynced s.after)
-      → IfOk r (λ text. (terms : Terms) → AreCovered given before now terms → IsReportOf terms script s text)
-  loaded_done (Ok text) done kept = λ terms covered. reported terms covered text done kept
-  loaded_done (Err why) done kept = tt
+  -- on these terms
+  module _ (terms : Terms) (masks : IfSome terms.given (λ g. g ≡ given)) where
+    abbrev run_of : List Block → List PlacedOutcome → ℕ → RunRecord
+    run_of blocks outcomes closed =
+        run_record told answers always given before opened has workers some jobs in_order terms masks blocks outcomes closed
 
-  pub loaded_stopped : (r : Result (List ℕ) Stop)
-      → OnErr r ((t : RunRecord) → Covers before now t.times → IsRunning t (all_placed script) c → LeavesJournal t (held s.after))
-      → OnErr r ((terms : Terms) → AreCovered given before now terms → (held s.after ≡ held s.before) ⊎ HoldsRun terms script s)
-  loaded_stopped (Ok text) left = tt
-  loaded_stopped (Err why) left = λ terms covered. inr (stopped terms covered left)
+    of_run : (after : StoreTold) (blocks : List Block) (outcomes : List PlacedOutcome)
+        → IsOfRun terms workers jobs (span before after) (run_of blocks outcomes after.faults)
+    of_run after blocks outcomes = record {
+      found = loaded_journal (held before) opened.standing.blocks opened.marked has.journal;
+      given = refl;
+      times = refl;
+      workers_are = refl;
+      jobs_are = refl;
+      opened = refl;
+      closed = refl;
+    }
 
-  pub loaded_stop : (r : Result (List ℕ) Stop) → IfErr r (λ why. IsTailStop why (span c.store s.after)) → IfErr r (λ why. IsLoadStop why s)
-  loaded_stop (Ok text) h = tt
-  loaded_stop (Err why) h = tail_run why s.before c.store s.after has.store.1 h
+    -- the store holds these blocks and a rest
+    leaves : (after : StoreTold) (blocks : List Block) (outcomes : List PlacedOutcome) (closed : ℕ) → FitsBlocks (run_of blocks outcomes closed)
+        → AllByRecursion (IsOfOwnDigest jobs) (drop (length opened.standing.blocks) blocks) → HoldingWithRest blocks (held after)
+        → HoldsRun terms workers jobs (span before after)
+    leaves after blocks outcomes closed fits digests holding = record {
+      told = run_of blocks outcomes after.faults;
+      left = record {
+        of_run = of_run after blocks outcomes;
+        fits = FitsBlocks-same (run_of blocks outcomes closed) outcomes after.faults fits;
+        digests = digests;
+        holding = holding;
+      };
+    }
+
+    -- ---- none was run
+
+    none_fits : FitsBlocks (run_of opened.standing.blocks [] before.faults)
+    none_fits = record {
+      begins = take_all (length opened.standing.blocks) opened.standing.blocks (omega arith);
+      undamaged = has.sound.undamaged;
+      masked = masked told answers always given before opened has workers some jobs in_order terms masks;
+      strand = has.sound.strand;
+      serial =
+          subst (λ (bs : List Block). LegalFrom opened.standing.mask (state (take (length opened.standing.blocks) opened.standing.blocks)) bs)
+          (sym none_made) tt;
+      times = subst (λ (bs : List Block). HaveTimes terms.times opened.standing.blocks bs) (sym none_made) tt;
+      of_jobs = subst (λ (bs : List Block). AllByRecursion (IsOfSomeJob jobs) bs) (sym none_made) tt;
+      once = subst (λ (bs : List Block). InSessionOrder bs) (sym none_made) tt;
+    }
+
+    none_holds : (now : TailHeld S C) → now.standing.blocks ≡ opened.standing.blocks
+        → HoldingWithRest now.standing.blocks (held (told now.store)) → HoldsRun terms workers jobs (span before (told now.store))
+    none_holds now same holds =
+        leaves (told now.store) opened.standing.blocks [] before.faults none_fits
+        (subst (λ (bs : List Block). AllByRecursion (IsOfOwnDigest jobs) bs) (sym none_made) tt)
+        (subst (λ (bs : List Block). HoldingWithRest bs (held (told now.store))) same holds)
+
+    none_left : (law : (v : Value) → has_no_line_feed (value_text v) ≡ true) (now : TailHeld S C) → Keeps told answers always opened now []
+        → HoldsRun terms workers jobs (span before (told now.store))
+    none_left law now keeps =
+        left_by (held (told opened.store)) (held (told now.store)) opened.standing.blocks now.standing.blocks [] journal keeps.rest law
+        (HoldsRun terms workers jobs (span before (told now.store))) (none_holds now keeps.behind.blocks)
+        (λ b among sound holds. absurd (omega (arith, among.1)))
+
+    -- ---- all jobs were run
+
+    module _ (ran : TailHeld S C) (outcomes : List PlacedOutcome) (all : AllHaveRun told answers always workers jobs opened ran outcomes)
+        (covered : Covers (clocks opened.clock) (clocks ran.clock) terms.times) where
+      abbrev failed : ℕ
+      failed = (told ran.store).faults
+
+      fits : FitsInterleaved (run_of ran.standing.blocks outcomes failed)
+      fits = run_fits told answers always given before opened has workers some jobs in_order terms masks ran outcomes all covered
+
+      ordered : workers ≡ 1 → RunsInOrder (run_of ran.standing.blocks outcomes failed)
+      ordered = run_in_order told answers always given before opened has workers some jobs in_order terms masks ran outcomes all covered
+
+      -- and settled
+      module _ (now : TailHeld S C) (settled : IsSettled told ran now) where
+        blocks_are : now.standing.blocks ≡ ran.standing.blocks
+        blocks_are = ap (λ (x : Standing). x.blocks) settled.standing
+
+        as_settled : (Q : RunRecord → Type 0) → Q (run_of ran.standing.blocks outcomes failed)
+            → Q (run_of now.standing.blocks outcomes (told now.store).faults)
+        as_settled Q h =
+            subst (λ (bs : List Block). Q (run_of bs outcomes (told now.store).faults)) (sym blocks_are)
+            (subst (λ (n : ℕ). Q (run_of ran.standing.blocks outcomes n)) (sym settled.fine) h)
+
+        is_done : IsDone terms workers jobs (span before (told now.store)) (run_of now.standing.blocks outcomes (told now.store).faults)
+        is_done = record {
+          of_run = of_run (told now.store) now.standing.blocks outcomes;
+          fits = as_settled FitsInterleaved fits;
+          in_order = λ one. as_settled RunsInOrder (ordered one);
+          holding = settled.holds;
+          synced = λ was. settled.synced (all.keeps.synced (λ unmarked. synced_content before (told opened.store) has.content was));
+        }
+
+      -- or not
+      module _ (law : (v : Value) → has_no_line_feed (value_text v) ≡ true) (now : TailHeld S C) where
+        own_left : HoldingWithRest ran.standing.blocks (held (told now.store)) → HoldsRun terms workers jobs (span before (told now.store))
+        own_left holds = leaves (told now.store) ran.standing.blocks outcomes failed fits.blocks fits.digests holds
+
+        more_left : (b : Block) → Contains (tried_in all.entries) b → Undamaged (ran.standing.blocks ++ b ∷ [])
+            → HoldingWithRest (ran.standing.blocks ++ b ∷ []) (held (told now.store)) → HoldsRun terms workers jobs (span before (told now.store))
+        more_left b among sound holds =
+            let more = tried_fits told answers always given before opened has workers some jobs in_order terms masks ran outcomes all covered b among sound in
+            leaves (told now.store) (ran.standing.blocks ++ b ∷ []) outcomes failed more.0 more.1 holds
+
+        cut_left : MayBeCut (held (told ran.store)) (held (told now.store)) (length (journal_bytes ran.standing.blocks))
+            → HoldsRun terms workers jobs (span before (told now.store))
+        cut_left (inl same) =
+            left_by (held (told opened.store)) (held (told ran.store)) opened.standing.blocks ran.standing.blocks (tried_in all.entries) journal
+            all.keeps.rest law (HoldsRun terms workers jobs (span before (told now.store)))
+            (λ holds. own_left (subst (λ (x : Option (List ℕ)). HoldingWithRest ran.standing.blocks x) (sym same) holds))
+            (λ b among sound holds.
+            more_left b among sound (subst (λ (x : Option (List ℕ)). HoldingWithRest (ran.standing.blocks ++ b ∷ []) x) (sym same) holds))
+        cut_left (inr cut) =
+            own_left (all-HoldingWithRest ran.standing.blocks (held (told now.store))
+            (cut_by (held (told opened.store)) (held (told ran.store)) opened.standing.blocks ran.standing.blocks (tried_in all.entries) journal
+            all.keeps.rest (held (told now.store)) cut))
+
+  -- ---- what is told
+
+  abbrev pub IsToldBy : TailHeld S C → Terms → Type 0
+  IsToldBy now terms = AreCovered given (clocks opened.clock) (clocks now.clock) terms
+
+  covered_then : (ran now : TailHeld S C) (terms : Terms) → now.clock ≡ ran.clock → IsToldBy now terms
+      → Covers (clocks opened.clock) (clocks ran.clock) terms.times
+  covered_then ran now terms same h = subst (λ (c : C). Covers (clocks opened.clock) (clocks c) terms.times) same h.times
+
+  -- the record of the run that was settled
+  abbrev pub settled_record : Terms → List PlacedOutcome → TailHeld S C → RunRecord
+  settled_record terms outcomes now =
+      record_of terms workers jobs before.faults opened now.standing.blocks outcomes (told now.store).faults
+
+  pub settled_done : (terms : Terms) (outcomes : List PlacedOutcome) (now : TailHeld S C) → IsToldBy now terms
+      → HasSettled told answers always workers jobs opened outcomes now
+      → IsDone terms workers jobs (span before (told now.store)) (settled_record terms outcomes now)
+  settled_done terms outcomes now is h =
+      is_done terms is.given h.ran outcomes h.all (covered_then h.ran now terms h.settled.clock is) now h.settled
+
+  pub done_by : (now : TailHeld S C) (came : Result (List PlacedOutcome) Stop) (r : Result (List ℕ) Stop)
+      → Settles told answers always workers jobs opened came now → Reports now.standing.blocks came r
+      → IfOk r (λ text. (terms : Terms) → IsToldBy now terms → IsReportOf terms workers jobs (span before (told now.store)) text)
+  done_by now (Ok outcomes) (Ok text) h reports = λ terms is. record {
+    told = settled_record terms outcomes now;
+    done = settled_done terms outcomes now is h;
+    text_is = reports;
+  }
+  done_by now (Ok outcomes) (Err why) h reports = tt
+  done_by now (Err why) (Ok text) h reports = absurd reports
+  done_by now (Err why) (Err other) h reports = tt
+
+  module _ (law : (v : Value) → has_no_line_feed (value_text v) ≡ true) where
+    pub stopped_left : (now : TailHeld S C) (why : Stop) (terms : Terms) → IsToldBy now terms
+        → HasStopped told answers always workers jobs opened why now ⊎ ((why ≡ stop.OutOfMemory) × Keeps told answers always opened now [])
+        → HoldsRun terms workers jobs (span before (told now.store))
+    stopped_left now why terms is (inl h) =
+        cut_left terms is.given h.ran h.outcomes h.all (covered_then h.ran now terms h.stopped.clock is) law now h.stopped.cut
+    stopped_left now why terms is (inr h) = none_left terms is.given law now h.1
+
+    pub left_at : (now : TailHeld S C) (came : Result (List PlacedOutcome) Stop) (r : Result (List ℕ) Stop)
+        → Settles told answers always workers jobs opened came now → Reports now.standing.blocks came r
+        → OnErr r ((terms : Terms) → IsToldBy now terms → HoldsRun terms workers jobs (span before (told now.store)))
+    left_at now (Ok outcomes) (Ok text) h reports = tt
+    left_at now (Ok outcomes) (Err why) h reports = λ terms is. record {
+      told = settled_record terms outcomes now;
+      left = done_leaves terms workers jobs (span before (told now.store)) (settled_record terms outcomes now) (settled_done terms outcomes now is h);
+    }
+    left_at now (Err why) (Ok text) h reports = tt
+    left_at now (Err why) (Err other) h reports = λ terms is. stopped_left now why terms is h
+
+  pub stopped_by : (now : TailHeld S C) (why : Stop)
+      → HasStopped told answers always workers jobs opened why now ⊎ ((why ≡ stop.OutOfMemory) × Keeps told answers always opened now [])
+      → IsLoadStop why (span before (told now.store))
+  stopped_by now why (inl h) =
+      let low = later_faults told answers always opened h.ran h.all.entries h.all.keeps in
+      let same = has.faults in
+      later_stop why before (told h.ran.store) (told now.store) (omega (arith, low, same)) h.stopped.stop
+  stopped_by now why (inr h) = subst (λ (x : Stop). IsLoadStop x (span before (told now.store))) (sym h.0) tt
+
+  pub stop_at : (now : TailHeld S C) (came : Result (List PlacedOutcome) Stop) (r : Result (List ℕ) Stop)
+      → Settles told answers always workers jobs opened came now → Reports now.standing.blocks came r
+      → IfErr r (λ why. IsLoadStop why (span before (told now.store)))
+  stop_at now (Ok outcomes) (Ok text) h reports = tt
+  stop_at now (Ok outcomes) (Err why) h reports = subst (λ (x : Stop). IsLoadStop x (span before (told now.store))) (sym reports) tt
+  stop_at now (Err why) (Ok text) h reports = tt
+  stop_at now (Err why) (Err other) h reports =
+      subst (λ (x : Stop). IsLoadStop x (span before (told now.store))) (sym reports) (stopped_by now why h)
+
+-- ---- from the run to its cut
+
+module _ {S C : Type 0} (told : S → StoreTold) (answers : C → Option (List ℤ)) (always : C → Option ℤ) (workers : ℕ) (jobs : List Placed)
+    (opened ran : TailHeld S C) (outcomes : List PlacedOutcome) (all : AllHaveRun told answers always workers jobs opened ran outcomes) where
+  pub settles_by : (now : TailHeld S C) (came : Result (List PlacedOutcome) Stop) → Comes told ran outcomes came now
+      → Settles told answers always workers jobs opened came now
+  settles_by now (Ok kept) h = record {
+    ran = ran;
+    all = subst (λ (os : List PlacedOutcome). AllHaveRun told answers always workers jobs opened ran os) (sym h.0) all;
+    settled = h.1;
+  }
+  settles_by now (Err why) h = inl (record { ran = ran; outcomes = outcomes; all = all; stopped = h })
+
+-- ---- the clock goes on
+
+module _ {S C : Type 0} (told : S → StoreTold) (answers : C → Option (List ℤ)) (always : C → Option ℤ) (workers : ℕ) (jobs : List Placed)
+    (opened now : TailHeld S C) where
+  abbrev Goes : C → Type 0
+  Goes c = GoesOn (clock_told answers always opened.clock) (clock_told answers always c)
+
+  goes_stopped : (why : Stop)
+      → HasStopped told answers always workers jobs opened why now ⊎ ((why ≡ stop.OutOfMemory) × Keeps told answers always opened now [])
+      → Goes now.clock
+  goes_stopped why (inl h) =
+      subst Goes (sym h.stopped.clock) (clock_goes told answers always opened h.ran h.all.entries h.all.keeps)
+  goes_stopped why (inr h) = clock_goes told answers always opened now [] h.1
+
+  pub goes_at : (came : Result (List PlacedOutcome) Stop) → Settles told answers always workers jobs opened came now → Goes now.clock
+  goes_at (Ok outcomes) h = subst Goes (sym h.settled.clock) (clock_goes told answers always opened h.ran h.all.entries h.all.keeps)
+  goes_at (Err why) h = goes_stopped why h

@@ -1,5 +1,6 @@
 -- What was written so far, and the part of the rest that a call took.
-use Rattle.std.proofs.Common.{◌≡◌, ℕ, ◌+◌, ◌-◌, ◌≤◌, List, [], ◌∷◌, ◌++◌, length, length-append, take, drop, sym, subst, ◌∙◌, arith, append_assoc, Option}
+use Rattle.std.proofs.Common.{◌≡◌, ℕ, ◌+◌, ◌-◌, ◌≤◌, List, [], ◌∷◌, ◌++◌, length, length-append, take, drop, sym, subst, ◌∙◌, arith, append_assoc, Option, Result, Ok, Err}
+use Rattle.std.specs.Prelude.{OnErr}
 use Rattle.std.proofs.lemmas.Grind.{common_steps}
 use Rattle.std.proofs.lemmas.List.{take-append-le}
 use Rattle.std.proofs.Math.Seq.{take-add, take-append-add}
@@ -37,6 +38,11 @@ breaks_before a b p q off = (
   omega (arith, length-append p q, off.1),
   subst (λ (bs : List ℕ). Writes (span a b) bs) (sym (take-append-le off.0 p q (omega (arith, off.1)))) off.2,
 )
+
+-- what is so is so at a failure
+pub on_err : {A E Q : Type 0} (r : Result A E) → Q → OnErr r Q
+on_err (Ok x) q = tt
+on_err (Err e) q = q
 
 -- a text, a count, and a bracket with a line feed
 line_of : (front : List ℕ) (count : ℕ) → (front ++ decimal count) ++ (125 ∷ 10 ∷ []) ≡ count_line front count

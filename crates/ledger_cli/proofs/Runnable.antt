@@ -23,7 +23,8 @@ use Rattle.ledger_cli.specs.declared.lines.BadInput.TheVariants as cause
 use Rattle.ledger_cli.specs.declared.stop.Stop.{Stop}
 use Rattle.ledger_cli.specs.declared.stop.Stop.TheVariants as stop
 use Rattle.ledger_cli.specs.Inputs.{IsFine, IsReadStop, IsUnread, ReadsScript}
-use Rattle.ledger_cli.specs.Judgements.{IsRunnable, AreRunnable, JudgesTo}
+use Rattle.ledger_shared.specs.Sessions.{AreNumbered}
+use Rattle.ledger_cli.specs.Judgements.{JudgesTo}
 
 -- ---- lists
 
@@ -53,19 +54,22 @@ as_many read (x ∷ xs) number =
 
 -- a session's jobs can be counted where its members can
 
+abbrev IsShort : List Job → Type 0
+IsShort jobs = length jobs < 2 ^ 32
+
 few_as : (members : List Value) → length members < 2 ^ 32 → (r : Result (List Job) ScriptFault)
-    → IfOk r (λ jobs. length jobs ≡ length members) → IfOk r IsRunnable
-few_as members few (Ok jobs) same = record { few = omega (arith, few, same) }
+    → IfOk r (λ jobs. length jobs ≡ length members) → IfOk r IsShort
+few_as members few (Ok jobs) same = omega (arith, few, same)
 few_as members few (Err e) same = tt
 
 few_in : (session : ℕ) (members : Option (List Value)) → length (unwrap_or members []) < 2 ^ 32
     → IfOk (if_read (placed_at session 0 (ok_or members kind.NotASession)) (λ vs. read_each (read_placed session) 1 vs))
-    IsRunnable
+    IsShort
 few_in session None few = tt
 few_in session (Some members) few =
     few_as members few (read_each (read_placed session) 1 members) (as_many (read_placed session) members 1)
 
-few_session : (session : ℕ) (v : Value) → IsCountable v → IfOk (read_session session v) IsRunnable
+few_session : (session : ℕ) (v : Value) → IsCountable v → IfOk (read_session session v) IsShort
 few_session session v few = few_in session (list_in v) few
 
 -- ---- so are they all
@@ -78,10 +82,10 @@ each_then Q (Ok y) (Err e) h k = tt
 each_then Q (Err e) s h k = tt
 
 few_each : (vs : List Value) (number : ℕ) → AllByRecursion IsCountable vs
-    → IfOk (read_each read_session number vs) (AllByRecursion IsRunnable)
+    → IfOk (read_each read_session number vs) (AllByRecursion IsShort)
 few_each [] number h = tt
 few_each (v ∷ vs) number h =
-    each_then IsRunnable (read_session number v) (read_each read_session (number + 1) vs) (few_session number v h.0)
+    each_then IsShort (read_session number v) (read_each read_session (number + 1) vs) (few_session number v h.0)
     (few_each vs (number + 1) h.1)
 
 -- what is told of each place is so of each item
@@ -96,26 +100,26 @@ first_ones P (suc n) (x ∷ xs) h = (h.0, first_ones P n xs h.1)
 
 -- ---- the script
 
-few_read : (values : List Value) (r : Result (List (List Job)) ScriptFault) → IfOk r (AllByRecursion IsRunnable)
+few_read : (values : List Value) (r : Result (List (List Job)) ScriptFault) → IfOk r (AllByRecursion IsShort)
     → IfOk r (λ script. length script ≡ length (take 1024 values))
     → IfOk (if_read r (λ script. if nat_le (length values) 1024 then Ok script
-    else Err (fault_at 1025 0 kind.TooManySessions))) AreRunnable
+    else Err (fault_at 1025 0 kind.TooManySessions))) AreNumbered
 few_read values (Ok script) each same =
     cond_both (nat_le (length values) 1024) (Ok script) (Err (fault_at 1025 0 kind.TooManySessions))
-    (λ (r : Result (List (List Job)) ScriptFault). IfOk r AreRunnable)
+    (λ (r : Result (List (List Job)) ScriptFault). IfOk r AreNumbered)
     (λ _. record { sessions = each; few = omega (arith, same, short_take 1024 values) }) (λ _. tt)
 few_read values (Err e) each same = tt
 
-few_script : (values : List Value) → All IsCountable values → IfOk (read_script values) AreRunnable
+few_script : (values : List Value) → All IsCountable values → IfOk (read_script values) AreNumbered
 few_script values all =
     few_read values (read_each read_session 1 (take 1024 values))
     (few_each (take 1024 values) 1 (first_ones IsCountable 1024 values (each_of IsCountable values all)))
     (as_many read_session (take 1024 values) 1)
 
 pub runnable_is : (values : List Value) (script : List (List Job)) → All IsCountable values
-    → read_script values ≡ Ok script → AreRunnable script
+    → read_script values ≡ Ok script → AreNumbered script
 runnable_is values script all is =
-    subst (λ (r : Result (List (List Job)) ScriptFault). IfOk r AreRunnable) is (few_script values all)
+    subst (λ (r : Result (List (List Job)) ScriptFault). IfOk r AreNumbered) is (few_script values all)
 
 -- ---- the script that is read from a source
 
@@ -140,7 +144,7 @@ is_long input is =
 -- an input that is judged so gives the script, or the cause why not
 pub reads_input : (source : Span SourceTold) (input : List ℕ) (r : Result (List (List Job)) Stop) → WasRead source input
     → IsFine source
-    → JudgesTo r (judged input) → IfOk r AreRunnable → ReadsScript r source
+    → JudgesTo r (judged input) → IfOk r AreNumbered → ReadsScript r source
 reads_input source input (Ok script) read fine is runs =
     (record { input = input; read = read; judged_is = is }, runs, fine)
 reads_input source input (Err (stop.BadInput cause.TooLong)) read fine is runs =
@@ -153,6 +157,7 @@ reads_input source input (Err (stop.NoSuch why)) read fine is runs = absurd is
 reads_input source input (Err (stop.Damaged sequence kind)) read fine is runs = absurd is
 reads_input source input (Err stop.SourceFailed) read fine is runs = absurd is
 reads_input source input (Err stop.StoreFailed) read fine is runs = absurd is
+reads_input source input (Err (stop.NotEmpty blocks)) read fine is runs = absurd is
 reads_input source input (Err (stop.NotAccepted fault)) read fine is runs = absurd is
 reads_input source input (Err stop.OutOfMemory) read fine is runs = fine
 
@@ -169,5 +174,6 @@ unread_input source (stop.NoSuch why) is long = absurd is
 unread_input source (stop.Damaged sequence kind) is long = absurd is
 unread_input source stop.SourceFailed is long = is
 unread_input source stop.StoreFailed is long = absurd is
+unread_input source (stop.NotEmpty blocks) is long = absurd is
 unread_input source (stop.NotAccepted fault) is long = absurd is
 unread_input source stop.OutOfMemory is long = is

@@ -79,6 +79,7 @@ unread_verifies source (stop.NoSuch why) h long = absurd h
 unread_verifies source (stop.Damaged sequence kind) h long = absurd h
 unread_verifies source stop.SourceFailed h long = h
 unread_verifies source stop.StoreFailed h long = absurd h
+unread_verifies source (stop.NotEmpty blocks) h long = absurd h
 unread_verifies source (stop.NotAccepted fault) h long = absurd h
 unread_verifies source stop.OutOfMemory h long = h
 
@@ -96,6 +97,7 @@ module _ (source : Span SourceTold) (input : List ℕ) (read : WasRead source in
   no_values_verifies (stop.Damaged sequence kind) h = absurd h
   no_values_verifies stop.SourceFailed h = absurd h
   no_values_verifies stop.StoreFailed h = absurd h
+  no_values_verifies (stop.NotEmpty blocks) h = absurd h
   no_values_verifies (stop.NotAccepted fault) h = absurd h
   no_values_verifies stop.OutOfMemory h = fine
 
@@ -116,6 +118,7 @@ module _ (source : Span SourceTold) (input : List ℕ) (read : WasRead source in
     values_verify (Err (stop.Damaged sequence kind)) h = absurd h
     values_verify (Err stop.SourceFailed) h = absurd h
     values_verify (Err stop.StoreFailed) h = absurd h
+    values_verify (Err (stop.NotEmpty blocks)) h = absurd h
     values_verify (Err (stop.NotAccepted why)) h = (
       record {
         values = values;
@@ -137,6 +140,7 @@ works_verify same x (Err (stop.NoSuch why)) h = absurd h
 works_verify same x (Err (stop.Damaged sequence kind)) h = absurd h
 works_verify same x (Err stop.SourceFailed) h = record { failed = h; line_is = refl }
 works_verify same x (Err stop.StoreFailed) h = absurd h
+works_verify same x (Err (stop.NotEmpty blocks)) h = absurd h
 works_verify same x (Err (stop.NotAccepted why)) h =
     (record { values = h.0.values; has = h.0.has; why = why; is = h.0.is; line_is = refl }, h.1)
 works_verify same x (Err stop.OutOfMemory) h = h

@@ -58,5 +58,6 @@ Verifies (Err (stop.NoSuch why)) source = ⊥
 Verifies (Err (stop.Damaged sequence kind)) source = ⊥
 Verifies (Err stop.SourceFailed) source = source.before.faults < source.after.faults
 Verifies (Err stop.StoreFailed) source = ⊥
+Verifies (Err (stop.NotEmpty blocks)) source = ⊥
 Verifies (Err (stop.NotAccepted why)) source = IsRefused source why × IsFine source
 Verifies (Err stop.OutOfMemory) source = IsFine source

@@ -1,5 +1,5 @@
 -- What the clock of a run tells, which times it gives, and what the source of ids asks of it.
-use Rattle.std.specs.Prelude.{◌≡◌, ◌++◌, ℕ, ℤ, List, length, drop, Option, Some, None, IfSome, IsSomeAnd, Contains}
+use Rattle.std.specs.Prelude.{◌≡◌, ◌++◌, ℕ, ℤ, List, length, drop, Option, Some, IfSome, IsSomeAnd, Contains}
 use Rattle.ion_time.specs.Millis.{BeginsAt, nearest}
 use Rattle.ion_values.specs.declared.time.TimeParts.{TimeParts}
 use Rattle.command_words.specs.declared.IdSource.{IdSource}

@@ -6,7 +6,7 @@ use Rattle.command_words.specs.declared.Command.{Command}
 use Rattle.ledger_claims.specs.Calls.{Span}
 use Rattle.ledger_claims.specs.Streams.{Writes, WritesPart, BreaksOff, WritesLine}
 use Rattle.command_claims.specs.Calls.{Outside}
-use Rattle.command_claims.specs.Lines.{memory_line, input_line, no_such_line, damaged_line, faults_line, proof_fault_line}
+use Rattle.command_claims.specs.Lines.{memory_line, input_line, no_such_line, not_empty_line, damaged_line, faults_line, proof_fault_line}
 use Rattle.command_claims.specs.Top.{Gives, Refuses}
 use Rattle.command_claims.specs.Top as top
 use Rattle.ledger_cli.specs.Judgements.{cause_of}
@@ -42,6 +42,8 @@ Works same what (Err stop.SourceFailed) x =
     Refuses same what x top.source_failed (faults_line (codes "4") x.source.after.faults)
 Works same what (Err stop.StoreFailed) x =
     Refuses same what x top.store_failed (faults_line (codes "5") x.store.after.faults) × IsFine x.source
+Works same what (Err (stop.NotEmpty blocks)) x =
+    Refuses same what x top.bad_input (not_empty_line blocks) × IsFine x.source
 Works same what (Err (stop.NotAccepted fault)) x =
     Refuses same what x top.not_accepted (proof_fault_line fault) × IsFine x.source
 Works same what (Err stop.OutOfMemory) x = IsFine x.source
@@ -86,6 +88,8 @@ EndsBy (Err stop.SourceFailed) s source_faults store_faults sink =
     IsOwnLine s status.SourceFailed sink (faults_line (codes "4") source_faults)
 EndsBy (Err stop.StoreFailed) s source_faults store_faults sink =
     IsOwnLine s status.StoreFailed sink (faults_line (codes "5") store_faults)
+EndsBy (Err (stop.NotEmpty blocks)) s source_faults store_faults sink =
+    IsLine s status.BadInput sink (not_empty_line blocks)
 EndsBy (Err (stop.NotAccepted fault)) s source_faults store_faults sink =
     IsLine s status.NotAccepted sink (proof_fault_line fault)
 EndsBy (Err stop.OutOfMemory) s source_faults store_faults sink = (s ≡ status.OutOfMemory) × IsWanted sink

@@ -4,7 +4,8 @@ use Rattle.ledger_model.specs.declared.script.Job.{Job}
 use Rattle.outside.specs.Told.{SourceTold}
 use Rattle.ledger_claims.specs.Calls.{Span}
 use Rattle.command_claims.specs.Inputs.{HasScript, IsNoScript}
-use Rattle.ledger_cli.specs.Judgements.{AreRunnable, cause_of}
+use Rattle.ledger_shared.specs.Sessions.{AreNumbered}
+use Rattle.ledger_cli.specs.Judgements.{cause_of}
 use Rattle.ledger_cli.specs.declared.lines.BadInput.TheVariants as bad
 use Rattle.ledger_cli.specs.declared.stop.Stop.{Stop}
 use Rattle.ledger_cli.specs.declared.stop.Stop.TheVariants as stop
@@ -20,6 +21,7 @@ IsUnread (stop.NoSuch why) source = ⊥
 IsUnread (stop.Damaged sequence kind) source = ⊥
 IsUnread stop.SourceFailed source = source.before.faults < source.after.faults
 IsUnread stop.StoreFailed source = ⊥
+IsUnread (stop.NotEmpty blocks) source = ⊥
 IsUnread (stop.NotAccepted fault) source = ⊥
 IsUnread stop.OutOfMemory source = IsFine source
 
@@ -30,10 +32,11 @@ IsReadStop (stop.NoSuch why) source = ⊥
 IsReadStop (stop.Damaged sequence kind) source = ⊥
 IsReadStop stop.SourceFailed source = source.before.faults < source.after.faults
 IsReadStop stop.StoreFailed source = ⊥
+IsReadStop (stop.NotEmpty blocks) source = ⊥
 IsReadStop (stop.NotAccepted fault) source = ⊥
 IsReadStop stop.OutOfMemory source = IsFine source
 
 -- there is a script, or a cause why not
 abbrev pub ReadsScript : Result (List (List Job)) Stop → Span SourceTold → Type 0
-ReadsScript (Ok script) source = HasScript source script × AreRunnable script × IsFine source
+ReadsScript (Ok script) source = HasScript source script × AreNumbered script × IsFine source
 ReadsScript (Err why) source = IsReadStop why source

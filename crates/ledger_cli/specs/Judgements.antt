@@ -1,6 +1,5 @@
--- What an input in memory is judged, and what is so of a script that is run.
-use Rattle.std.specs.Prelude.{◌≡◌, ℕ, ◌+◌, ◌<◌, ◌^◌, List, [], ◌∷◌, length, Result, Ok, Err}
-use Rattle.std.specs.List.{AllByRecursion}
+-- What an input in memory is judged.
+use Rattle.std.specs.Prelude.{◌≡◌, List, Result, Ok, Err}
 use Rattle.ledger_model.specs.declared.script.Job.{Job}
 use Rattle.ledger_model.specs.Judging.{Judged, too_long, faulty, misspelt, scripted}
 use Rattle.command_claims.specs.Lines.{BadInput}
@@ -28,19 +27,6 @@ JudgesTo (Err (stop.NoSuch why)) judgement = ⊥
 JudgesTo (Err (stop.Damaged sequence kind)) judgement = ⊥
 JudgesTo (Err stop.SourceFailed) judgement = ⊥
 JudgesTo (Err stop.StoreFailed) judgement = ⊥
+JudgesTo (Err (stop.NotEmpty blocks)) judgement = ⊥
 JudgesTo (Err (stop.NotAccepted fault)) judgement = ⊥
 JudgesTo (Err stop.OutOfMemory) judgement = Unit {0}
-
--- these transactions can be counted in 32 bits
-pub record IsRunnable (jobs : List Job) : Type 0 where
-  pub few : length jobs < 2 ^ 32
-
--- so can those of each session of a script, and its sessions
-pub record AreRunnable (script : List (List Job)) : Type 0 where
-  pub sessions : AllByRecursion IsRunnable script
-  pub few : length script < 2 ^ 32
-
--- how many transactions a script has
-abbrev pub job_count : List (List Job) → ℕ
-job_count [] = 0
-job_count (jobs ∷ sessions) = length jobs + job_count sessions

@@ -3,6 +3,8 @@ pub mod Clocks
 pub mod Ends
 pub mod Inputs
 pub mod Judgements
+pub mod Making
 pub mod Questions
 pub mod Runs
 pub mod Stops
+pub mod Workers

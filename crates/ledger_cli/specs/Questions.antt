@@ -20,6 +20,7 @@ IsUnanswered question store (stop.NoSuch why) = (blocks : List Block) × Reads s
 IsUnanswered question store (stop.Damaged sequence kind) = ReadsDamage store sequence kind
 IsUnanswered question store stop.SourceFailed = ⊥
 IsUnanswered question store stop.StoreFailed = HasFailed store
+IsUnanswered question store (stop.NotEmpty blocks) = ⊥
 IsUnanswered question store (stop.NotAccepted fault) = ⊥
 IsUnanswered question store stop.OutOfMemory = Unit {0}
 

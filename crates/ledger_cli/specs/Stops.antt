@@ -44,6 +44,7 @@ IsTailStop (stop.NoSuch why) store = ⊥
 IsTailStop (stop.Damaged sequence kind) store = ⊥
 IsTailStop stop.SourceFailed store = ⊥
 IsTailStop stop.StoreFailed store = HasFailed store
+IsTailStop (stop.NotEmpty blocks) store = ⊥
 IsTailStop (stop.NotAccepted fault) store = ⊥
 IsTailStop stop.OutOfMemory store = Unit {0}
 
@@ -54,6 +55,7 @@ IsLoadStop (stop.NoSuch why) store = ⊥
 IsLoadStop (stop.Damaged sequence kind) store = ReadsDamage store sequence kind
 IsLoadStop stop.SourceFailed store = ⊥
 IsLoadStop stop.StoreFailed store = HasFailed store
+IsLoadStop (stop.NotEmpty blocks) store = ⊥
 IsLoadStop (stop.NotAccepted fault) store = ⊥
 IsLoadStop stop.OutOfMemory store = Unit {0}
 
@@ -64,5 +66,6 @@ IsAnswerStop question blocks (stop.NoSuch why) = HasNone question blocks why
 IsAnswerStop question blocks (stop.Damaged sequence kind) = ⊥
 IsAnswerStop question blocks stop.SourceFailed = ⊥
 IsAnswerStop question blocks stop.StoreFailed = ⊥
+IsAnswerStop question blocks (stop.NotEmpty count) = ⊥
 IsAnswerStop question blocks (stop.NotAccepted fault) = ⊥
 IsAnswerStop question blocks stop.OutOfMemory = Unit {0}

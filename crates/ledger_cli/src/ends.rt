@@ -2,13 +2,13 @@
 ghost use Rattle.std.specs.Prelude.{◌≡◌, ◌<◌, ◌⊎◌, Err};
 ghost use Rattle.ledger_claims.specs.Calls.{span};
 ghost use Rattle.ledger_claims.specs.Streams.{Writes, WritesPart};
-ghost use Rattle.command_claims.specs.Lines.{damaged_line, input_line, no_such_line, proof_fault_line};
+ghost use Rattle.command_claims.specs.Lines.{damaged_line, input_line, no_such_line, not_empty_line, proof_fault_line};
 ghost use Rattle.command_claims.specs.Top as top;
 ghost use Rattle.ledger_cli.specs.Ends.{EndsBy, IsLine, IsOwnLine, IsWanted, count_line, status_of};
 ghost use Rattle.ledger_cli.specs.Judgements.{cause_of};
 
 use crate::faults::proof_fault_line;
-use crate::lines::{BadInput, damaged_line, input_line, no_such_line};
+use crate::lines::{BadInput, damaged_line, input_line, no_such_line, not_empty_line};
 use crate::output::{write_all, write_count};
 use crate::stop::Stop;
 use ion_values::Text;
@@ -70,6 +70,7 @@ fn end_by_stop<So: Source, Si: Sink, St: JournalStore>(
     match stop {
         Stop::BadInput(cause) => end_by_input(alloc, sink, cause),
         Stop::NoSuch(refused) => end_by_none(alloc, sink, refused),
+        Stop::NotEmpty { blocks } => end_by_blocks(alloc, sink, blocks),
         Stop::NotAccepted(fault) => end_by_fault(alloc, sink, &fault),
         Stop::Damaged { sequence, kind } => end_by_damage(alloc, sink, sequence, kind),
         Stop::SourceFailed => {
@@ -107,7 +108,8 @@ fn end_by_output<Si: Sink>(sink: &mut Si, text: Text) -> Status
     }
 }
 
-/// Ends with an error line, whether the sink takes it or fails, but where the sink finds no memory: it is not asked again.
+/// Ends with an error line, whether the sink takes it or fails, but where the sink finds no memory: it is not asked
+/// again.
 pub fn end_by_line<Si: Sink>(sink: &mut Si, line: &str, status: Status) -> Status
     ensures { IsOwnLine result status (span (Si.told sink.old) (Si.told sink.new)) line.now }
 {
@@ -157,9 +159,20 @@ fn end_by_none<Si: Sink>(alloc: Global, sink: &mut Si, refused: NoSuch) -> Statu
     }
 }
 
+/// Ends with the error line of a journal that has so many blocks, and was to have none.
+fn end_by_blocks<Si: Sink>(alloc: Global, sink: &mut Si, blocks: u64) -> Status
+    ensures { IsLine result Status.BadInput (span (Si.told sink.old) (Si.told sink.new)) (not_empty_line blocks) }
+{
+    match not_empty_line(alloc, blocks) {
+        Ok(line) => end_by_line(sink, line.as_str(), Status::BadInput),
+        Err(_) => end_by_want(sink),
+    }
+}
+
 /// Ends with the error line of a proof that isn't accepted.
 fn end_by_fault<Si: Sink>(alloc: Global, sink: &mut Si, fault: &ProofFault) -> Status
-    ensures { IsLine result Status.NotAccepted (span (Si.told sink.old) (Si.told sink.new)) (proof_fault_line fault.now) }
+    ensures { IsLine result Status.NotAccepted (span (Si.told sink.old) (Si.told sink.new))
+        (proof_fault_line fault.now) }
 {
     match proof_fault_line(alloc, fault) {
         Ok(line) => end_by_line(sink, line.as_str(), Status::NotAccepted),

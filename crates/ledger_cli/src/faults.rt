@@ -32,7 +32,8 @@ fn with_one(alloc: Global, code: u64, name: &str, value: Value) -> Result<Fields
 
 /// Those of its number and a text.
 fn with_text(alloc: Global, code: u64, name: &str, text: &Text) -> Result<Fields, OutOfMemory>
-    ensures { IfOk result (λ fields. fields ≡ field (codes "code") (number code) ∷ field name.now (string text.now) ∷ []) }
+    ensures { IfOk result (λ fields. fields ≡ field (codes "code") (number code)
+        ∷ field name.now (string text.now) ∷ []) }
 {
     let value = string(alloc, text)?;
     with_one(alloc, code, name, value)
@@ -47,7 +48,8 @@ fn with_two(
     other: &str,
     second: Value,
 ) -> Result<Fields, OutOfMemory>
-    ensures { IfOk result (λ fields. fields ≡ field (codes "code") (number code) ∷ field name.now first ∷ field other.now second ∷ []) }
+    ensures { IfOk result (λ fields. fields ≡ field (codes "code") (number code) ∷ field name.now first
+        ∷ field other.now second ∷ []) }
 {
     let mut fields = with_one(alloc, code, name, first)?;
     put(alloc, &mut fields, other, second)?;
@@ -96,8 +98,8 @@ fn with_addresses(
     other: &str,
     second: &BlockAddress,
 ) -> Result<Fields, OutOfMemory>
-    ensures { IfOk result (λ fields. fields ≡ field (codes "code") (number code) ∷ field name.now (address_value first.now)
-        ∷ field other.now (address_value second.now) ∷ []) }
+    ensures { IfOk result (λ fields. fields ≡ field (codes "code") (number code)
+        ∷ field name.now (address_value first.now) ∷ field other.now (address_value second.now) ∷ []) }
 {
     let first = address_value(alloc, first)?;
     let second = address_value(alloc, second)?;

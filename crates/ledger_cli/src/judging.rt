@@ -4,7 +4,8 @@ ghost use Rattle.std.specs.List.{All};
 ghost use Rattle.ledger_model.specs.Judging.{judged_script, judged};
 ghost use Rattle.ledger_model.specs.ReadScript.{read_script};
 ghost use Rattle.script_form.specs.Answers.{IsCountable};
-ghost use Rattle.ledger_cli.specs.Judgements.{AreRunnable, JudgesTo};
+ghost use Rattle.ledger_shared.specs.Sessions.{AreNumbered};
+ghost use Rattle.ledger_cli.specs.Judgements.{JudgesTo};
 
 use crate::input::LONGEST;
 use crate::lines::BadInput;
@@ -22,7 +23,7 @@ pub const DEEPEST: u32 = 80;
 fn judge_values(alloc: Global, values: &[Value]) -> Result<Script, Stop>
     requires { All IsCountable values.now }
     ensures judged { JudgesTo result (judged_script (read_script values.now)) }
-    ensures runnable { IfOk result AreRunnable }
+    ensures numbered { IfOk result AreNumbered }
 {
     match read_script(alloc, values) {
         Ok(script) => Ok(script),
@@ -44,7 +45,7 @@ fn judge_values(alloc: Global, values: &[Value]) -> Result<Script, Stop>
 /// The script that an input spells, where it isn't too long.
 pub fn judge(alloc: Global, input: &[u8]) -> Result<Script, Stop>
     ensures judged { JudgesTo result (judged input.now) }
-    ensures runnable { IfOk result AreRunnable }
+    ensures numbered { IfOk result AreNumbered }
 {
     if input.len() > LONGEST {
         return Err(Stop::BadInput(BadInput::TooLong));

@@ -9,6 +9,7 @@ mod input;
 mod journal;
 mod judging;
 mod lines;
+mod make;
 mod output;
 mod prove;
 mod returned;

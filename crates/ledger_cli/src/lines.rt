@@ -1,7 +1,7 @@
 //! The lines that are written in place of a report.
 ghost use Rattle.std.specs.Prelude.{◌≡◌, ◌++◌, IfOk, OnOk};
 ghost use Rattle.std.specs.Fmt.{decimal};
-ghost use Rattle.command_claims.specs.Lines.{damage_name, damaged_line, fault_text, faulty, input_line, kind_name, no_such_line, no_such_text, script_fault_text, script_kind_name};
+ghost use Rattle.command_claims.specs.Lines.{damage_name, damaged_line, fault_text, faulty, input_line, kind_name, no_such_line, no_such_text, not_empty_line, script_fault_text, script_kind_name};
 ghost use Rattle.ledger_cli.specs.Judgements.{cause_of};
 
 use ion_values::{IonFault, IonKind, OutOfMemory, Text};
@@ -112,6 +112,18 @@ pub fn no_such_line(alloc: Global, refused: NoSuch) -> Result<Text, OutOfMemory>
     let mut line = Text::new(alloc);
     line.push_str("{status:2,fault:{")?;
     push_no_such(alloc, &mut line, refused)?;
+    line.push_str("}}\n")?;
+    Ok(line)
+}
+
+/// The error line where the journal has so many blocks, and was to have none.
+pub fn not_empty_line(alloc: Global, blocks: u64) -> Result<Text, OutOfMemory>
+    ensures { IfOk result (λ line. line ≡ not_empty_line blocks) }
+{
+    let number = blocks.to_string(alloc)?;
+    let mut line = Text::new(alloc);
+    line.push_str("{status:2,fault:{kind:JournalNotEmpty,blocks:")?;
+    line.push_str(number.as_str())?;
     line.push_str("}}\n")?;
     Ok(line)
 }

@@ -34,13 +34,14 @@ fn bundle_text(
 
 /// The revision at an index of the block of this number.
 fn revision_at(blocks: &Blocks, sequence: u64, index: u32) -> Option<&Revision>
-    ensures { option_copied result ≡ option_and_then (λ b. slice_get b.revisions index) (slice_get blocks.now.list sequence) }
+    ensures { option_copied result
+        ≡ option_and_then (λ b. slice_get b.revisions index) (slice_get blocks.now.list sequence) }
 {
     blocks.get(sequence)?.revisions.get(index as usize)
 }
 
-/// The text of the digest of an undamaged journal with this tip, the revision at this index of the block of this number, and
-/// its proof.
+/// The text of the digest of an undamaged journal with this tip, the revision at this index of the block of this number,
+/// and its proof.
 pub fn proof_text(
     alloc: Global,
     blocks: &Blocks,
@@ -49,7 +50,8 @@ pub fn proof_text(
     tip: Option<u64>,
 ) -> Result<Text, Stop>
     requires { Undamaged blocks.now.list }
-    ensures published { IfOk result (λ text. PublishesProof sequence index (tip_in tip blocks.now.list) blocks.now.list text) }
+    ensures published { IfOk result (λ text.
+        PublishesProof sequence index (tip_in tip blocks.now.list) blocks.now.list text) }
     ensures stop { IfErr result (λ stop. IsAnswerStop (asks.proof sequence index tip) blocks.now.list stop) }
 {
     undamaged_is_chained();

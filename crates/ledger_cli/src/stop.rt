@@ -20,6 +20,8 @@ pub enum Stop {
     SourceFailed,
     /// The store failed when the journal was read, or when it was to be cut at the end.
     StoreFailed,
+    /// The journal has so many blocks, and was to have none.
+    NotEmpty { blocks: u64 },
     /// The input is no bundle whose proof is accepted.
     NotAccepted(ProofFault),
     OutOfMemory,

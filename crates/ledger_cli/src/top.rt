@@ -7,6 +7,7 @@ ghost use Rattle.command_claims.specs.Top.{Does, Ends, Keeps, asks_clock};
 ghost use Rattle.command_claims.specs.Top as top;
 ghost use Rattle.command_words.specs.Words.{asked};
 ghost use Rattle.ledger_cli.specs.Ends.{status_of};
+ghost use Rattle.ledger_cli.specs.Workers.{HasWorkers};
 
 use crate::ends::{Status, end, end_by_line, end_by_want, number_of};
 use crate::returned::HandedBack;
@@ -25,12 +26,15 @@ pub struct Ended<St, C> {
     pub clock: C,
 }
 
-/// Does what the words say: `run`, `digest`, `prove`, `verify` or `audit`, with the words behind it.
+/// Does what the words say: `run`, `make`, `digest`, `prove`, `verify` or `audit`, with the words behind it.
 ///
-/// `run` reads a script from the source, runs it on the journal that the store keeps, and writes its report to the sink.
+/// `run` reads a script from the source, runs it on the journal that the store keeps, and writes its report to the
+/// sink. `make` runs a workload that is made from a seed, on an empty journal, and writes how much it then holds. The
+/// workers of both run in threads of their own, worker w of N the sessions w, w + N and so on, each whole and in order;
+/// each calls the gate before it begins, executes and commits.
 /// `digest`, `prove` and `audit` read the journal and write its digest, the proof of a revision, or how much it holds;
-/// `verify` reads such a proof from the source. These four leave the store's bytes as they are. The clock is asked by `run`
-/// alone, and only where the words give no time or leave out where the ids come from.
+/// `verify` reads such a proof from the source. These four leave the store's bytes as they are. The clock is asked by
+/// `make`, and by `run` where the words give no time or leave out where the ids come from.
 pub fn ledger_top<
     R: Threads + Wait + Sync,
     So: Source,
@@ -60,7 +64,7 @@ pub fn ledger_top<
         came: status,
         store,
         clock,
-    } = do_asked(alloc, words, source, sink, store, clock);
+    } = do_asked(rt, alloc, words, source, sink, store, clock, gate);
     Ended {
         status: number_of(status),
         store,
@@ -69,13 +73,22 @@ pub fn ledger_top<
 }
 
 /// Does what the words ask for, or refuses them.
-fn do_asked<So: Source, Si: Sink, St: JournalStore, C: Clock>(
+fn do_asked<
+    R: Threads + Wait + Sync,
+    So: Source,
+    Si: Sink,
+    St: JournalStore + Send,
+    C: Clock + Send,
+    G: Gate + Sync,
+>(
+    rt: &R,
     alloc: Global,
     words: &[String],
     source: &mut So,
     sink: &mut Si,
     store: St,
     clock: C,
+    gate: &G,
 ) -> HandedBack<Status, St, C>
     ensures does { Does (result.store ≡ store) (record {
       words = words.now;
@@ -86,7 +99,7 @@ fn do_asked<So: Source, Si: Sink, St: JournalStore, C: Clock>(
     ensures clock { asks_clock (asked (map string_bytes words.now)) ≡ false → result.clock ≡ clock }
 {
     match command_in(alloc, words) {
-        Ok(command) => do_command(alloc, command, source, sink, store, clock),
+        Ok(command) => do_command(rt, alloc, command, source, sink, store, clock, gate),
         Err(WordsFault::Refused) => HandedBack {
             came: end_by_line(sink, "{status:1}\n", Status::BadWords),
             store,
@@ -101,23 +114,34 @@ fn do_asked<So: Source, Si: Sink, St: JournalStore, C: Clock>(
 }
 
 /// Does what the command says, and writes its output or an error line.
-fn do_command<So: Source, Si: Sink, St: JournalStore, C: Clock>(
+fn do_command<
+    R: Threads + Wait + Sync,
+    So: Source,
+    Si: Sink,
+    St: JournalStore + Send,
+    C: Clock + Send,
+    G: Gate + Sync,
+>(
+    rt: &R,
     alloc: Global,
     command: Command,
     source: &mut So,
     sink: &mut Si,
     store: St,
     clock: C,
+    gate: &G,
 ) -> HandedBack<Status, St, C>
+    requires some { HasWorkers command }
     ensures ends { Ends (result.store ≡ store) (Some command) (outside (span (So.told source.old) (So.told source.new))
         (span (St.told store) (St.told result.store)) (span (C.answers clock) (C.answers result.clock)))
         (span (Si.told sink.old) (Si.told sink.new)) (status_of result.came) }
-    ensures keeps { Keeps (result.store ≡ store) (Some command) (outside (span (So.told source.old) (So.told source.new))
-        (span (St.told store) (St.told result.store)) (span (C.answers clock) (C.answers result.clock))) }
+    ensures keeps { Keeps (result.store ≡ store) (Some command)
+        (outside (span (So.told source.old) (So.told source.new)) (span (St.told store) (St.told result.store))
+        (span (C.answers clock) (C.answers result.clock))) }
     ensures few { TakesFew (span (So.told source.old) (So.told source.new)) }
     ensures asks { asks_clock (Some command) ≡ false → result.clock ≡ clock }
 {
-    let HandedBack { came, store, clock } = work(alloc, command, source, store, clock);
+    let HandedBack { came, store, clock } = work(rt, alloc, command, source, store, clock, gate);
     let status = end(alloc, came, source, sink, &store);
     HandedBack {
         came: status,

@@ -1,5 +1,5 @@
 //! What the commands come to: an output, or why there is none.
-ghost use Rattle.std.specs.Prelude.{◌≡◌, Some, false};
+ghost use Rattle.std.specs.Prelude.{◌≡◌, ◌<◌, Some, false};
 ghost use Rattle.ledger_claims.specs.Calls.{span};
 ghost use Rattle.ledger_claims.specs.Streams.{TakesFew};
 ghost use Rattle.command_claims.specs.Calls.{outside};
@@ -8,6 +8,7 @@ ghost use Rattle.command_claims.specs.Top.{Keeps, asks_clock};
 ghost use Rattle.command_words.specs.declared.Command.TheVariants as asked;
 ghost use Rattle.ledger_cli.specs.Ends.{Works};
 ghost use Rattle.ledger_cli.specs.Inputs.{ReadsScript};
+ghost use Rattle.ledger_cli.specs.Workers.{HasWorkers};
 ghost use Rattle.ledger_cli.specs.Questions.{Tells};
 
 use crate::audit::counts_text;
@@ -15,6 +16,7 @@ use crate::digest::digest_text;
 use crate::input::read_all;
 use crate::journal::read_blocks;
 use crate::judging::judge;
+use crate::make::make;
 use crate::prove::proof_text;
 use crate::returned::{HandedBack, Returned};
 use crate::run::run_script;
@@ -24,8 +26,10 @@ use crate::verify::verify_input;
 use command_words::{Command, RunOptions};
 use ion_values::Text;
 use ledger_model::Script;
-use outside::{Clock, JournalStore, Source};
+use outside::{Clock, Gate, JournalStore, Source};
 use std::alloc::Global;
+use std::sync::Wait;
+use std::thread::Threads;
 
 /// What came of a command: its output, or why there is none, and the store and the clock that it was given.
 pub type Worked<S, C> = HandedBack<Result<Text, Stop>, S, C>;
@@ -34,22 +38,33 @@ pub type Worked<S, C> = HandedBack<Result<Text, Stop>, S, C>;
 type Came<S> = Returned<Result<Text, Stop>, S>;
 
 /// Does what the command says, but for its output.
-pub fn work<So: Source, St: JournalStore, C: Clock>(
+pub fn work<
+    R: Threads + Wait + Sync,
+    So: Source,
+    St: JournalStore + Send,
+    C: Clock + Send,
+    G: Gate + Sync,
+>(
+    rt: &R,
     alloc: Global,
     command: Command,
     source: &mut So,
     store: St,
     clock: C,
+    gate: &G,
 ) -> Worked<St, C>
-    ensures works { Works (result.store ≡ store) (Some command) result.came (outside (span (So.told source.old) (So.told source.new))
-        (span (St.told store) (St.told result.store)) (span (C.answers clock) (C.answers result.clock))) }
-    ensures keeps { Keeps (result.store ≡ store) (Some command) (outside (span (So.told source.old) (So.told source.new))
-        (span (St.told store) (St.told result.store)) (span (C.answers clock) (C.answers result.clock))) }
+    requires { HasWorkers command }
+    ensures works { Works (result.store ≡ store) (Some command) result.came
+        (outside (span (So.told source.old) (So.told source.new)) (span (St.told store) (St.told result.store))
+        (span (C.answers clock) (C.answers result.clock))) }
+    ensures keeps { Keeps (result.store ≡ store) (Some command)
+        (outside (span (So.told source.old) (So.told source.new)) (span (St.told store) (St.told result.store))
+        (span (C.answers clock) (C.answers result.clock))) }
     ensures few { TakesFew (span (So.told source.old) (So.told source.new)) }
     ensures asks { asks_clock (Some command) ≡ false → result.clock ≡ clock }
 {
     match command {
-        Command::Run(options) => run(alloc, options, source, store, clock),
+        Command::Run(options) => run(rt, alloc, options, source, store, clock, gate),
         Command::Digest { tip } => {
             let Returned { came, store } = digest(alloc, tip, store);
             HandedBack { came, store, clock }
@@ -71,17 +86,27 @@ pub fn work<So: Source, St: JournalStore, C: Clock>(
             let Returned { came, store } = audit(alloc, store);
             HandedBack { came, store, clock }
         }
+        Command::Make(options) => make(rt, alloc, options, gate, clock, store),
     }
 }
 
 /// Runs the script that the source gives, with these options, and answers its report.
-fn run<So: Source, St: JournalStore, C: Clock>(
+fn run<
+    R: Threads + Wait + Sync,
+    So: Source,
+    St: JournalStore + Send,
+    C: Clock + Send,
+    G: Gate + Sync,
+>(
+    rt: &R,
     alloc: Global,
     options: RunOptions,
     source: &mut So,
     store: St,
     clock: C,
+    gate: &G,
 ) -> Worked<St, C>
+    requires { 0 < options.workers }
     ensures works { Works (result.store ≡ store) (Some (asked.Run options)) result.came
         (outside (span (So.told source.old) (So.told source.new)) (span (St.told store) (St.told result.store))
         (span (C.answers clock) (C.answers result.clock))) }
@@ -95,7 +120,17 @@ fn run<So: Source, St: JournalStore, C: Clock>(
         Ok(script) => {
             let mut clock = clock;
             let mask = mask_by(options.ids, &mut clock);
-            run_script(alloc, &script, mask, options.time, clock, store)
+            run_script(
+                rt,
+                alloc,
+                &script,
+                options.workers,
+                gate,
+                mask,
+                options.time,
+                clock,
+                store,
+            )
         }
         Err(stop) => HandedBack {
             came: Err(stop),

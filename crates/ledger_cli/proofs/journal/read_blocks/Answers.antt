@@ -4,8 +4,8 @@ use Rattle.ledger_model.specs.Damages.{Undamaged}
 use Rattle.outside.specs.Told.{held}
 use Rattle.ledger_claims.specs.Stores.{HasJournal}
 use Rattle.ledger_cli.specs.Stops.{load_stop}
+use Rattle.ledger_cli.proofs.Leaving.{loaded_journal}
 use Rattle.ledger_cli.proofs.Loaded.{unloaded_done, unloaded_stop}
-use Rattle.ledger_cli.proofs.Running.{loaded_journal}
 use Rattle.ledger_cli.proofs.journal.read_blocks.Goals as goal
 
 pub returns-in-Ok-clause-read : goal.returns-in-Ok-clause-read

@@ -1,6 +1,5 @@
 use Rattle.std.proofs.Common.{◌∙◌}
-use Rattle.ledger_cli.proofs.Pieces.{count_broken_second, count_broken_last}
-use Rattle.ledger_cli.proofs.Running.{on_err}
+use Rattle.ledger_cli.proofs.Pieces.{count_broken_second, count_broken_last, on_err}
 use Rattle.ledger_cli.proofs.output.write_count.Goals as goal
 
 pub returns-in_err-write_all-2-clause-broken : goal.returns-in_err-write_all-2-clause-broken

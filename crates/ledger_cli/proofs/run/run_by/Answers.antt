@@ -1,59 +1,55 @@
-use Rattle.std.proofs.Common.{◌≡◌, ◌∙◌, ◌⊎◌, [], refl, sym, ap, subst, inl}
-use Rattle.std.specs.Prelude.{IfOk, OnErr}
+use Rattle.std.proofs.Common.{◌≡◌, ◌∙◌, ◌⊎◌, sym, ap, subst, inl, inr}
+use Rattle.std.specs.Prelude.{IfOk}
+use Rattle.ledger_model.specs.Script.{all_placed}
 use Rattle.outside.specs.Told.{held}
 use Rattle.ledger_claims.specs.Calls.{span}
 use Rattle.command_claims.specs.Runs.{Terms, IsReportOf, HoldsRun}
 use Rattle.ledger_cli.specs.Clocks.{AreCovered, GoesOn, clock_told}
-use Rattle.ledger_cli.specs.Runs.{come}
+use Rattle.ledger_cli.specs.Runs.{HasLoaded}
 use Rattle.ledger_cli.specs.Stops.{load_stop}
+use Rattle.ledger_cli.proofs.Asked.{left_as}
 use Rattle.ledger_cli.proofs.Clocks.{goes_same}
 use Rattle.ledger_cli.proofs.Ending.{same_held}
-use Rattle.ledger_cli.proofs.Loaded.{HasLoaded, loaded_done, loaded_stopped, loaded_stop, unloaded_done, unloaded_left, unloaded_stop}
+use Rattle.ledger_cli.proofs.Loaded.{unloaded_done, unloaded_left, unloaded_stop}
 use Rattle.ledger_cli.proofs.run.run_by.Goals as goal
 
 pub returns-in-Ok-clause-done : goal.returns-in-Ok-clause-done
 returns-in-Ok-clause-done g c =
     let told = g.S.JournalStore.told in
-    let s = span (told c.args.store) (told c.run_on.result.store) in
     let clocks = clock_told g.C.Clock.answers g.C.Clock.always in
-    let d = come told g.C.Clock.answers g.C.Clock.always c.in-Ok.tail [] in
     let is = c.in-Ok.ensures in
-    let has : HasLoaded c.args.mask.bits s d =
-    record { journal = is.journal; sound = is.standing; mask = is.mask; last = is.last; store = is.store; none = refl } in
+    let has : HasLoaded told c.args.mask.bits (told c.args.store) c.in-Ok.tail =
+    record { journal = is.journal; sound = is.standing; mask = is.mask; last = is.last; content = is.store.0; faults = is.store.1 } in
     subst
     (λ k. IfOk c.run_on.result.came
-    (λ text. (terms : Terms) → AreCovered c.args.mask.bits (clocks k) (clocks c.run_on.result.clock) terms → IsReportOf terms c.args.script.now s text))
-    is.clock
-    (loaded_done c.args.mask.bits c.args.script.now s d has (clocks c.in-Ok.tail.clock) (clocks c.run_on.result.clock) c.run_on.result.came
-    c.run_on.ensures.done c.run_on.ensures.kept)
+    (λ text. (terms : Terms) → AreCovered c.args.mask.bits (clocks k) (clocks c.run_on.result.clock) terms
+    → IsReportOf terms c.args.workers (all_placed c.args.script.now) (span (told c.args.store) (told c.run_on.result.store)) text))
+    is.clock (c.run_on.ensures.done c.args.mask.bits (told c.args.store) has)
 
 pub returns-in-Ok-clause-left : goal.returns-in-Ok-clause-left
 returns-in-Ok-clause-left g c =
     let told = g.S.JournalStore.told in
-    let s = span (told c.args.store) (told c.run_on.result.store) in
     let clocks = clock_told g.C.Clock.answers g.C.Clock.always in
-    let d = come told g.C.Clock.answers g.C.Clock.always c.in-Ok.tail [] in
     let is = c.in-Ok.ensures in
-    let has : HasLoaded c.args.mask.bits s d =
-    record { journal = is.journal; sound = is.standing; mask = is.mask; last = is.last; store = is.store; none = refl } in
-    subst
-    (λ k. OnErr c.run_on.result.came
-    ((terms : Terms) → AreCovered c.args.mask.bits (clocks k) (clocks c.run_on.result.clock) terms
-    → (held s.after ≡ held s.before) ⊎ HoldsRun terms c.args.script.now s)) is.clock
-    (loaded_stopped c.args.mask.bits c.args.script.now s d has (clocks c.in-Ok.tail.clock) (clocks c.run_on.result.clock) c.run_on.result.came
-    c.run_on.ensures.left)
+    let s = span (told c.args.store) (told c.run_on.result.store) in
+    let has : HasLoaded told c.args.mask.bits (told c.args.store) c.in-Ok.tail =
+    record { journal = is.journal; sound = is.standing; mask = is.mask; last = is.last; content = is.store.0; faults = is.store.1 } in
+    left_as
+    ((terms : Terms) → AreCovered c.args.mask.bits (clocks c.in-Ok.tail.clock) (clocks c.run_on.result.clock) terms
+    → HoldsRun terms c.args.workers (all_placed c.args.script.now) s)
+    ((terms : Terms) → AreCovered c.args.mask.bits (clocks c.args.clock) (clocks c.run_on.result.clock) terms
+    → (held s.after ≡ held s.before) ⊎ HoldsRun terms c.args.workers (all_placed c.args.script.now) s)
+    c.run_on.result.came
+    (λ h terms covered. inr (h terms (subst (λ k. AreCovered c.args.mask.bits (clocks k) (clocks c.run_on.result.clock) terms) (sym is.clock) covered)))
+    (c.run_on.ensures.left c.args.mask.bits (told c.args.store) has)
 
 pub returns-in-Ok-clause-stop : goal.returns-in-Ok-clause-stop
 returns-in-Ok-clause-stop g c =
     let told = g.S.JournalStore.told in
-    let s = span (told c.args.store) (told c.run_on.result.store) in
-    let clocks = clock_told g.C.Clock.answers g.C.Clock.always in
-    let d = come told g.C.Clock.answers g.C.Clock.always c.in-Ok.tail [] in
     let is = c.in-Ok.ensures in
-    let has : HasLoaded c.args.mask.bits s d =
-    record { journal = is.journal; sound = is.standing; mask = is.mask; last = is.last; store = is.store; none = refl } in
-    loaded_stop c.args.mask.bits c.args.script.now s d has (clocks c.in-Ok.tail.clock) (clocks c.run_on.result.clock)
-    c.run_on.result.came c.run_on.ensures.stop
+    let has : HasLoaded told c.args.mask.bits (told c.args.store) c.in-Ok.tail =
+    record { journal = is.journal; sound = is.standing; mask = is.mask; last = is.last; content = is.store.0; faults = is.store.1 } in
+    c.run_on.ensures.stop c.args.mask.bits (told c.args.store) has
 
 pub returns-in-Err-clause-done : goal.returns-in-Err-clause-done
 returns-in-Err-clause-done g c = unloaded_done _ c.unloaded.result.came (load_stop c.in-Err.fault.cause) c.unloaded.ensures.came

@@ -1,8 +1,13 @@
-use Rattle.std.proofs.Common.{◌≡◌, false, None, Some, Option, refl, subst}
+use Rattle.std.proofs.Common.{◌≡◌, false, None, Some, Option, map, refl, subst}
+use Rattle.std.specs.Prelude.{string_bytes}
 use Rattle.command_words.specs.declared.Command.{Command}
 use Rattle.command_claims.specs.Top.{asks_clock}
 use Rattle.ledger_cli.proofs.Ending.{does_so, keeps_all, refused_ends, takes_none, wanted_ends}
+use Rattle.ledger_cli.proofs.Words.{has_workers}
 use Rattle.ledger_cli.proofs.top.do_asked.Goals as goal
+
+pub do_command-requires-clause-some : goal.do_command-requires-clause-some
+do_command-requires-clause-some g c κs within = has_workers (map string_bytes c.args.words.now) c.in-Ok.command c.in-Ok.ensures
 
 pub returns-in-Ok-clause-does : goal.returns-in-Ok-clause-does
 returns-in-Ok-clause-does g c =

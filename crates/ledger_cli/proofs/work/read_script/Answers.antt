@@ -22,4 +22,4 @@ returns-clause-reads g c =
     let is : c.deref.result.now ≡ c.in_ok-input.input.items = search rules in
     reads_input source c.in_ok-input.input.items c.judge.result c.in_ok-input.ensures.read c.in_ok-input.ensures.fine
     (subst (λ (bytes : List ℕ). JudgesTo c.judge.result (judged bytes)) is c.judge.ensures.judged)
-    c.judge.ensures.runnable
+    c.judge.ensures.numbered

@@ -6,6 +6,7 @@ use Rattle.command_claims.specs.Top.{Keeps}
 use Rattle.ledger_cli.specs.Ends.{Works}
 use Rattle.ledger_cli.proofs.Answering.{works_digest, works_proof, works_counts}
 use Rattle.ledger_cli.proofs.Ending.{takes_none}
+use Rattle.ledger_cli.proofs.Making.{keeps_made, works_made}
 use Rattle.ledger_cli.proofs.Verifying.{works_verify}
 use Rattle.ledger_cli.proofs.work.work.Goals as goal
 
@@ -83,3 +84,24 @@ returns-in-Audit-clause-keeps g c =
 
 pub returns-in-Audit-clause-few : goal.returns-in-Audit-clause-few
 returns-in-Audit-clause-few g c = takes_none (g.So.Source.told c.args.source.now)
+
+pub returns-in-Make-clause-works : goal.returns-in-Make-clause-works
+returns-in-Make-clause-works g c =
+    let k = c.make.result in
+    let source = g.So.Source.told c.args.source.now in
+    let x = outside (span source source) (span (g.St.JournalStore.told c.args.store) (g.St.JournalStore.told k.store))
+    (span (g.C.Clock.answers c.args.clock) (g.C.Clock.answers k.clock)) in
+    subst (λ (w : Command). Works (k.store ≡ c.args.store) (Some w) k.came x) (sym c.in-Make.is)
+    (works_made (k.store ≡ c.args.store) c.in-Make.options x k.came refl c.make.ensures)
+
+pub returns-in-Make-clause-keeps : goal.returns-in-Make-clause-keeps
+returns-in-Make-clause-keeps g c =
+    let k = c.make.result in
+    let source = g.So.Source.told c.args.source.now in
+    let x = outside (span source source) (span (g.St.JournalStore.told c.args.store) (g.St.JournalStore.told k.store))
+    (span (g.C.Clock.answers c.args.clock) (g.C.Clock.answers k.clock)) in
+    subst (λ (w : Command). Keeps (k.store ≡ c.args.store) (Some w) x) (sym c.in-Make.is)
+    (keeps_made (k.store ≡ c.args.store) c.in-Make.options x k.came refl c.make.ensures)
+
+pub returns-in-Make-clause-few : goal.returns-in-Make-clause-few
+returns-in-Make-clause-few g c = takes_none (g.So.Source.told c.args.source.now)

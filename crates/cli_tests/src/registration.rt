@@ -1,0 +1,50 @@
+//! The registration of a vehicle: four transactions, of which each is a block, and the commands on their journal.
+use crate::commands::{run, unfailing};
+use crate::runs::RUN;
+use std::alloc::Global;
+use std::sync::Wait;
+use std::thread::Threads;
+
+const REGISTRATION: &str =
+    "[{statements:[\"CREATE TABLE Vehicle\",\"CREATE TABLE VehicleRegistration\",\
+    \"CREATE INDEX ON Vehicle (VIN)\",\"CREATE INDEX ON VehicleRegistration (VIN)\"]},\n\
+    {statements:[{text:\"INSERT INTO Vehicle ?\",params:[{VIN:\"1N4AL11D75C109151\",Make:\"Audi\",Year:2011}]},\
+    {text:\"INSERT INTO VehicleRegistration ?\",params:[{VIN:\"1N4AL11D75C109151\",City:\"Seattle\",\
+    Owners:{PrimaryOwner:{PersonId:\"p1\"},SecondaryOwners:[]}}]}]},\n\
+    {statements:[\"SELECT v.Make, r.City FROM Vehicle AS v INNER JOIN VehicleRegistration AS r ON v.VIN = r.VIN \
+    WHERE v.VIN = '1N4AL11D75C109151'\",\
+    \"UPDATE VehicleRegistration AS r SET r.Owners.PrimaryOwner.PersonId = 'p2' WHERE r.VIN = '1N4AL11D75C109151'\",\
+    \"FROM VehicleRegistration AS r WHERE r.VIN = '1N4AL11D75C109151' \
+    INSERT INTO r.Owners.SecondaryOwners VALUE {'PersonId': 'p3'}\"]},\n\
+    {statements:[\"SELECT h.metadata.version, h.data.Owners.PrimaryOwner.PersonId AS owner \
+    FROM history(VehicleRegistration) AS h WHERE h.metadata.id = '000000000000000002Gn2Y'\"]}]\n";
+
+const REGISTERED: &str =
+    "0 {session:1,transaction:1,outcome:committed,tx:\"0000000000000000018OWG\",block:0,answers:[[{tableId:\"0000000000000000018OWH\"}],[{tableId:\"0000000000000000018OWI\"}],[{tableId:\"0000000000000000018OWH\"}],[{tableId:\"0000000000000000018OWI\"}]]}\n\
+    {session:1,transaction:2,outcome:committed,tx:\"000000000000000002Gn2W\",block:1,answers:[[{documentId:\"000000000000000002Gn2X\"}],[{documentId:\"000000000000000002Gn2Y\"}]]}\n\
+    {session:1,transaction:3,outcome:committed,tx:\"000000000000000003PBYm\",block:2,answers:[[{Make:\"Audi\",City:\"Seattle\"}],[{documentId:\"000000000000000002Gn2Y\"}],[{documentId:\"000000000000000002Gn2Y\"}]]}\n\
+    {session:1,transaction:4,outcome:committed,tx:\"000000000000000004Xa52\",block:3,answers:[[{version:0,owner:\"p1\"},{version:1,owner:\"p2\"}]]}\n";
+
+/// Whether the registration is reported so, its journal counts these blocks and revisions, and the proof of the change is
+/// accepted.
+fn is_registered<R: Threads + Wait + Sync>(rt: &R, alloc: Global) -> Option<bool> {
+    let left = run(rt, alloc, &unfailing(RUN, REGISTRATION, b""))?;
+    let held = left.held.as_slice();
+    let counted = run(rt, alloc, &unfailing("audit", "", held))?;
+    let published = run(rt, alloc, &unfailing("digest", "", held))?;
+    let digest = published.told.as_str().strip_prefix("0 ")?;
+    let proved = run(rt, alloc, &unfailing("prove 2 0", "", held))?;
+    let bundle = proved.told.as_str().strip_prefix("0 ")?;
+    let verified = run(rt, alloc, &unfailing("verify", bundle, b""))?;
+    Some(
+        left.told.as_str() == REGISTERED
+            && counted.told.as_str() == "0 {blocks:4,revisions:3}\n"
+            && bundle.starts_with(digest)
+            && verified.told.as_str() == "0 {verified:true}\n",
+    )
+}
+
+#[test]
+fn a_vehicle_is_registered(rt: HostRuntime) {
+    assert!(rt; is_registered(&rt, rt.alloc()) == Some(true));
+}

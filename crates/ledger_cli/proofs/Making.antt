@@ -1,0 +1,356 @@
+-- The run of a workload, from its transactions to what is told of the whole.
+use Rattle.std.proofs.Common.{◌≡◌, ◌∙◌, ◌⊎◌, ℕ, zero, suc, ℤ, ◌^◌, ◌<◌, List, [], ◌∷◌, length, refl, sym, ap, ap₂, subst, inl, inr, arith, true, Option, Some, None, Result, Ok, Err}
+use Rattle.std.specs.Prelude.{IfSome}
+use Rattle.std.specs.List.{AllByRecursion}
+use Rattle.id_seed.specs.Seed.{mask_of}
+use Rattle.ion_values.specs.declared.value.Value.{Value}
+use Rattle.ion_forms.specs.Write.{value_text}
+use Rattle.ql_types.specs.declared.Hash32.{Hash32}
+use Rattle.ledger_model.specs.CommitDigest.{commit_digest}
+use Rattle.ledger_model.specs.declared.block.Block.{Block}
+use Rattle.ledger_model.specs.declared.outcome.PlacedOutcome.{PlacedOutcome}
+use Rattle.ledger_model.specs.declared.script.Job.{Job}
+use Rattle.ledger_model.specs.Recovered.{has_no_line_feed}
+use Rattle.ledger_model.specs.Script.{Placed, all_placed}
+use Rattle.made_blocks.proofs.Lists.{all_like}
+use Rattle.made_histories.proofs.Adding.{made_runs_add_up}
+use Rattle.made_histories.proofs.Places.{IsOfSession, all_of_sessions, session_jobs}
+use Rattle.made_workload.proofs.Lengths.{each-made_session, length-made_session, length-made_sessions}
+use Rattle.made_workload.specs.Made.{made_first, made_sessions}
+use Rattle.made_workload.specs.Sums.{summary, summary_text}
+use Rattle.outside.specs.Told.{SourceTold, StoreTold, held}
+use Rattle.command_words.specs.declared.Command.TheVariants as command
+use Rattle.command_words.specs.declared.MakeOptions.{MakeOptions}
+use Rattle.turn_lock.specs.History.{Stands}
+use Rattle.ledger_claims.specs.Calls.{Span, span}
+use Rattle.ledger_claims.specs.Fits.{RunRecord, IsOfSomeJob, made, untold}
+use Rattle.ledger_claims.specs.SoFar.{InOrder, IsBehind}
+use Rattle.ledger_claims.proofs.Places.{InOrder-all_placed}
+use Rattle.command_claims.proofs.First.{comes_first}
+use Rattle.command_claims.proofs.Holding.{done_leaves, summarized_holds}
+use Rattle.command_claims.specs.Making.{IsSummaryOf, LeavesWorkload, made_jobs, made_terms}
+use Rattle.command_claims.specs.Calls.{Outside}
+use Rattle.command_claims.specs.Inputs.{IsIdle}
+use Rattle.command_claims.specs.Lines.{not_empty_line}
+use Rattle.command_claims.specs.Top.{Keeps}
+use Rattle.command_claims.specs.Runs.{Terms, HoldsRun}
+use Rattle.entry_laws.specs.Claims.{IsOfOwnDigest}
+use Rattle.entry_laws.proofs.Fitting.{contains_stands}
+use Rattle.entry_laws.proofs.Lists.{stands_all, stands_contains}
+use Rattle.ledger_core.specs.Loads.{IsCause}
+use Rattle.ledger_core.specs.Tails.{TailHeld}
+use Rattle.ledger_core.specs.declared.reload.LoadCause.{LoadCause}
+use Rattle.ledger_core.specs.declared.reload.LoadCause.TheVariants as load
+use Rattle.ledger_first.specs.FirstRuns.{HasBegun, HaveAllRun}
+use Rattle.ledger_shared.specs.Sessions.{AreNumbered}
+use Rattle.ledger_cli.specs.declared.make.Workload.{Workload}
+use Rattle.ledger_cli.specs.declared.stop.Stop.{Stop}
+use Rattle.ledger_cli.specs.declared.stop.Stop.TheVariants as stop
+use Rattle.ledger_cli.specs.Clocks.{AreCovered, GoesOn, clock_told}
+use Rattle.ledger_cli.specs.Ends.{Works}
+use Rattle.ledger_cli.specs.Inputs.{IsFine}
+use Rattle.ledger_cli.specs.Making.{HasMade, IsMakeStop, IsWorkload, Makes, MakesAll, SumsUp, at_first}
+use Rattle.ledger_cli.specs.Runs.{Comes, HasLoaded, HasStopped}
+use Rattle.ledger_cli.specs.Stops.{IsLoadStop, load_stop}
+use Rattle.ledger_cli.proofs.Clocks.{between_covers, extends_same}
+use Rattle.ledger_cli.proofs.Ending.{same_held}
+use Rattle.ledger_cli.proofs.Leaving.{loaded_journal}
+use Rattle.ledger_cli.proofs.Loaded.{goes_at, settled_done, settled_record, stopped_by, stopped_left, unloaded_cause}
+use Rattle.ledger_cli.proofs.Running.{clock_goes, run_fits}
+
+-- ---- the jobs
+
+-- the transactions of the options are their jobs
+pub jobs_are : (o : MakeOptions) (w : Workload) → IsWorkload o w → at_first w.first ∷ all_placed w.sessions ≡ made_jobs o
+jobs_are o w of = ap₂ (λ (job : Job) (script : List (List Job)). at_first job ∷ all_placed script) of.first of.sessions
+
+abbrev rest_of : MakeOptions → List Placed
+rest_of o = session_jobs o.seed o.sessions o.transactions
+
+of_rest : (o : MakeOptions) → AllByRecursion (IsOfSession o.seed) (rest_of o)
+of_rest o = all_of_sessions o.seed o.sessions o.transactions
+
+later_sessions : (o : MakeOptions) → AllByRecursion (λ (q : Placed). 0 < q.place.session) (rest_of o)
+later_sessions o = all_like (IsOfSession o.seed) (λ (q : Placed). 0 < q.place.session) (λ q h. h.some) (rest_of o) (of_rest o)
+
+in_order : (o : MakeOptions) → InOrder (made_jobs o)
+in_order o = (
+  all_like (λ (q : Placed). 0 < q.place.session) (IsBehind (at_first made_first).place)
+      (λ q some same. let none : 0 ≡ q.place.session = same in absurd (omega (arith, some, none))) (rest_of o) (later_sessions o),
+  InOrder-all_placed (made_sessions o.seed o.sessions o.transactions),
+)
+
+first_in_order : InOrder (at_first made_first ∷ [])
+first_in_order = (tt, tt)
+
+-- none of them sends a digest
+sends_none : (o : MakeOptions) (p : Placed) → Stands p (made_jobs o) → p.job.digest ≡ None
+sends_none o p (inl same) = ap (λ (q : Placed). q.job.digest) same
+sends_none o p (inr among) =
+    ap (λ (j : Job). j.digest) (stands_all (IsOfSession o.seed) p (rest_of o) (of_rest o) among).job
+
+-- ---- what the first one leaves is left by a part of the whole
+
+module _ (o : MakeOptions) where
+  wider_job : (b : Block) → IsOfSomeJob (at_first made_first ∷ []) b → IsOfSomeJob (made_jobs o) b
+  wider_job b h = record {
+    placed = h.placed;
+    among = stands_contains h.placed (made_jobs o) (by (contains_stands (at_first made_first ∷ []) h.placed h.among));
+    of_job = h.of_job;
+  }
+    where
+      by : Stands h.placed (at_first made_first ∷ []) → Stands h.placed (made_jobs o)
+      by (inl same) = inl same
+      by (inr bad) = absurd bad
+
+  own_digest : (b : Block) → IsOfOwnDigest (made_jobs o) b
+  own_digest b p among same =
+      subst (λ (d : Option Hash32). IfSome d (λ digest. digest ≡ commit_digest b.header.tx p.job.statements))
+      (sym (sends_none o p (contains_stands (made_jobs o) p among))) tt
+
+  all_own : (bs : List Block) → AllByRecursion (IsOfOwnDigest (made_jobs o)) bs
+  all_own [] = tt
+  all_own (b ∷ bs) = (own_digest b, all_own bs)
+
+  wider_run : (terms : Terms) (store : Span StoreTold) → HoldsRun terms 1 (at_first made_first ∷ []) store
+      → HoldsRun terms o.workers (made_jobs o) store
+  wider_run terms store h =
+      let t : RunRecord = record h.told { workers = o.workers; jobs = made_jobs o } in
+      let of = h.left.of_run in
+      let fits = h.left.fits in
+      record {
+        told = t;
+        left = record {
+          of_run = record {
+            found = of.found;
+            given = of.given;
+            times = of.times;
+            workers_are = refl;
+            jobs_are = refl;
+            opened = of.opened;
+            closed = of.closed;
+          };
+          fits = record {
+            begins = fits.begins;
+            undamaged = fits.undamaged;
+            masked = fits.masked;
+            strand = fits.strand;
+            serial = fits.serial;
+            times = fits.times;
+            of_jobs = all_like (IsOfSomeJob (at_first made_first ∷ [])) (IsOfSomeJob (made_jobs o)) wider_job (made t)
+                (subst (λ (ps : List Placed). AllByRecursion (IsOfSomeJob ps) (made t)) of.jobs_are fits.of_jobs);
+            once = fits.once;
+          };
+          digests = all_own (made t);
+          holding = h.left.holding;
+        };
+      }
+
+-- sessions and transactions have numbers of 32 bits
+pub numbered : (o : MakeOptions) → o.sessions < 2 ^ 32 → o.transactions < 2 ^ 32
+    → AreNumbered (made_sessions o.seed o.sessions o.transactions)
+numbered o sessions transactions = record {
+  sessions = each-made_session (λ (jobs : List Job). length jobs < 2 ^ 32) o.seed o.sessions o.transactions
+      (λ session. subst (λ n. n < 2 ^ 32) (sym (length-made_session o.seed session o.transactions)) transactions);
+  few = subst (λ n. n < 2 ^ 32) (sym (length-made_sessions o.seed o.sessions o.transactions)) sessions;
+}
+
+-- ---- the run
+
+module _ {S C : Type 0} (told : S → StoreTold) (answers : C → Option (List ℤ)) (always : C → Option ℤ) (workers : ℕ)
+    (first : Placed) (jobs : List Placed) (opened ran : TailHeld S C) (outcomes : List PlacedOutcome)
+    (h : HaveAllRun told answers always workers first jobs opened outcomes ran) where
+  -- what was run is settled or not
+  pub makes_all : (came : Result (List PlacedOutcome) Stop) (now : TailHeld S C) → Comes told ran outcomes came now
+      → MakesAll told answers always workers first jobs opened came now
+  makes_all (Ok kept) now comes =
+      subst (λ (os : List PlacedOutcome). HasMade told answers always workers first jobs opened os now) (sym comes.0) (record {
+        mid = h.mid;
+        begun = h.begun;
+        settled = record { ran = ran; all = h.all; settled = comes.1 };
+      })
+  makes_all (Err why) now comes =
+      inl (record { ran = ran; outcomes = h.begun.outcome ∷ outcomes; all = h.all; stopped = comes })
+
+-- ---- what is told of it
+
+abbrev first_job : Placed
+first_job = at_first made_first
+
+module _ {S C : Type 0} (told : S → StoreTold) (answers : C → Option (List ℤ)) (always : C → Option ℤ) (o : MakeOptions) (some : 0 < o.workers)
+    (before : StoreTold) (opened : TailHeld S C) (has : HasLoaded told (mask_of o.seed) before opened) (empty : opened.standing.blocks ≡ [])
+    (law : (v : Value) → has_no_line_feed (value_text v) ≡ true) (now : TailHeld S C) where
+  abbrev store : Span StoreTold
+  store = span before (told now.store)
+
+  abbrev clock : Span (Option (List ℤ))
+  clock = span (answers opened.clock) (answers now.clock)
+
+  abbrev terms : Terms
+  terms = made_terms o clock
+
+  abbrev Goes : Type 0
+  Goes = GoesOn (clock_told answers always opened.clock) (clock_told answers always now.clock)
+
+  covered : Goes → AreCovered (mask_of o.seed) (clock_told answers always opened.clock) (clock_told answers always now.clock) terms
+  covered goes = record {
+    given = refl;
+    times = between_covers (answers opened.clock) (clock_told answers always opened.clock) (clock_told answers always now.clock)
+        (extends_same (answers opened.clock)) goes.extends;
+  }
+
+  summed : (outcomes : List PlacedOutcome) (text : List ℕ) → text ≡ summary_text (summary now.standing.blocks)
+      → HasMade told answers always o.workers first_job (rest_of o) opened outcomes now → IsSummaryOf o store clock text
+  summed outcomes text is h =
+      let all = h.begun.outcome ∷ outcomes in
+      let goes = goes_at told answers always o.workers (made_jobs o) opened now (Ok all) h.settled in
+      let t = settled_record told answers always (mask_of o.seed) before opened has o.workers some (made_jobs o) (in_order o) terms all now in
+      let done = settled_done told answers always (mask_of o.seed) before opened has o.workers some (made_jobs o) (in_order o) terms all now
+      (covered goes) h.settled in
+      let first = run_fits told answers always (mask_of o.seed) before opened has 1 (omega arith) (first_job ∷ []) first_in_order
+      (record { given = None; times = untold }) tt h.mid (h.begun.outcome ∷ []) h.begun.alone (λ time given. tt) in
+      record {
+        told = t;
+        empty = empty;
+        first = comes_first t _ first_job (rest_of o) h.begun.outcome outcomes empty refl refl (later_sessions o) done.fits empty refl refl first;
+        done = done;
+        text_is = is;
+        adds_up = λ many.
+            is ∙ ap summary_text (made_runs_add_up t o.seed o.sessions o.transactions done.fits.blocks empty refl many);
+      }
+
+  abbrev Left : Type 0
+  Left = HoldsRun terms o.workers (made_jobs o) store
+
+  wanted : (why : Stop) → why ≡ stop.OutOfMemory → IsMakeStop why store
+  wanted why is = subst (λ (x : Stop). IsMakeStop x store) (sym is) tt
+
+  -- the first job alone, as a run that was stopped behind it
+  begun_stopped : HasBegun told answers always first_job opened now
+      → HasStopped told answers always 1 (first_job ∷ []) opened stop.OutOfMemory now
+  begun_stopped h = record {
+    ran = now;
+    outcomes = h.outcome ∷ [];
+    all = h.alone;
+    stopped = record { clock = refl; cut = inl refl; stop = tt };
+  }
+
+  begun_left : HasBegun told answers always first_job opened now → Left
+  begun_left h =
+      let goes = clock_goes told answers always opened now h.alone.entries h.alone.keeps in
+      wider_run o terms store
+      (stopped_left told answers always (mask_of o.seed) before opened has 1 (omega arith) (first_job ∷ []) first_in_order law now
+      stop.OutOfMemory terms (covered goes) (inl (begun_stopped h)))
+
+  stopped : (why : Stop) → HasStopped told answers always o.workers (made_jobs o) opened why now
+      ⊎ ((why ≡ stop.OutOfMemory) × (HasBegun told answers always first_job opened now ⊎ (now ≡ opened)))
+      → LeavesWorkload o store clock × IsMakeStop why store
+  stopped why (inl h) =
+      let goes = goes_at told answers always o.workers (made_jobs o) opened now (Err why) (inl h) in (
+        inr (stopped_left told answers always (mask_of o.seed) before opened has o.workers some (made_jobs o) (in_order o) law now why terms
+            (covered goes) (inl h)),
+        as_make why (stopped_by told answers always (mask_of o.seed) before opened has o.workers some (made_jobs o) (in_order o) now why (inl h)),
+      )
+    where
+      as_make : (why : Stop) → IsLoadStop why store → IsMakeStop why store
+      as_make (stop.NotEmpty count) h = absurd h
+      as_make (stop.BadInput cause) h = h
+      as_make (stop.NoSuch none) h = h
+      as_make (stop.Damaged sequence kind) h = h
+      as_make stop.SourceFailed h = h
+      as_make stop.StoreFailed h = h
+      as_make (stop.NotAccepted fault) h = h
+      as_make stop.OutOfMemory h = h
+  stopped why (inr (is, inl h)) = (inr (begun_left h), wanted why is)
+  stopped why (inr (is, inr same)) = (
+    inl (ap (λ (t : TailHeld S C). held (told t.store)) same ∙ same_held before (told opened.store) has.content),
+    wanted why is,
+  )
+
+  made_so : (came : Result (List PlacedOutcome) Stop) (r : Result (List ℕ) Stop)
+      → MakesAll told answers always o.workers first_job (rest_of o) opened came now → SumsUp now.standing.blocks came r
+      → Makes o r store clock
+  made_so (Ok outcomes) (Ok text) h sums = summed outcomes text sums h
+  made_so (Ok outcomes) (Err why) h sums =
+      let one = summed outcomes (summary_text (summary now.standing.blocks)) refl h in
+      (inr (record { told = one.told; left = done_leaves terms o.workers (made_jobs o) store one.told one.done }), wanted why sums)
+  made_so (Err why) (Ok text) h sums = absurd sums
+  made_so (Err why) (Err other) h sums =
+      let left = stopped why h in
+      (left.0, subst (λ (x : Stop). IsMakeStop x store) (sym sums) left.1)
+
+  -- with the transactions of the workload
+  pub makes_so : (w : Workload) → IsWorkload o w → (came : Result (List PlacedOutcome) Stop) (r : Result (List ℕ) Stop)
+      → MakesAll told answers always o.workers (at_first w.first) (all_placed w.sessions) opened came now
+      → SumsUp now.standing.blocks came r → Makes o r store clock
+  makes_so w of came r h sums =
+      made_so came r
+      (subst (λ (script : List (List Job)). MakesAll told answers always o.workers first_job (all_placed script) opened came now) of.sessions
+      (subst (λ (job : Job). MakesAll told answers always o.workers (at_first job) (all_placed w.sessions) opened came now) of.first h)) sums
+
+-- ---- where nothing is run
+
+pub is_empty : (blocks : List Block) (n : ℕ) → n ≡ length blocks → n ≡ 0 → blocks ≡ []
+is_empty [] n long none = refl
+is_empty (b ∷ blocks) n long none = absurd (omega (arith, long, none))
+
+is_some : (n : ℕ) → (n ≡ 0 → ⊥) → 0 < n
+is_some zero h = absurd (h refl)
+is_some (suc n) h = omega arith
+
+-- the journal has blocks
+pub has_blocks : {S C : Type 0} (told : S → StoreTold) (o : MakeOptions) (given : ℕ) (before : StoreTold) (opened : TailHeld S C)
+    (clock : Span (Option (List ℤ))) (n : ℕ) → HasLoaded told given before opened → n ≡ length opened.standing.blocks → (n ≡ 0 → ⊥)
+    → Makes o (Err (stop.NotEmpty n)) (span before (told opened.store)) clock
+has_blocks told o given before opened _ n has long some = (
+  inl (same_held before (told opened.store) has.content),
+  record {
+    blocks = opened.standing.blocks;
+    reads = record {
+      found = loaded_journal (held before) opened.standing.blocks opened.marked has.journal;
+      undamaged = has.sound.undamaged;
+      only_read = record { content = has.content; faults = has.faults };
+    };
+    some = subst (λ (m : ℕ). 0 < m) long (is_some n some);
+    count_is = long;
+  },
+)
+
+-- it was not loaded
+unloaded_by : (o : MakeOptions) (cause : LoadCause) (before after : StoreTold) (clock : Span (Option (List ℤ))) → after.content ≡ before.content
+    → IsLoadStop (load_stop cause) (span before after) → Makes o (Err (load_stop cause)) (span before after) clock
+unloaded_by o (load.Damaged sequence kind) before after _ same h = (inl (same_held before after same), h)
+unloaded_by o (load.StoreFault count) before after _ same h = (inl (same_held before after same), h)
+unloaded_by o load.OutOfMemory before after _ same h = (inl (same_held before after same), h)
+
+pub unloaded_makes : (o : MakeOptions) (cause : LoadCause) (before after : StoreTold) (clock : Span (Option (List ℤ)))
+    (came : Result (List ℕ) Stop) → came ≡ Err (load_stop cause) → after.content ≡ before.content → IsCause cause before after
+    → Makes o came (span before after) clock
+unloaded_makes o cause before after clock came is same h =
+    subst (λ (r : Result (List ℕ) Stop). Makes o r (span before after) clock) (sym is)
+    (unloaded_by o cause before after clock same (unloaded_cause cause before after same h))
+
+-- ---- the command
+
+works_none : (same : Type 0) (o : MakeOptions) (x : Outside) (why : Stop) → IsFine x.source → IsMakeStop why x.store
+    → Works same (Some (command.Make o)) (Err why) x
+works_none same o x (stop.BadInput cause) fine h = absurd h
+works_none same o x (stop.NoSuch none) fine h = absurd h
+works_none same o x (stop.Damaged sequence kind) fine h =
+    (record { sequence = sequence; kind = kind; reads = h; line_is = refl }, fine)
+works_none same o x stop.SourceFailed fine h = absurd h
+works_none same o x stop.StoreFailed fine h = (record { failed = h; line_is = refl }, fine)
+works_none same o x (stop.NotEmpty blocks) fine h =
+    (record { blocks = h.blocks; reads = h.reads; some = h.some; line_is = ap not_empty_line h.count_is }, fine)
+works_none same o x (stop.NotAccepted fault) fine h = absurd h
+works_none same o x stop.OutOfMemory fine h = fine
+
+pub works_made : (same : Type 0) (o : MakeOptions) (x : Outside) (came : Result (List ℕ) Stop) → IsIdle x.source
+    → Makes o came x.store x.clock → Works same (Some (command.Make o)) came x
+works_made same o x (Ok text) idle h = (h, ap (λ (t : SourceTold). t.faults) idle)
+works_made same o x (Err why) idle h = works_none same o x why (ap (λ (t : SourceTold). t.faults) idle) h.1
+
+pub keeps_made : (same : Type 0) (o : MakeOptions) (x : Outside) (came : Result (List ℕ) Stop) → IsIdle x.source
+    → Makes o came x.store x.clock → Keeps same (Some (command.Make o)) x
+keeps_made same o x (Ok text) idle h = (inr (summarized_holds o x.store x.clock text h), idle)
+keeps_made same o x (Err why) idle h = (h.0, idle)
