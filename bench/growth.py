@@ -11,10 +11,11 @@ import time
 from pathlib import Path
 
 TOP = Path(__file__).resolve().parent.parent
-WORDS = ["run", "--plain-ids", "--at", "2020-01-01T00:00:00.000Z"]
+WORDS = ["run", "--workers", "1", "--plain-ids", "--at", "2020-01-01T00:00:00.000Z"]
 SIZES = [1_000, 10_000, 100_000]
 HALF = 500
 SELECTS, A_TRANSACTION = 4_000, 40
+MEMORY = Path("/dev/shm")
 MOST_OF_A_COMMIT, MOST_OF_A_SELECT = 1.3, 1.5
 
 
@@ -39,6 +40,11 @@ def between(statement, size):
 
 
 # ---- a run that is watched
+
+
+def folder():
+    """A folder for journals, in memory where the system has one there: processor time is measured, and no disk."""
+    return tempfile.TemporaryDirectory(dir=MEMORY if MEMORY.is_dir() else None)
 
 
 def seconds_of(pid):
@@ -102,8 +108,8 @@ def commits(program, journal):
 
 def selects(program, whole, size, statement):
     """The microseconds of a select on a journal of so many blocks."""
-    with tempfile.TemporaryDirectory() as folder:
-        journal = Path(folder) / "journal"
+    with folder() as place:
+        journal = Path(place) / "journal"
         with whole.open("rb") as lines, journal.open("wb") as some:
             for _ in range(size):
                 some.write(next(lines))
@@ -118,8 +124,8 @@ def memory(program, whole):
     """The bytes of memory and of its line that a stored revision takes, by journals of two lengths."""
     peaks, sizes = [], []
     for size in SIZES[-2:]:
-        with tempfile.TemporaryDirectory() as folder:
-            journal = Path(folder) / "journal"
+        with folder() as place:
+            journal = Path(place) / "journal"
             with whole.open("rb") as lines, journal.open("wb") as some:
                 for _ in range(size):
                     some.write(next(lines))
@@ -140,8 +146,8 @@ def told(name, figures, most):
 
 def main():
     program = sys.argv[1] if len(sys.argv) > 1 else TOP / "crates" / "ledger" / "out" / "ledger"
-    with tempfile.TemporaryDirectory() as folder:
-        whole = Path(folder) / "journal"
+    with folder() as place:
+        whole = Path(place) / "journal"
         fine = told("a commit", list(commits(program, whole)), MOST_OF_A_COMMIT)
         with whole.open("rb") as lines:
             line = [next(lines) for _ in range(SIZES[0] // 2)][-1].decode()

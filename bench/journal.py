@@ -10,7 +10,7 @@ from pathlib import Path
 LENGTHS = [2_500, 5_000, 10_000]
 RUNS = 5
 TOP = Path(__file__).resolve().parent.parent
-WORDS = ["run", "--plain-ids", "--at", "2020-01-01T00:00:00.000Z"]
+WORDS = ["run", "--workers", "1", "--plain-ids", "--at", "2020-01-01T00:00:00.000Z"]
 
 
 def script(blocks):

@@ -8,7 +8,7 @@ import tempfile
 from pathlib import Path
 
 TOP = Path(__file__).resolve().parent.parent
-WORDS = ["run", "--plain-ids", "--at", "2020-01-01T00:00:00.000Z"]
+WORDS = ["run", "--workers", "1", "--plain-ids", "--at", "2020-01-01T00:00:00.000Z"]
 RUNS = 3
 REPEATS = 20
 ONE_TABLE = [4_000, 8_000, 16_000]

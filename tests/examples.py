@@ -26,7 +26,7 @@ def time_of(script):
 
 def report(program, journal, script):
     """What the program writes for the script on this journal."""
-    command = [program, str(journal), "run", "--plain-ids", "--at", time_of(script)]
+    command = [program, str(journal), "run", "--workers", "1", "--plain-ids", "--at", time_of(script)]
     ended = subprocess.run(command, input=script.read_bytes(), capture_output=True)
     if ended.returncode != 0:
         sys.exit(f"{script.name}: status {ended.returncode}: {ended.stdout!r} {ended.stderr!r}")

@@ -18,7 +18,7 @@ sys.path.insert(0, os.path.join(ROOT, "bench"))
 import verify
 
 PROGRAM = os.path.join(ROOT, "crates", "ledger", "out", "ledger")
-RUN = ["run", "--seed", "7", "--at", "2020-01-01T00:00:00.000Z"]
+RUN = ["run", "--workers", "1", "--seed", "7", "--at", "2020-01-01T00:00:00.000Z"]
 SCRIPT = b"""[{statements:["CREATE TABLE t",{text:"INSERT INTO t ?",params:[[{a:1.50},{b:'x y'},{c:"q"}]]}]},
  {statements:[]},{statements:["SELECT * FROM t"]},
  {statements:[{text:"INSERT INTO t ?",params:[{d:[null,{{YQ==}},2020-02-29T23:59:59.999+01:00],e:x::(a+b)}]}]}]"""

@@ -14,7 +14,7 @@ import tempfile
 HERE = os.path.dirname(os.path.abspath(__file__))
 ROOT = os.path.dirname(HERE)
 PROGRAM = os.path.join(ROOT, "crates", "ledger", "out", "ledger")
-WORDS = ["run", "--plain-ids", "--at", "2020-01-01T00:00:00.000Z"]
+WORDS = ["run", "--workers", "1", "--plain-ids", "--at", "2020-01-01T00:00:00.000Z"]
 SELECT = b'[{statements:["SELECT * FROM accounts"]}]'
 
 

@@ -15,7 +15,7 @@ import tempfile
 
 HERE = os.path.dirname(os.path.abspath(__file__))
 PROGRAM = os.path.join(os.path.dirname(HERE), "crates", "ledger", "out", "ledger")
-RUN = ["run", "--plain-ids", "--at", "2020-01-01T00:00:00.000Z"]
+RUN = ["run", "--workers", "1", "--plain-ids", "--at", "2020-01-01T00:00:00.000Z"]
 CREATE = b'[{statements:["CREATE TABLE t"]}]'
 LINE_START = b'{blockAddress:{strandId:"'
 

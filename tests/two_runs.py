@@ -14,7 +14,7 @@ import tempfile
 
 HERE = os.path.dirname(os.path.abspath(__file__))
 PROGRAM = os.path.join(os.path.dirname(HERE), "crates", "ledger", "out", "ledger")
-WORDS = ["run", "--plain-ids", "--at", "2020-01-01T00:00:00.000Z"]
+WORDS = ["run", "--workers", "1", "--plain-ids", "--at", "2020-01-01T00:00:00.000Z"]
 COUNT = 200
 CREATE = '[{statements:["CREATE TABLE t"]}]'
 SELECT = '[{statements:["SELECT * FROM t"]}]'
