@@ -1,4 +1,5 @@
-//! Blocks and revisions as Ion values, and their hashes. `parts` writes the values of the parts of which blocks, revisions
+//! Blocks and revisions as Ion values, and their hashes. `parts` writes the values of the parts of which blocks,
+//! revisions
 //! and proofs are made, and `read_parts` reads them.
 #![tactic(auto)]
 

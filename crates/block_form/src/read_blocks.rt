@@ -88,7 +88,8 @@ fn hashes_of(fields: &[Field]) -> Option<Hashes>
 }
 
 fn revisions_in(alloc: Global, field: &Field) -> Result<Option<Revisions>, OutOfMemory>
-    ensures { IfOk result (λ revisions. revisions ≡ and_then (spec.named (codes "revisions") field.now) spec.revisions_in) }
+    ensures { IfOk result (λ revisions.
+        revisions ≡ and_then (spec.named (codes "revisions") field.now) spec.revisions_in) }
 {
     let Some(value) = named(field, "revisions") else {
         return Ok(None);
@@ -107,7 +108,8 @@ fn count_of(revisions: &Revisions) -> Option<u32>
 }
 
 fn info_of(alloc: Global, field: &Field, revisions: &Revisions) -> Result<Option<Info>, OutOfMemory>
-    ensures { IfOk result (λ info. info ≡ and_then (spec.named (codes "transactionInfo") field.now) (spec.info_in revisions.now)) }
+    ensures { IfOk result (λ info. info ≡ and_then (spec.named (codes "transactionInfo") field.now)
+        (spec.info_in revisions.now)) }
 {
     let Some(value) = named(field, "transactionInfo") else {
         return Ok(None);

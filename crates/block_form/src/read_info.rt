@@ -77,14 +77,14 @@ fn said_in(alloc: Global, v: &Value) -> Result<Option<Said>, OutOfMemory>
 fn all_said(alloc: Global, values: &[Value]) -> Result<Option<SaidList>, OutOfMemory>
     ensures { IfOk result (λ said. said ≡ each spec.said_in values.now) }
 {
-    let mut said = Sequence::new(alloc);
+    let mut said = Vec::with_capacity(alloc, values.len())?;
     'statements: for value in values {
         match said_in(alloc, value)? {
             Some(one) => said.push(one)?,
             None => return Ok(None),
         }
     }
-    Ok(Some(said))
+    Ok(Some(Sequence::from_vec(said)))
 }
 
 /// The change of this kind.
@@ -140,14 +140,14 @@ fn schema_in(alloc: Global, v: &Value) -> Result<Option<Schema>, OutOfMemory>
 fn all_schema(alloc: Global, values: &[Value]) -> Result<Option<SchemaList>, OutOfMemory>
     ensures { IfOk result (λ schema. schema ≡ each spec.schema_in values.now) }
 {
-    let mut schema = Sequence::new(alloc);
+    let mut schema = Vec::with_capacity(alloc, values.len())?;
     'changes: for value in values {
         match schema_in(alloc, value)? {
             Some(change) => schema.push(change)?,
             None => return Ok(None),
         }
     }
-    Ok(Some(schema))
+    Ok(Some(Sequence::from_vec(schema)))
 }
 
 /// The table of a document, which is that of the revision.
@@ -177,14 +177,14 @@ fn tables_of(
     if values.len() != revisions.len() {
         return Ok(None);
     }
-    let mut tables = Sequence::new(alloc);
+    let mut tables = Vec::with_capacity(alloc, values.len())?;
     'documents: for at in 0..values.len() {
         match table_in(&revisions[at], &values[at]) {
             Some(table) => tables.push(table)?,
             None => return Ok(None),
         }
     }
-    Ok(Some(tables))
+    Ok(Some(Sequence::from_vec(tables)))
 }
 
 fn info_of(
@@ -224,7 +224,8 @@ fn placed(field: &Field) -> Option<Place>
 }
 
 fn statements_of(alloc: Global, field: &Field) -> Result<Option<SaidList>, OutOfMemory>
-    ensures { IfOk result (λ said. said ≡ and_then (and_then (spec.named (codes "statements") field.now) list_in) (each spec.said_in)) }
+    ensures { IfOk result (λ said. said ≡ and_then (and_then (spec.named (codes "statements") field.now) list_in)
+        (each spec.said_in)) }
 {
     let Some(values) = members_in(field, "statements") else {
         return Ok(None);
@@ -234,7 +235,8 @@ fn statements_of(alloc: Global, field: &Field) -> Result<Option<SaidList>, OutOf
 }
 
 fn changes_of(alloc: Global, field: &Field) -> Result<Option<SchemaList>, OutOfMemory>
-    ensures { IfOk result (λ schema. schema ≡ and_then (and_then (spec.named (codes "schema") field.now) list_in) (each spec.schema_in)) }
+    ensures { IfOk result (λ schema. schema ≡ and_then (and_then (spec.named (codes "schema") field.now) list_in)
+        (each spec.schema_in)) }
 {
     let Some(values) = members_in(field, "schema") else {
         return Ok(None);
@@ -248,7 +250,8 @@ fn documents_of(
     field: &Field,
     revisions: &[Revision],
 ) -> Result<Option<TableIds>, OutOfMemory>
-    ensures { IfOk result (λ tables. tables ≡ and_then (and_then (spec.named (codes "documents") field.now) list_in) (λ values. spec.tables_of values revisions.now)) }
+    ensures { IfOk result (λ tables. tables ≡ and_then (and_then (spec.named (codes "documents") field.now) list_in)
+        (λ values. spec.tables_of values revisions.now)) }
 {
     let Some(values) = members_in(field, "documents") else {
         return Ok(None);

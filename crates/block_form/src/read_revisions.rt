@@ -96,12 +96,12 @@ pub fn revision_in(alloc: Global, v: &Value) -> Result<Option<Revision>, OutOfMe
 pub fn revisions_of(alloc: Global, values: &[Value]) -> Result<Option<Revisions>, OutOfMemory>
     ensures { IfOk result (λ revisions. revisions ≡ each spec.revision_in values.now) }
 {
-    let mut revisions = Sequence::new(alloc);
+    let mut revisions = Vec::with_capacity(alloc, values.len())?;
     'revisions: for value in values {
         match revision_in(alloc, value)? {
             Some(revision) => revisions.push(revision)?,
             None => return Ok(None),
         }
     }
-    Ok(Some(revisions))
+    Ok(Some(Sequence::from_vec(revisions)))
 }

@@ -1,9 +1,10 @@
--- The escapes between quotes, character by character: one that is no ASCII stands as it is.
+-- The escapes between quotes: a character that is no ASCII stands as it is, and so does a text in which no byte is escaped.
 use lib.Utf8.{encode, next}
-use Rattle.std.proofs.Common.{◌≡◌, ℕ, ◌+◌, ◌/◌, ◌<◌, ◌≤◌, Bool, true, false, cond, List, [], ◌∷◌, arith}
-use Rattle.std.specs.List.{flat_map}
+use Rattle.std.proofs.Common.{◌≡◌, ℕ, ◌+◌, ◌/◌, ◌<◌, ◌≤◌, Bool, true, false, ◌||◌, cond, List, [], ◌∷◌, refl, ap, arith}
+use Rattle.std.specs.List.{flat_map, list_any}
 use Rattle.std.proofs.lemmas.Bool.Decides.{nat_tests}
 use Rattle.ion_forms.specs.Quoted.{escape}
+use Rattle.ion_text.specs.Escapes.{has_escape}
 
 escape-high : (q b : ℕ) → q < 128 → 128 ≤ b → escape q b ≡ b ∷ []
 escape-high q b low high = grind (arith, nat_tests)
@@ -32,3 +33,18 @@ escapes-encode q c low high =
     (either Same _ _ _ (escapes-two q (192 + c / 64) (next c) low (omega arith) (omega arith))
     (either Same _ _ _ (escapes-three q (224 + c / 4096) (next (c / 64)) (next c) low (omega arith) (omega arith) (omega arith))
     (escapes-four q (240 + c / 262144) (next (c / 4096)) (next (c / 64)) (next c) low (omega arith) (omega arith) (omega arith) (omega arith))))
+
+-- ---- texts without escapes
+
+neither : (a b : Bool) → (a || b) ≡ false → (a ≡ false) × (b ≡ false)
+neither true b h = absurd (cc)
+neither false b h = (refl, h)
+
+stands : (q b : ℕ) → has_escape q b ≡ false → escape q b ≡ b ∷ []
+stands q b h = grind (arith, nat_tests)
+
+pub escapes-none : (q : ℕ) (bytes : List ℕ) → list_any (has_escape q) bytes ≡ false → flat_map (escape q) bytes ≡ bytes
+escapes-none q [] h = refl
+escapes-none q (b ∷ more) h =
+    let parts = neither (has_escape q b) (list_any (has_escape q) more) h in
+    rw (stands q b parts.0) (ap (λ z. b ∷ z) (escapes-none q more parts.1))

@@ -1,3 +1,4 @@
+pub mod Escapes
 pub mod RoundTrip
 pub mod Stream
 pub mod Laws

@@ -12,8 +12,8 @@ use ion_grammar::Lexed;
 use ion_tokens::lex;
 use ion_values::{IonFault, IonKind, OutOfMemory, Values};
 use reader::{Reader, Refused};
+use simdutf8::compat::from_utf8;
 use std::alloc::Global;
-use std::str;
 use thiserror::Error;
 
 /// Why no values are read.
@@ -55,9 +55,10 @@ pub fn read_stream(alloc: Global, bytes: &[u8], depth: u32) -> Result<Values, Re
 
 /// Where the first bytes begin that aren't UTF-8, if there are any.
 fn ill_formed(bytes: &[u8]) -> Option<usize>
-    ensures { MatchOption result (is_utf8 bytes.now ≡ true) (λ at. (is_utf8 bytes.now ≡ false) × (at ≡ utf8_valid_len bytes.now)) }
+    ensures { MatchOption result (is_utf8 bytes.now ≡ true) (λ at. (is_utf8 bytes.now ≡ false)
+        × (at ≡ utf8_valid_len bytes.now)) }
 {
-    match str::from_utf8(bytes) {
+    match from_utf8(bytes) {
         Ok(_) => None,
         Err(error) => Some(error.valid_up_to()),
     }

@@ -1,4 +1,5 @@
 pub mod Blobs
 pub mod Exponents
+pub mod Marks
 pub mod Pieces
 pub mod Quotes

@@ -35,3 +35,13 @@ abbrev pub is_plain : Quotes → ℕ → Bool
 is_plain quotes.Double b = not (b == byte "\\") && may_stand b
 is_plain quotes.Single b = not (b == byte "\\") && may_stand b
 is_plain quotes.Triple b = not (b == byte "\\") && not (b == 13)
+
+-- the first of the closing quotes
+abbrev pub mark_of : Quotes → ℕ
+mark_of quotes.Double = byte "\""
+mark_of quotes.Single = byte "'"
+mark_of quotes.Triple = byte "'"
+
+-- a byte that gives itself and begins no closing quotes
+abbrev pub is_inner : Quotes → ℕ → Bool
+is_inner q b = is_plain q b && not (b == mark_of q)

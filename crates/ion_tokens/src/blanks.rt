@@ -9,7 +9,7 @@ use ion_grammar::Lexed;
 pub fn is_space(b: u8) -> bool
     ensures { result ≡ is_space b }
 {
-    b" \t\n\x0b\x0c\r".contains(&b)
+    matches!(b, b' ' | b'\t'..=b'\r')
 }
 
 /// `//` and what follows it on its line.

@@ -1,6 +1,6 @@
 //! Blobs.
 ghost use Rattle.std.specs.Prelude.{◌≡◌, ◌≤◌, ◌+◌, Some, length, not, IfOk, IfSome};
-ghost use Rattle.std.specs.List.{filter};
+ghost use Rattle.std.specs.List.{filter, list_any};
 ghost use Rattle.ion_grammar.specs.Blanks.{is_space};
 ghost use Rattle.ion_grammar.specs.Lobs.{base64_bytes, before_braces};
 ghost use Rattle.ion_tokens.specs.Blobs.{hides_none};
@@ -29,8 +29,17 @@ pub fn before_braces(bytes: &[u8]) -> Option<usize>
 pub fn blob_bytes(alloc: Global, bytes: &[u8]) -> Result<Option<Bytes>, OutOfMemory>
     ensures { IfOk result (λ r. r ≡ base64_bytes (filter (λ b. not (is_space b)) bytes.now)) }
 {
+    if !has_white(bytes) {
+        return base64_bytes(alloc, bytes);
+    }
     let digits = without_white(alloc, bytes)?;
     base64_bytes(alloc, digits.as_slice())
+}
+
+fn has_white(bytes: &[u8]) -> bool
+    ensures { result ≡ list_any is_space bytes.now }
+{
+    bytes.iter().any(|b| is_space(*b))
 }
 
 fn without_white(alloc: Global, bytes: &[u8]) -> Result<Vec<u8>, OutOfMemory>

@@ -3,9 +3,10 @@ ghost use Rattle.std.specs.Char.{is_ascii_digit};
 ghost use Rattle.ion_grammar.specs.Lex.{begins_number, lex_mark, lex_run, lex_at, lex};
 ghost use Rattle.ion_grammar.specs.Blanks.{begins};
 ghost use Rattle.ion_grammar.specs.Spans.{span_of};
+ghost use Rattle.ion_tokens.specs.Marks.{is_mark};
 
 use crate::blanks::{block_comment, is_space, line_comment};
-use crate::lobs::lex_lob;
+use crate::lobs::{begins_segment, lex_lob};
 use crate::number::lex_number;
 use crate::texts::{lex_quoted, lex_segment, lex_string};
 use crate::words::{begins_word, is_operator, lex_operator, lex_word};
@@ -36,6 +37,9 @@ fn lex_at(alloc: Global, first: u8, bytes: &[u8]) -> Result<Lexed, OutOfMemory>
     ensures value { IfOk result (λ l. l ≡ lex_at first bytes.now) }
     ensures within { IfOk result (λ l. span_of l ≤ length bytes.now) }
 {
+    if is_mark(first) {
+        return Ok(lex_mark(first, bytes));
+    }
     if is_space(first) {
         return Ok(Lexed::Blank(0));
     }
@@ -51,7 +55,7 @@ fn lex_at(alloc: Global, first: u8, bytes: &[u8]) -> Result<Lexed, OutOfMemory>
     if first == b'"' {
         return lex_string(alloc, bytes);
     }
-    if begins(b"'''", bytes) {
+    if begins_segment(bytes) {
         return lex_segment(alloc, bytes);
     }
     if first == b'\'' {
@@ -59,6 +63,13 @@ fn lex_at(alloc: Global, first: u8, bytes: &[u8]) -> Result<Lexed, OutOfMemory>
     }
     let run = lex_run(alloc, first, bytes)?;
     Ok(run)
+}
+
+/// Whether a mark begins with this byte, and nothing else.
+fn is_mark(first: u8) -> bool
+    ensures { result ≡ is_mark first }
+{
+    matches!(first, b',' | b':' | b'[' | b']' | b'(' | b')' | b'}')
 }
 
 /// A number, a word or a run of operator characters in front, and else a mark.

@@ -6,13 +6,14 @@ ghost use Rattle.ion_grammar.specs.Spans.{span_of};
 ghost use Rattle.ion_grammar.specs.Escapes.{piece};
 ghost use Rattle.ion_grammar.specs.Texts.{before, lex_quoted, lex_segment, lex_string, lex_text, long, may_stand, pieces, short, text_token};
 ghost use Rattle.ion_tokens.specs.Pieces.{piece_of};
-ghost use Rattle.ion_tokens.specs.Quotes.{escape_of, front_of, is_plain, marks_of, token_of};
+ghost use Rattle.ion_tokens.specs.Quotes.{escape_of, front_of, is_inner, is_plain, mark_of, marks_of, token_of};
 
 use crate::escapes::{Given, Piece, behind, clob_escape, put, text_escape};
 use ion_grammar::{Lexed, Token};
 use ion_values::{IonKind, OutOfMemory, Text};
 use lists::Bytes;
 use std::alloc::Global;
+use std::str;
 
 /// The quotes round a text. A text between three quotes is long, the others are short.
 #[derive(Clone, Copy)]
@@ -57,7 +58,66 @@ pub fn lex_segment(alloc: Global, bytes: &[u8]) -> Result<Lexed, OutOfMemory>
 }
 
 fn lex_text(alloc: Global, quotes: Quotes, bytes: &[u8]) -> Result<Lexed, OutOfMemory>
-    ensures value { IfOk result (λ l. l ≡ lex_text (marks_of quotes) (front_of quotes Content.Text) (token_of quotes) bytes.now) }
+    ensures value { IfOk result (λ l. l ≡ lex_text (marks_of quotes) (front_of quotes Content.Text)
+        (token_of quotes) bytes.now) }
+    ensures within { IfOk result (λ l. span_of l ≤ length bytes.now) }
+{
+    let width = width(quotes);
+    let rest = behind(bytes, width);
+    let len = inner_len(quotes, rest);
+    let (text, others) = rest.split_at(len);
+    if !closes(quotes, others) {
+        return lex_pieces(alloc, quotes, bytes);
+    }
+    let lexed = plain_token(alloc, quotes, len + (2 * width - 1), text)?;
+    Ok(lexed)
+}
+
+/// How many bytes in front give themselves and begin no closing quotes.
+fn inner_len(quotes: Quotes, bytes: &[u8]) -> usize
+    ensures value { result ≡ prefix_len (is_inner quotes) bytes.now }
+    ensures within { result ≤ length bytes.now }
+{
+    bytes.iter().take_while(|b| is_inner(quotes, **b)).count()
+}
+
+fn is_inner(quotes: Quotes, byte: u8) -> bool
+    ensures { result ≡ is_inner quotes byte }
+{
+    is_plain(quotes, byte) && byte != mark(quotes)
+}
+
+fn mark(quotes: Quotes) -> u8
+    ensures { result ≡ mark_of quotes }
+{
+    match quotes {
+        Quotes::Double => b'"',
+        Quotes::Single | Quotes::Triple => b'\'',
+    }
+}
+
+/// The token of a text without escapes.
+fn plain_token(
+    alloc: Global,
+    quotes: Quotes,
+    more: usize,
+    text: &[u8],
+) -> Result<Lexed, OutOfMemory>
+    ensures { IfOk result (λ l. l ≡ text_token (token_of quotes) more (Some text.now)) }
+{
+    match str::from_utf8(text) {
+        Ok(text) => {
+            let text = Text::from_text(alloc, text)?;
+            Ok(Lexed::Token(token_of(quotes, text), more))
+        }
+        Err(_) => Ok(Lexed::Refused(IonKind::BadToken)),
+    }
+}
+
+/// A text between such quotes in front, which is read piece by piece.
+fn lex_pieces(alloc: Global, quotes: Quotes, bytes: &[u8]) -> Result<Lexed, OutOfMemory>
+    ensures value { IfOk result (λ l. l ≡ lex_text (marks_of quotes) (front_of quotes Content.Text)
+        (token_of quotes) bytes.now) }
     ensures within { IfOk result (λ l. span_of l ≤ length bytes.now) }
 {
     let width = width(quotes);

@@ -194,7 +194,10 @@ fn operator_chars(bytes: &[u8]) -> usize
 pub fn is_operator(b: u8) -> bool
     ensures { result ≡ is_operator b }
 {
-    b"!#%&*+-./;<=>?@^`|~".contains(&b)
+    matches!(
+        b,
+        b'!' | b'#' | b'%' | b'&' | b'*'..=b'+' | b'-'..=b'/' | b';'..=b'@' | b'^' | b'`' | b'|' | b'~'
+    )
 }
 
 /// Whether a sign and `inf` stand in front, with a stop or nothing behind them.

@@ -101,6 +101,15 @@ pub fn settle_before(alloc: Global, frame: &mut Frame, token: &Token) -> Result<
 pub fn settle(alloc: Global, frame: &mut Frame) -> Result<(), OutOfMemory>
     ensures { OnOk result (frame.new ≡ table.settled frame.old) }
 {
+    match frame.last {
+        Last::Symbol { .. } | Last::LongString(_) => settle_last(alloc, frame),
+        _ => Ok(()),
+    }
+}
+
+fn settle_last(alloc: Global, frame: &mut Frame) -> Result<(), OutOfMemory>
+    ensures { OnOk result (frame.new ≡ table.settled frame.old) }
+{
     match mem::replace(&mut frame.last, Last::Value) {
         Last::Symbol { text, quoted } => settle_symbol(alloc, frame, text, quoted)?,
         Last::LongString(text) => put(alloc, frame, Body::String(text))?,

@@ -61,7 +61,8 @@ impl Reader {
 
     /// Takes one token more, where what was read last is a value unless the token belongs to it.
     fn put_token(&mut self, alloc: Global, depth: u32, token: Token) -> Result<(), Refused>
-        ensures { Takes (open_of self.new) result (table.put depth token self.old.inner (reverse self.old.outer.items)) }
+        ensures { Takes (open_of self.new) result (table.put depth token self.old.inner
+            (reverse self.old.outer.items)) }
     {
         match token {
             Token::Scalar(scalar) => self.add(alloc, body_of(scalar)),
@@ -94,7 +95,8 @@ impl Reader {
 
     /// Takes a symbol, which is a name in a struct, and else may become an annotation or a value.
     fn symbol(&mut self, text: Text, quoted: bool) -> Result<(), Refused>
-        ensures { Takes (open_of self.new) result (table.symbol text quoted self.old.inner (reverse self.old.outer.items)) }
+        ensures { Takes (open_of self.new) result (table.symbol text quoted self.old.inner
+            (reverse self.old.outer.items)) }
     {
         if may_name(&self.inner) {
             self.inner.name = text;
@@ -110,7 +112,8 @@ impl Reader {
 
     /// Takes an operator, which is a symbol in a sexp.
     fn operator(&mut self, text: Text) -> Result<(), Refused>
-        ensures { Takes (open_of self.new) result (table.operator text self.old.inner.members self.old.inner (reverse self.old.outer.items)) }
+        ensures { Takes (open_of self.new) result (table.operator text self.old.inner.members self.old.inner
+            (reverse self.old.outer.items)) }
     {
         match self.inner.members {
             Members::Sexp(_) => self.symbol(text, false),
@@ -133,7 +136,8 @@ impl Reader {
 
     /// Takes a segment of a long string, which joins those before it.
     fn segment(&mut self, more: Text) -> Result<(), Refused>
-        ensures { Takes (open_of self.new) result (table.segment more self.old.inner.last self.old.inner (reverse self.old.outer.items)) }
+        ensures { Takes (open_of self.new) result (table.segment more self.old.inner.last self.old.inner
+            (reverse self.old.outer.items)) }
     {
         match &mut self.inner.last {
             Last::LongString(text) => {
@@ -150,7 +154,8 @@ impl Reader {
 
     /// Takes the first segment of a name or a value.
     fn first_segment(&mut self, text: Text) -> Result<(), Refused>
-        ensures { Takes (open_of self.new) result (table.first_segment text self.old.inner (reverse self.old.outer.items)) }
+        ensures { Takes (open_of self.new) result (table.first_segment text self.old.inner
+            (reverse self.old.outer.items)) }
     {
         if may_name(&self.inner) {
             self.inner.name = text;
@@ -166,7 +171,8 @@ impl Reader {
 
     /// Opens a struct in the innermost container.
     fn begin_struct(&mut self, alloc: Global, depth: u32) -> Result<(), Refused>
-        ensures { Takes (open_of self.new) result (table.begin_struct depth self.old.inner (reverse self.old.outer.items)) }
+        ensures { Takes (open_of self.new) result (table.begin_struct depth self.old.inner
+            (reverse self.old.outer.items)) }
     {
         if is_symbol_table(&self.inner) {
             return Err(Refused::Kind(IonKind::SymbolIdRefused));
@@ -177,7 +183,8 @@ impl Reader {
 
     /// Opens a container in the innermost one.
     fn begin(&mut self, alloc: Global, depth: u32, members: Members) -> Result<(), Refused>
-        ensures { Takes (open_of self.new) result (table.begin depth members self.old.inner (reverse self.old.outer.items)) }
+        ensures { Takes (open_of self.new) result (table.begin depth members self.old.inner
+            (reverse self.old.outer.items)) }
     {
         if depth as usize <= self.outer.len() {
             return Err(Refused::Kind(IonKind::TooDeep));
@@ -194,7 +201,8 @@ impl Reader {
 
     /// Ends the innermost container as a list.
     fn close_list(&mut self, alloc: Global) -> Result<(), Refused>
-        ensures { Takes (open_of self.new) result (table.close table.list_of self.old.inner (reverse self.old.outer.items)) }
+        ensures { Takes (open_of self.new) result (table.close table.list_of self.old.inner
+            (reverse self.old.outer.items)) }
     {
         match self.leave() {
             Some(Members::List(values)) => {
@@ -207,7 +215,8 @@ impl Reader {
 
     /// Ends the innermost container as a sexp.
     fn close_sexp(&mut self, alloc: Global) -> Result<(), Refused>
-        ensures { Takes (open_of self.new) result (table.close table.sexp_of self.old.inner (reverse self.old.outer.items)) }
+        ensures { Takes (open_of self.new) result (table.close table.sexp_of self.old.inner
+            (reverse self.old.outer.items)) }
     {
         match self.leave() {
             Some(Members::Sexp(values)) => {
@@ -220,7 +229,8 @@ impl Reader {
 
     /// Ends the innermost container as a struct.
     fn close_struct(&mut self, alloc: Global) -> Result<(), Refused>
-        ensures { Takes (open_of self.new) result (table.close table.struct_of self.old.inner (reverse self.old.outer.items)) }
+        ensures { Takes (open_of self.new) result (table.close table.struct_of self.old.inner
+            (reverse self.old.outer.items)) }
     {
         match self.leave() {
             Some(Members::Struct(fields)) => {
@@ -245,7 +255,8 @@ impl Reader {
 
     /// Takes the colon behind a name.
     fn colon(&mut self) -> Result<(), Refused>
-        ensures { Takes (open_of self.new) result (table.colon self.old.inner.last self.old.inner (reverse self.old.outer.items)) }
+        ensures { Takes (open_of self.new) result (table.colon self.old.inner.last self.old.inner
+            (reverse self.old.outer.items)) }
     {
         match self.inner.last {
             Last::Name | Last::LongName => {
@@ -269,7 +280,8 @@ impl Reader {
 
     /// Makes an annotation of the symbol that was read last.
     fn annotate(&mut self) -> Result<(), Refused>
-        ensures { Takes (open_of self.new) result (table.annotate self.old.inner.last self.old.inner (reverse self.old.outer.items)) }
+        ensures { Takes (open_of self.new) result (table.annotate self.old.inner.last self.old.inner
+            (reverse self.old.outer.items)) }
     {
         match mem::replace(&mut self.inner.last, Last::Annotation) {
             Last::Symbol { text, quoted } => {

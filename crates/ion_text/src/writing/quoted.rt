@@ -1,8 +1,9 @@
 //! Texts between quotes, symbols and clobs.
 ghost use Rattle.std.specs.Prelude.{◌≡◌, ◌++◌, ◌∷◌, [], ◌<◌, ◌≤◌, encode_utf8, OnOk};
 ghost use Rattle.std.specs.Char.{digit_char};
-ghost use Rattle.std.specs.List.{flat_map, list_all};
-ghost use Rattle.ion_forms.specs.Quoted.{begins_name, clob_escape, clob_text, continues_name, escape, hex_escape, is_bare, is_identifier, is_keyword, quoted, string_text, symbol_text};
+ghost use Rattle.std.specs.List.{flat_map, list_all, list_any};
+ghost use Rattle.ion_forms.specs.Quoted.{begins_name, clob_escape, clob_text, continues_name, escape, hex_escape, is_bare, is_control, is_identifier, is_keyword, quoted, string_text, symbol_text};
+ghost use Rattle.ion_text.specs.Escapes.{has_escape};
 
 use lists::{OutOfMemory, Text};
 
@@ -46,7 +47,7 @@ fn put_escaped_ascii(out: &mut Text, quote: u8, byte: u8) -> Result<(), OutOfMem
         b'\n' => out.push_str("\\n"),
         b'\r' => out.push_str("\\r"),
         b'\t' => out.push_str("\\t"),
-        _ if byte < 32 || byte == 127 => put_hex(out, byte),
+        _ if is_control(byte) => put_hex(out, byte),
         _ => put_ascii(out, byte),
     }
 }
@@ -63,14 +64,52 @@ fn put_escaped(out: &mut Text, quote: u8, character: char) -> Result<(), OutOfMe
     }
 }
 
+fn put_each(out: &mut Text, quote: u8, text: &str) -> Result<(), OutOfMemory>
+    requires { quote < 128 }
+    ensures { OnOk result (out.new ≡ out.old ++ flat_map (escape quote) text.now) }
+{
+    for character in text.chars() {
+        put_escaped(out, quote, character)?;
+    }
+    Ok(())
+}
+
+fn is_control(byte: u8) -> bool
+    ensures { result ≡ is_control byte }
+{
+    byte < 32 || byte == 127
+}
+
+fn has_escape(quote: u8, byte: u8) -> bool
+    ensures { result ≡ has_escape quote byte }
+{
+    byte == quote || byte == b'\\' || is_control(byte)
+}
+
+fn have_escapes(quote: u8, bytes: &[u8]) -> bool
+    ensures { result ≡ list_any (has_escape quote) bytes.now }
+{
+    bytes.iter().any(|byte| has_escape(quote, *byte))
+}
+
+// What stands between the quotes, at once where no byte of it is escaped.
+fn put_inner(out: &mut Text, quote: u8, text: &str) -> Result<(), OutOfMemory>
+    requires { quote < 128 }
+    ensures { OnOk result (out.new ≡ out.old ++ flat_map (escape quote) text.now) }
+{
+    if have_escapes(quote, text.as_bytes()) {
+        put_each(out, quote, text)
+    } else {
+        out.push_str(text)
+    }
+}
+
 fn put_quoted(out: &mut Text, quote: u8, text: &str) -> Result<(), OutOfMemory>
     requires { quote < 128 }
     ensures { OnOk result (out.new ≡ out.old ++ quoted quote text.now) }
 {
     put_ascii(out, quote)?;
-    for character in text.chars() {
-        put_escaped(out, quote, character)?;
-    }
+    put_inner(out, quote, text)?;
     put_ascii(out, quote)
 }
 

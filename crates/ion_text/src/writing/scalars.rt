@@ -6,6 +6,7 @@ ghost use Rattle.ion_forms.specs.Write.{base64_digits, blob_text, bool_text, dec
 
 use base64::engine::general_purpose::STANDARD;
 use ion_values::{Decimal, Kind};
+use itoa::Buffer;
 use lists::{OutOfMemory, Text};
 use std::alloc::Global;
 
@@ -37,24 +38,24 @@ pub fn put_bool(out: &mut Text, truth: bool) -> Result<(), OutOfMemory>
 }
 
 /// Puts an int in decimal.
-pub fn put_int(alloc: Global, out: &mut Text, number: i128) -> Result<(), OutOfMemory>
+pub fn put_int(out: &mut Text, number: i128) -> Result<(), OutOfMemory>
     ensures { OnOk result (out.new ≡ out.old ++ signed_decimal number) }
 {
-    let digits = number.to_string(alloc)?;
-    out.push_str(digits.as_str())
+    let mut buffer = Buffer::new();
+    out.push_str(buffer.format(number))
 }
 
 /// Puts the text of a decimal.
-pub fn put_decimal(alloc: Global, out: &mut Text, number: &Decimal) -> Result<(), OutOfMemory>
+pub fn put_decimal(out: &mut Text, number: &Decimal) -> Result<(), OutOfMemory>
     ensures { OnOk result (out.new ≡ out.old ++ decimal_text number.now) }
 {
     if number.negative_zero {
         out.push_str("-0")?;
     } else {
-        put_int(alloc, out, number.coefficient)?;
+        put_int(out, number.coefficient)?;
     }
     out.push_str("d")?;
-    put_int(alloc, out, number.exponent as i128)
+    put_int(out, number.exponent as i128)
 }
 
 fn base64_of(alloc: Global, bytes: &[u8]) -> Result<String, OutOfMemory>

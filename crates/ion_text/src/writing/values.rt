@@ -44,27 +44,27 @@ fn put_body(alloc: Global, out: &mut Text, body: &Body) -> Result<(), OutOfMemor
     match body {
         Body::Null(kind) => put_null(out, *kind),
         Body::Bool(truth) => put_bool(out, *truth),
-        Body::Int(number) => put_int(alloc, out, *number),
-        Body::Decimal(number) => put_decimal(alloc, out, number),
+        Body::Int(number) => put_int(out, *number),
+        Body::Decimal(number) => put_decimal(out, number),
         Body::Timestamp(time) => put_timestamp(out, time),
         Body::Symbol(text) => put_symbol(out, text.as_str()),
         Body::String(text) => put_string(out, text.as_str()),
         Body::Clob(bytes) => put_clob(out, bytes.as_slice()),
         Body::Blob(bytes) => put_blob(alloc, out, bytes.as_slice()),
         Body::List(values) => {
-            out.push_str("[")?;
+            put_ascii(out, b'[')?;
             put_values(alloc, out, b',', values.as_slice())?;
-            out.push_str("]")
+            put_ascii(out, b']')
         }
         Body::Sexp(values) => {
-            out.push_str("(")?;
+            put_ascii(out, b'(')?;
             put_values(alloc, out, b' ', values.as_slice())?;
-            out.push_str(")")
+            put_ascii(out, b')')
         }
         Body::Struct(fields) => {
-            out.push_str("{")?;
+            put_ascii(out, b'{')?;
             put_fields(alloc, out, fields.as_slice())?;
-            out.push_str("}")
+            put_ascii(out, b'}')
         }
     }
 }
@@ -95,7 +95,7 @@ fn put_field(alloc: Global, out: &mut Text, field: &Field) -> Result<(), OutOfMe
     ensures { OnOk result (out.new ≡ out.old ++ field_text field.now) }
 {
     put_symbol(out, field.name.as_str())?;
-    out.push_str(":")?;
+    put_ascii(out, b':')?;
     put_value(alloc, out, &field.value)
 }
 
@@ -108,7 +108,7 @@ fn put_fields(alloc: Global, out: &mut Text, fields: &[Field]) -> Result<(), Out
     };
     put_field(alloc, out, first)?;
     for field in more {
-        out.push_str(",")?;
+        put_ascii(out, b',')?;
         put_field(alloc, out, field)?;
     }
     Ok(())

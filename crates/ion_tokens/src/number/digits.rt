@@ -58,7 +58,8 @@ pub fn number_of(base: u32, minus: bool, text: &[u8]) -> Option<i128>
 pub fn magnitude(base: u32, text: &[u8]) -> Option<u128>
     requires low { 2 ≤ base }
     requires high { base ≤ 36 }
-    ensures { SomeIff result (digits_value base (digits_in base text.now) < 2 ^ 128) (digits_value base (digits_in base text.now)) }
+    ensures { SomeIff result (digits_value base (digits_in base text.now) < 2 ^ 128)
+        (digits_value base (digits_in base text.now)) }
 {
     let mut number = 0u128;
     for b in text {

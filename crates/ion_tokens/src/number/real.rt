@@ -140,7 +140,8 @@ fn exponent_of(exponent: &[u8]) -> Option<i128>
 
 /// The number of a text of digits with a sign at will, or None outside 128 bits.
 fn signed_number(text: &[u8]) -> Option<i128>
-    ensures { let number = with_sign (starts_with_minus text.now) (digits_value 10 (digits_in 10 text.now)) in MatchOption result (IsWide number) (λ e. e ≡ number) }
+    ensures { let number = with_sign (starts_with_minus text.now) (digits_value 10 (digits_in 10 text.now)) in
+        MatchOption result (IsWide number) (λ e. e ≡ number) }
 {
     with_sign(starts_with_minus(text), magnitude(10, text)?)
 }

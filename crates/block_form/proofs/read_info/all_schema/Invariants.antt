@@ -6,4 +6,4 @@ use Rattle.block_form.proofs.read_info.all_schema.Given as goal
 
 -- what was read so far and what the rest gives is what all give
 abbrev pub invariant-changes : goal.invariant-changes
-invariant-changes l = behind l.schema (each schema_in (drop l.value-index l.values)) ≡ each schema_in l.values
+invariant-changes l = behind l.schema.items (each schema_in (drop l.value-index l.values)) ≡ each schema_in l.values

@@ -5,4 +5,4 @@ use Rattle.block_form.proofs.read_info.tables_of.Given as goal
 
 -- what was read so far and what the rest gives is what all give
 abbrev pub invariant-documents : goal.invariant-documents
-invariant-documents l = behind l.tables (tables_of (drop l.at l.values) (drop l.at l.revisions)) ≡ tables_of l.values l.revisions
+invariant-documents l = behind l.tables.items (tables_of (drop l.at l.values) (drop l.at l.revisions)) ≡ tables_of l.values l.revisions

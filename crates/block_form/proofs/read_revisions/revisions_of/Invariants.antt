@@ -6,4 +6,4 @@ use Rattle.block_form.proofs.read_revisions.revisions_of.Given as goal
 
 -- what was read so far and what the rest gives is what all give
 abbrev pub invariant-revisions : goal.invariant-revisions
-invariant-revisions l = behind l.revisions (each revision_in (drop l.value-index l.values)) ≡ each revision_in l.values
+invariant-revisions l = behind l.revisions.items (each revision_in (drop l.value-index l.values)) ≡ each revision_in l.values

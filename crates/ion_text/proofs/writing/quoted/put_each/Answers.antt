@@ -4,7 +4,7 @@ use Rattle.std.specs.Str.{encode_utf8_all}
 use Rattle.std.proofs.lemmas.Str.{encodes-append}
 use Rattle.std.proofs.lemmas.List.Concat.{flat_map-append}
 use Rattle.ion_forms.specs.Quoted.{escape}
-use Rattle.ion_text.proofs.writing.quoted.put_quoted.Goals as goal
+use Rattle.ion_text.proofs.writing.quoted.put_each.Goals as goal
 
 one_more : (f : ℕ → List ℕ) (start out new seen : List ℕ) (c : ℕ)
     → out ≡ start ++ flat_map f (encode_utf8_all seen)

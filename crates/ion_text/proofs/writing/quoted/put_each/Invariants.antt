@@ -2,7 +2,7 @@ use Rattle.std.proofs.Common.{◌≡◌, ◌++◌}
 use Rattle.std.specs.List.{flat_map}
 use Rattle.std.specs.Str.{encode_utf8_all}
 use Rattle.ion_forms.specs.Quoted.{escape}
-use Rattle.ion_text.proofs.writing.quoted.put_quoted.Given as goal
+use Rattle.ion_text.proofs.writing.quoted.put_each.Given as goal
 
 abbrev pub invariant-loop-character : goal.invariant-loop-character
 invariant-loop-character l = l.out ≡ l.initial.out ++ flat_map (escape l.quote) (encode_utf8_all l.yielded)
