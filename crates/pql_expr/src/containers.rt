@@ -4,6 +4,7 @@ ghost use Rattle.std.specs.Option.{option_copied};
 ghost use Rattle.pql_model.specs.Lists as spec;
 ghost use Rattle.pql_model.specs.Lists.{is_equal_to, is_null_answer};
 ghost use Rattle.pql_model.specs.Logic.{is_true, truth_in};
+ghost use Rattle.pql_model.specs.declared.scope.Evaluated.TheVariants.{Found};
 
 use crate::comparisons::are_equal;
 use crate::made::{answer, is_null, null, truth};
@@ -49,16 +50,23 @@ fn is_among(alloc: Global, x: &Evaluated, values: &[Value]) -> Evaluated
     }
 }
 
+/// IN with a value on the right side, which is MISSING where that is no list.
+pub fn is_in_value(alloc: Global, x: &Evaluated, list: &Value) -> Evaluated
+    ensures { result ≡ spec.is_in x.now (Found list.now) }
+{
+    match &list.body {
+        Body::List(values) => is_among(alloc, x, values.as_slice()),
+        _ => Evaluated::Missing,
+    }
+}
+
 /// IN, which is MISSING where the second is no list.
 pub fn is_in(alloc: Global, x: &Evaluated, list: &Evaluated) -> Evaluated
     ensures { result ≡ spec.is_in x.now list.now }
 {
-    let Evaluated::Found(list) = list else {
-        return Evaluated::Missing;
-    };
-    match &list.body {
-        Body::List(values) => is_among(alloc, x, values.as_slice()),
-        _ => Evaluated::Missing,
+    match list {
+        Evaluated::Missing => Evaluated::Missing,
+        Evaluated::Found(list) => is_in_value(alloc, x, list),
     }
 }
 

@@ -13,7 +13,7 @@ use crate::context::Context;
 use crate::made::{answer, is_unknown, null, truth};
 use crate::operators::{between, settled};
 use crate::paths::{Root, at_index, copied, id_value, root_of};
-use crate::words::{OneOperand, TwoOperands, with_one, with_two};
+use crate::words::{OneOperand, TwoOperands, with_lent, with_one, with_two, with_value};
 use ion_values::{Body, Field, Value, copy};
 use lists::{OutOfMemory, Sequence};
 use pql_model::{Evaluated, Expr, Member, Path, PathStep, Scope, field_of};
@@ -133,8 +133,16 @@ fn of_two(
 ) -> Result<Evaluated, OutOfMemory>
     ensures { IfOk result (λ answer. answer ≡ with_two word left (meaning right.now (context_of context.now))) }
 {
-    let right = eval_in(alloc, right, context)?;
-    with_two(alloc, word, &left, &right)
+    match right {
+        Expr::Value(v) => with_value(alloc, word, &left, v),
+        Expr::Parameter(number) => {
+            with_lent(alloc, word, &left, parameter(*number, context.params))
+        }
+        _ => {
+            let right = eval_in(alloc, right, context)?;
+            with_two(alloc, word, &left, &right)
+        }
+    }
 }
 
 #[cycle(eval)]
@@ -145,7 +153,8 @@ fn between_in(
     high: &Expr,
     context: &Context<'_>,
 ) -> Result<Evaluated, OutOfMemory>
-    ensures { IfOk result (λ answer. answer ≡ lists_spec.between value low (meaning high.now (context_of context.now))) }
+    ensures { IfOk result (λ answer. answer ≡ lists_spec.between value low
+        (meaning high.now (context_of context.now))) }
 {
     let high = eval_in(alloc, high, context)?;
     between(alloc, &value, &low, &high)
@@ -174,7 +183,8 @@ fn walked(
     from: &Value,
     context: &Context<'_>,
 ) -> Result<Evaluated, OutOfMemory>
-    ensures { IfOk result (λ answer. answer ≡ spec.walked (map meaning_of_step steps.now) (context_of context.now) (Found from.now)) }
+    ensures { IfOk result (λ answer. answer ≡ spec.walked (map meaning_of_step steps.now) (context_of context.now)
+        (Found from.now)) }
 {
     let mut at = from;
     'steps: for step in steps {
@@ -193,7 +203,8 @@ fn step_in<'a>(
     from: &'a Value,
     context: &Context<'_>,
 ) -> Result<Option<&'a Value>, OutOfMemory>
-    ensures { IfOk result (λ v. found (option_copied v) ≡ meaning_of_step step.now (context_of context.now) (Found from.now)) }
+    ensures { IfOk result (λ v. found (option_copied v) ≡ meaning_of_step step.now (context_of context.now)
+        (Found from.now)) }
 {
     match step {
         PathStep::Field(name) => Ok(field_of(name.as_str(), from)),
@@ -224,7 +235,8 @@ fn struct_in(
     members: &[Member],
     context: &Context<'_>,
 ) -> Result<Evaluated, OutOfMemory>
-    ensures { IfOk result (λ answer. answer ≡ lists_spec.struct_of (each (map meaning_of_member members.now) (context_of context.now))) }
+    ensures { IfOk result (λ answer. answer ≡ lists_spec.struct_of (each (map meaning_of_member members.now)
+        (context_of context.now))) }
 {
     let mut fields = Sequence::new(alloc);
     'members: for member in members {
@@ -241,7 +253,8 @@ fn struct_in(
 
 #[cycle(eval)]
 fn first_known(alloc: Global, es: &[Expr], context: &Context<'_>) -> Result<Evaluated, OutOfMemory>
-    ensures { IfOk result (λ answer. answer ≡ lists_spec.coalesce (each (map meaning es.now) (context_of context.now))) }
+    ensures { IfOk result (λ answer. answer ≡ lists_spec.coalesce
+        (each (map meaning es.now) (context_of context.now))) }
 {
     'members: for e in es {
         let found = eval_in(alloc, e, context)?;

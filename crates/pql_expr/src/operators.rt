@@ -5,6 +5,7 @@ ghost use Rattle.pql_model.specs.Lists as lists_spec;
 ghost use Rattle.pql_model.specs.Made.{truth as spec_truth};
 ghost use Rattle.pql_model.specs.Meaning as spec;
 ghost use Rattle.pql_model.specs.declared.scope.Evaluated.{Evaluated};
+ghost use Rattle.pql_model.specs.declared.scope.Evaluated.TheVariants.{Found};
 ghost use Rattle.pql_model.specs.Texts as texts_spec;
 
 use crate::arithmetic::{difference, product, quotient, remainder, sum};
@@ -38,6 +39,16 @@ fn of_values(alloc: Global, op: Operator, v: &Value, w: &Value) -> Result<Evalua
     }
 }
 
+// NULL where a side is null.
+fn of_found(alloc: Global, op: Operator, v: &Value, w: &Value) -> Result<Evaluated, OutOfMemory>
+    ensures { IfOk result (λ e. e ≡ of_both (spec.of_values op) (Found v.now) (Found w.now)) }
+{
+    if is_null(v) || is_null(w) {
+        return Ok(null(alloc));
+    }
+    of_values(alloc, op, v, w)
+}
+
 // MISSING where a side is MISSING, else NULL where one is null.
 fn of_known(
     alloc: Global,
@@ -50,10 +61,7 @@ fn of_known(
     let (Evaluated::Found(v), Evaluated::Found(w)) = (left, right) else {
         return Ok(Evaluated::Missing);
     };
-    if is_null(v) || is_null(w) {
-        return Ok(null(alloc));
-    }
-    of_values(alloc, op, v, w)
+    of_found(alloc, op, v, w)
 }
 
 /// What the operator gives by its left side alone: false in AND, true in OR.
@@ -83,6 +91,38 @@ pub fn operate(
     }
 }
 
+/// The same with a value on the right side.
+pub fn operate_with(
+    alloc: Global,
+    op: Operator,
+    left: &Evaluated,
+    w: &Value,
+) -> Result<Evaluated, OutOfMemory>
+    ensures { IfOk result (λ e. e ≡ spec.operate op left.now (Found w.now)) }
+{
+    match op {
+        Operator::Or => Ok(disjunction(alloc, truth_in(left), truth_of(w))),
+        Operator::And => Ok(conjunction(alloc, truth_in(left), truth_of(w))),
+        _ => match left {
+            Evaluated::Missing => Ok(Evaluated::Missing),
+            Evaluated::Found(v) => of_found(alloc, op, v, w),
+        },
+    }
+}
+
+/// LIKE with a value on the right side, NULL where a side is null.
+pub fn is_like_with(alloc: Global, value: &Evaluated, w: &Value) -> Result<Evaluated, OutOfMemory>
+    ensures { IfOk result (λ e. e ≡ of_both texts_spec.like value.now (Found w.now)) }
+{
+    let Evaluated::Found(v) = value else {
+        return Ok(Evaluated::Missing);
+    };
+    if is_null(v) || is_null(w) {
+        return Ok(null(alloc));
+    }
+    like(alloc, v, w)
+}
+
 /// LIKE.
 pub fn is_like(
     alloc: Global,
@@ -91,13 +131,10 @@ pub fn is_like(
 ) -> Result<Evaluated, OutOfMemory>
     ensures { IfOk result (λ e. e ≡ of_both texts_spec.like value.now pattern.now) }
 {
-    let (Evaluated::Found(v), Evaluated::Found(w)) = (value, pattern) else {
+    let (Evaluated::Found(_), Evaluated::Found(w)) = (value, pattern) else {
         return Ok(Evaluated::Missing);
     };
-    if is_null(v) || is_null(w) {
-        return Ok(null(alloc));
-    }
-    like(alloc, v, w)
+    is_like_with(alloc, value, w)
 }
 
 /// `x BETWEEN low AND high` is `x >= low AND x <= high`.

@@ -81,7 +81,8 @@ fn view_rows<T: Tables>(
 
 /// The rows that the name asks for: those of the table, or, behind the prefix, of its committed view.
 pub fn table_rows<T: Tables>(alloc: Global, tables: &T, name: &Text) -> Result<Rows, OutOfMemory>
-    ensures { IfOk result (λ rows. rows ≡ T.view_rows tables.now (spec.table_named name.now) (spec.view_named name.now)) }
+    ensures { IfOk result (λ rows. rows ≡ T.view_rows tables.now (spec.table_named name.now)
+        (spec.view_named name.now)) }
 {
     let table = table_named(alloc, name)?;
     view_rows(alloc, tables, &table, &view_named(name))
@@ -96,7 +97,8 @@ pub fn history_rows<T: Tables>(
     end: &Option<Expr>,
     params: &[Value],
 ) -> Result<Rows, OutOfMemory>
-    ensures { IfOk result (λ rows. rows ≡ T.view_rows tables.now table.now (view.History (from.bound_of params.now start.now) (from.bound_of params.now end.now))) }
+    ensures { IfOk result (λ rows. rows ≡ T.view_rows tables.now table.now
+        (view.History (from.bound_of params.now start.now) (from.bound_of params.now end.now))) }
 {
     let view = View::History {
         start: bound_of(alloc, start, params)?,

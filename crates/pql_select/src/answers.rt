@@ -16,39 +16,40 @@ use std::alloc::Global;
 
 /// What the SELECT answers of the rows, in their order: of `*` the fields of each source's value in
 /// one struct, of VALUE the value where it is not MISSING, and of items a struct of those that are
-/// not MISSING. Items that are all aggregates answer one struct over all rows.
+/// not MISSING. Items that are all aggregates answer one struct over all rows. The rows are used up: `*`
+/// moves their values.
 pub fn answer(
     alloc: Global,
     select: &Select,
-    rows: &Bindings,
+    rows: Bindings,
     params: &[Value],
 ) -> Result<Answer, OutOfMemory>
-    ensures { IfOk result (λ a. a.rows ≡ answered params.now rows.now select.now) }
+    ensures { IfOk result (λ a. a.rows ≡ answered params.now rows select.now) }
 {
-    let rows = answer_rows(alloc, select, rows.as_slice(), params)?;
+    let rows = answer_rows(alloc, select, rows, params)?;
     Ok(Answer { rows })
 }
 
 fn answer_rows(
     alloc: Global,
     select: &Select,
-    rows: &[Scope],
+    rows: Bindings,
     params: &[Value],
 ) -> Result<Values, OutOfMemory>
-    ensures { IfOk result (λ all. all ≡ answered params.now rows.now select.now) }
+    ensures { IfOk result (λ all. all ≡ answered params.now rows select.now) }
 {
     match select {
         Select::Star => structs_of_sources(alloc, rows),
-        Select::Value(e) => values(alloc, e, rows, params),
-        Select::Items(items) => structs(alloc, items.as_slice(), rows, params),
+        Select::Value(e) => values(alloc, e, rows.as_slice(), params),
+        Select::Items(items) => structs(alloc, items.as_slice(), rows.as_slice(), params),
     }
 }
 
-fn structs_of_sources(alloc: Global, rows: &[Scope]) -> Result<Values, OutOfMemory>
-    ensures { IfOk result (λ all. all ≡ map spec.starred rows.now) }
+fn structs_of_sources(alloc: Global, rows: Bindings) -> Result<Values, OutOfMemory>
+    ensures { IfOk result (λ all. all ≡ map spec.starred rows) }
 {
     let mut all = Sequence::new(alloc);
-    'rows: for scope in rows {
+    'rows: for scope in rows.into_vec() {
         all.push(starred(alloc, scope)?)?;
     }
     Ok(all)
@@ -100,7 +101,8 @@ fn structs_of_rows(
     rows: &[Scope],
     params: &[Value],
 ) -> Result<Values, OutOfMemory>
-    ensures { IfOk result (λ all. all ≡ map (λ scope. spec.struct_from (spec.in_row params.now scope) items.now) rows.now) }
+    ensures { IfOk result (λ all.
+        all ≡ map (λ scope. spec.struct_from (spec.in_row params.now scope) items.now) rows.now) }
 {
     let mut all = Sequence::new(alloc);
     'rows: for scope in rows {

@@ -44,7 +44,8 @@ fn put_item(
     item: &SelectItem,
     found: Evaluated,
 ) -> Result<(), OutOfMemory>
-    ensures { OnOk result (fields.new ≡ fields.old ++ field_in (spec.item_name place item.now.name item.now.value) found) }
+    ensures { OnOk result (fields.new ≡ fields.old
+        ++ field_in (spec.item_name place item.now.name item.now.value) found) }
 {
     match found {
         Evaluated::Missing => Ok(()),

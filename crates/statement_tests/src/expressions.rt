@@ -431,6 +431,9 @@ NEGATE [] is missing
 'abc' LIKE '%b%' is true
 'abc' LIKE '%d%' is false
 'abc' LIKE 'a%%c' is true
+'a' LIKE 'a%a' is false
+'aba' LIKE 'a%a' is true
+'ab' LIKE 'a_%b' is false
 'abc' LIKE '___' is true
 'abc' LIKE '__' is false
 'abc' LIKE '_%_' is true

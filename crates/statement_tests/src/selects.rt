@@ -73,7 +73,7 @@ fn bindings(alloc: Global, text: &str) -> Option<Bindings> {
 /// The rows that a SELECT answers, as they are written.
 fn answered(alloc: Global, select: &Select, rows: &str) -> Option<String> {
     let rows = bindings(alloc, rows)?;
-    let answer = answer(alloc, select, &rows, &[]).ok()?;
+    let answer = answer(alloc, select, rows, &[]).ok()?;
     written(alloc, answer.rows.as_slice())
 }
 

@@ -30,7 +30,9 @@ pub fn copied_rows(alloc: Global, rows: &Rows) -> Result<Rows, OutOfMemory>
 }
 
 fn seen(alloc: Global, shelf: &Shelf, table: &Text, view: &View) -> Result<Rows, OutOfMemory>
-    ensures { IfOk result (λ rows. rows ≡ (if bytes_eq table.now (codes "t") then (elim view.now [ User ↦ shelf.now.documents | Committed ↦ shelf.now.committed | History a b ↦ [] ]) else [])) }
+    ensures { IfOk result (λ rows.
+        rows ≡ (if bytes_eq table.now (codes "t") then
+        (elim view.now [ User ↦ shelf.now.documents | Committed ↦ shelf.now.committed | History a b ↦ [] ]) else [])) }
 {
     if table.as_str() != "t" {
         return Ok(Sequence::new(alloc));
