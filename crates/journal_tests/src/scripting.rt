@@ -10,7 +10,7 @@ fn read(alloc: Global, text: &str) -> Result<Result<Script, ScriptAnswer>, Fail>
         return Err(Fail::from("the text is long"));
     }
     match read_stream(alloc, text.as_bytes(), 80) {
-        Ok(values) => Ok(read_script(alloc, values.as_slice())),
+        Ok(values) => Ok(read_script(alloc, values)),
         Err(_) => Err(Fail::from("the text is no Ion")),
     }
 }

@@ -11,7 +11,7 @@ use crate::input::LONGEST;
 use crate::lines::BadInput;
 use crate::stop::Stop;
 use ion_text::{ReadFault, read_stream};
-use ion_values::Value;
+use ion_values::Values;
 use ledger_model::{Script, ScriptFault};
 use script_form::{ScriptAnswer, read_script};
 use std::alloc::Global;
@@ -20,9 +20,9 @@ use std::alloc::Global;
 pub const DEEPEST: u32 = 80;
 
 /// The script that the values of an input spell.
-fn judge_values(alloc: Global, values: &[Value]) -> Result<Script, Stop>
-    requires { All IsCountable values.now }
-    ensures judged { JudgesTo result (judged_script (read_script values.now)) }
+fn judge_values(alloc: Global, values: Values) -> Result<Script, Stop>
+    requires { All IsCountable values }
+    ensures judged { JudgesTo result (judged_script (read_script values)) }
     ensures numbered { IfOk result AreNumbered }
 {
     match read_script(alloc, values) {
@@ -51,7 +51,7 @@ pub fn judge(alloc: Global, input: &[u8]) -> Result<Script, Stop>
         return Err(Stop::BadInput(BadInput::TooLong));
     }
     match read_stream(alloc, input, DEEPEST) {
-        Ok(values) => judge_values(alloc, values.as_slice()),
+        Ok(values) => judge_values(alloc, values),
         Err(ReadFault::Ion(fault)) => Err(Stop::BadInput(BadInput::Faulty(fault))),
         Err(ReadFault::OutOfMemory) => Err(Stop::OutOfMemory),
     }

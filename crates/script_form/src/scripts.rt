@@ -6,12 +6,14 @@ ghost use Rattle.script_form.specs.Answers.{Gives, IsCountable, members_in};
 
 mod fields;
 mod jobs;
+mod parts;
 mod statements;
 
-use ion_values::{OutOfMemory, Value};
+use ion_values::{OutOfMemory, Value, Values};
 use jobs::{Stop, read_job};
-use ledger_model::{Job, Script, ScriptKind, Session, list_in};
+use ledger_model::{Job, Script, ScriptKind, Session};
 use lists::Sequence;
+use parts::into_list;
 use std::alloc::Global;
 
 /// Why no script is read.
@@ -43,29 +45,28 @@ const MOST_SESSIONS: usize = 1024;
 
 /// The script that the values of an input spell: a session is a list of transactions, and a transaction
 /// a struct of its statements, its retries, its digest and its end, of which all but the statements may
-/// be left out. `Fault` tells the first fault in script order; that there are more than 1,024 sessions
-/// is found behind the faults of these.
-pub fn read_script(alloc: Global, values: &[Value]) -> Result<Script, ScriptAnswer>
-    requires { All IsCountable values.now }
-    ensures { Gives result (read_script values.now) }
+/// be left out. Statements and parameters are moved out of the values. `Fault` tells the first fault in
+/// script order; that there are more than 1,024 sessions is found behind the faults of these.
+pub fn read_script(alloc: Global, values: Values) -> Result<Script, ScriptAnswer>
+    requires { All IsCountable values }
+    ensures { Gives result (read_script values) }
 {
+    let has_more = values.len() > MOST_SESSIONS;
     let script = read_sessions(alloc, served(values))?;
-    if values.len() > MOST_SESSIONS {
+    if has_more {
         return Err(fault_at(1025, 0, ScriptKind::TooManySessions));
     }
     Ok(script)
 }
 
 /// The first 1,024 values, which are read as sessions.
-fn served(values: &[Value]) -> &[Value]
-    ensures value { result.now ≡ take 1024 values.now }
-    ensures few { length result.now ≤ 1024 }
+fn served(values: Values) -> Values
+    ensures value { result ≡ take 1024 values }
+    ensures few { length result ≤ 1024 }
 {
-    if values.len() > MOST_SESSIONS {
-        &values[..MOST_SESSIONS]
-    } else {
-        values
-    }
+    let mut values = values.into_vec();
+    values.truncate(MOST_SESSIONS);
+    Sequence::from_vec(values)
 }
 
 fn fault_at(session: u32, transaction: u32, kind: ScriptKind) -> ScriptAnswer
@@ -79,39 +80,43 @@ fn fault_at(session: u32, transaction: u32, kind: ScriptKind) -> ScriptAnswer
 }
 
 /// The sessions that values spell, the first one being session 1.
-fn read_sessions(alloc: Global, values: &[Value]) -> Result<Script, ScriptAnswer>
-    requires few { length values.now < 2 ^ 32 }
-    requires countable { All IsCountable values.now }
-    ensures { Gives result (read_each read_session 1 values.now) }
+fn read_sessions(alloc: Global, values: Values) -> Result<Script, ScriptAnswer>
+    requires few { length values < 2 ^ 32 }
+    requires countable { All IsCountable values }
+    ensures { Gives result (read_each read_session 1 values) }
 {
     let mut script = Sequence::new(alloc);
-    'sessions: for (at, value) in values.iter().enumerate() {
-        let session = read_session(alloc, at as u32 + 1, value)?;
-        script.push(session)?;
+    let mut session: u32 = 0;
+    'sessions: for value in values.into_vec() {
+        session += 1;
+        let read = read_session(alloc, session, value)?;
+        script.push(read)?;
     }
     Ok(script)
 }
 
 /// The session that a value spells.
-fn read_session(alloc: Global, session: u32, value: &Value) -> Result<Session, ScriptAnswer>
-    requires { IsCountable value.now }
-    ensures { Gives result (read_session session value.now) }
+fn read_session(alloc: Global, session: u32, value: Value) -> Result<Session, ScriptAnswer>
+    requires { IsCountable value }
+    ensures { Gives result (read_session session value) }
 {
-    let Some(members) = list_in(value) else {
+    let Some(members) = into_list(value) else {
         return Err(fault_at(session, 0, ScriptKind::NotASession));
     };
-    let jobs = read_jobs(alloc, session, members.as_slice())?;
+    let jobs = read_jobs(alloc, session, members)?;
     Ok(jobs)
 }
 
 /// The transactions that the members of a session spell, the first one being transaction 1.
-fn read_jobs(alloc: Global, session: u32, members: &[Value]) -> Result<Session, ScriptAnswer>
-    requires { length members.now < 2 ^ 32 }
-    ensures { Gives result (read_each (read_placed session) 1 members.now) }
+fn read_jobs(alloc: Global, session: u32, members: Values) -> Result<Session, ScriptAnswer>
+    requires { length members < 2 ^ 32 }
+    ensures { Gives result (read_each (read_placed session) 1 members) }
 {
     let mut jobs = Sequence::new(alloc);
-    'jobs: for (at, member) in members.iter().enumerate() {
-        let job = read_placed(alloc, session, at as u32 + 1, member)?;
+    let mut transaction: u32 = 0;
+    'jobs: for member in members.into_vec() {
+        transaction += 1;
+        let job = read_placed(alloc, session, transaction, member)?;
         jobs.push(job)?;
     }
     Ok(jobs)
@@ -122,9 +127,9 @@ fn read_placed(
     alloc: Global,
     session: u32,
     transaction: u32,
-    value: &Value,
+    value: Value,
 ) -> Result<Job, ScriptAnswer>
-    ensures { Gives result (read_placed session transaction value.now) }
+    ensures { Gives result (read_placed session transaction value) }
 {
     match read_job(alloc, value) {
         Ok(job) => Ok(job),

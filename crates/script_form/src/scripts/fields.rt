@@ -7,7 +7,7 @@ ghost use Rattle.script_form.specs.Answers.{GivesKind};
 
 use super::jobs::Stop;
 use super::statements::statements_in;
-use ion_values::{Field, OutOfMemory, Value};
+use ion_values::{Field, Fields, OutOfMemory, Value};
 use ledger_model::{Asked, ScriptKind, blob_in, int_in, symbol_in};
 use ql_types::Hash32;
 use std::alloc::Global;
@@ -59,11 +59,23 @@ fn named<'a>(name: &str, fields: &'a [Field]) -> Option<&'a Value>
     None
 }
 
-/// The statements, which may not be left out.
-pub fn statements_said(alloc: Global, fields: &[Field]) -> Result<Asked, Stop>
-    ensures { GivesKind result (statements_said fields.now) }
+/// The value of the first field of that name, handed over.
+fn into_named(name: &str, fields: Fields) -> Option<Value>
+    ensures { result ≡ named name.now fields }
 {
-    let Some(value) = named("statements", fields) else {
+    'fields: for field in fields.into_vec() {
+        if field.name.as_str() == name {
+            return Some(field.value);
+        }
+    }
+    None
+}
+
+/// The statements, which may not be left out.
+pub fn statements_said(alloc: Global, fields: Fields) -> Result<Asked, Stop>
+    ensures { GivesKind result (statements_said fields) }
+{
+    let Some(value) = into_named("statements", fields) else {
         return Err(Stop::Kind(ScriptKind::MissingField));
     };
     match statements_in(alloc, value)? {

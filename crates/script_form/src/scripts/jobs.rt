@@ -4,8 +4,9 @@ ghost use Rattle.ledger_model.specs.ReadScript.{job_of_fields, job_said, read_jo
 ghost use Rattle.script_form.specs.Answers.{GivesKind};
 
 use super::fields::{abort_said, digest_said, has_unknown, repeats, retries_said, statements_said};
-use ion_values::{Field, OutOfMemory, Value};
-use ledger_model::{Job, ScriptKind, fields_in};
+use super::parts::into_fields;
+use ion_values::{Fields, OutOfMemory, Value};
+use ledger_model::{Job, ScriptKind};
 use std::alloc::Global;
 
 /// Why no transaction is read.
@@ -26,29 +27,29 @@ impl From<OutOfMemory> for Stop {
     }
 }
 
-/// What the fields say, one after another.
-fn job_said(alloc: Global, fields: &[Field]) -> Result<Job, Stop>
-    ensures { GivesKind result (job_said fields.now) }
+/// What the fields say, one after another. The statements are moved out of them.
+fn job_said(alloc: Global, fields: Fields) -> Result<Job, Stop>
+    ensures { GivesKind result (job_said fields) }
 {
+    let retries = retries_said(fields.as_slice());
+    let digest = digest_said(fields.as_slice());
+    let abort = abort_said(fields.as_slice());
     let statements = statements_said(alloc, fields)?;
-    let retries = retries_said(fields)?;
-    let digest = digest_said(fields)?;
-    let abort = abort_said(fields)?;
     Ok(Job {
         statements,
-        retries,
-        digest,
-        abort,
+        retries: retries?,
+        digest: digest?,
+        abort: abort?,
     })
 }
 
-fn job_of_fields(alloc: Global, fields: &[Field]) -> Result<Job, Stop>
-    ensures { GivesKind result (job_of_fields fields.now) }
+fn job_of_fields(alloc: Global, fields: Fields) -> Result<Job, Stop>
+    ensures { GivesKind result (job_of_fields fields) }
 {
-    if repeats(alloc, fields)? {
+    if repeats(alloc, fields.as_slice())? {
         return Err(Stop::Kind(ScriptKind::RepeatedField));
     }
-    if has_unknown(fields) {
+    if has_unknown(fields.as_slice()) {
         return Err(Stop::Kind(ScriptKind::UnknownField));
     }
     let job = job_said(alloc, fields)?;
@@ -56,12 +57,12 @@ fn job_of_fields(alloc: Global, fields: &[Field]) -> Result<Job, Stop>
 }
 
 /// The transaction that a value spells, or the first of the kinds of faults that it has.
-pub fn read_job(alloc: Global, value: &Value) -> Result<Job, Stop>
-    ensures { GivesKind result (read_job value.now) }
+pub fn read_job(alloc: Global, value: Value) -> Result<Job, Stop>
+    ensures { GivesKind result (read_job value) }
 {
-    let Some(fields) = fields_in(value) else {
+    let Some(fields) = into_fields(value) else {
         return Err(Stop::Kind(ScriptKind::NotATransaction));
     };
-    let job = job_of_fields(alloc, fields.as_slice())?;
+    let job = job_of_fields(alloc, fields)?;
     Ok(job)
 }

@@ -1,71 +1,68 @@
-//! Statements: a text, or a struct of a text and its parameters.
+//! Statements: a text, or a struct of a text and its parameters. Each is moved out of the value that spells it.
 ghost use Rattle.std.specs.Prelude.{◌≡◌, IfOk};
 ghost use Rattle.ledger_model.specs.Script.{each, in_fields, in_two, request_of};
 ghost use Rattle.ledger_model.specs.ReadScript.{statements_in};
 
-use ion_values::{Field, OutOfMemory, Value, copy_values};
-use ledger_model::{Asked, Request, fields_in, list_in, string_in};
+use super::parts::{into_list, into_string};
+use ion_values::{Body, Field, Fields, OutOfMemory, Value, Values};
+use ledger_model::{Asked, Request};
 use lists::Sequence;
 use std::alloc::Global;
 
 /// The statement of which `f` is the text and `g` the parameters.
-fn in_fields(alloc: Global, f: &Field, g: &Field) -> Result<Option<Request>, OutOfMemory>
-    ensures { IfOk result (λ request. request ≡ in_fields f.now g.now) }
+fn in_fields(f: Field, g: Field) -> Option<Request>
+    ensures { result ≡ in_fields f g }
 {
-    if f.name.as_str() != "text" {
-        return Ok(None);
+    if f.name.as_str() != "text" || g.name.as_str() != "params" {
+        return None;
     }
-    if g.name.as_str() != "params" {
-        return Ok(None);
-    }
-    let Some(text) = string_in(&f.value) else {
-        return Ok(None);
-    };
-    let Some(params) = list_in(&g.value) else {
-        return Ok(None);
-    };
-    Ok(Some(Request {
-        text: text.copy(alloc)?,
-        params: copy_values(alloc, params.as_slice())?,
-    }))
+    let text = into_string(f.value)?;
+    let params = into_list(g.value)?;
+    Some(Request { text, params })
 }
 
 /// The statement of two fields in either order.
-fn in_two(alloc: Global, fields: &[Field]) -> Result<Option<Request>, OutOfMemory>
-    ensures { IfOk result (λ request. request ≡ in_two fields.now) }
+fn in_two(fields: Fields) -> Option<Request>
+    ensures { result ≡ in_two fields }
 {
-    let [f, g] = fields else {
-        return Ok(None);
-    };
-    match in_fields(alloc, f, g)? {
-        Some(request) => Ok(Some(request)),
-        None => in_fields(alloc, g, f),
+    let mut fields = fields;
+    if fields.len() != 2 {
+        return None;
+    }
+    let g = fields.pop()?;
+    let f = fields.pop()?;
+    if f.name.as_str() == "text" {
+        in_fields(f, g)
+    } else {
+        in_fields(g, f)
     }
 }
 
 /// The statement that a value spells.
-fn request_of(alloc: Global, v: &Value) -> Result<Option<Request>, OutOfMemory>
-    ensures { IfOk result (λ request. request ≡ request_of v.now) }
+fn request_of(alloc: Global, v: Value) -> Option<Request>
+    ensures { result ≡ request_of v }
 {
-    if let Some(text) = string_in(v) {
-        return Ok(Some(Request {
-            text: text.copy(alloc)?,
-            params: Sequence::new(alloc),
-        }));
+    let Value { annotations, body } = v;
+    if !annotations.is_empty() {
+        return None;
     }
-    match fields_in(v) {
-        Some(fields) => in_two(alloc, fields.as_slice()),
-        None => Ok(None),
+    match body {
+        Body::String(text) => Some(Request {
+            text,
+            params: Sequence::new(alloc),
+        }),
+        Body::Struct(fields) => in_two(fields),
+        _ => None,
     }
 }
 
 /// The statements that values spell, if each spells one.
-fn all_requests(alloc: Global, values: &[Value]) -> Result<Option<Asked>, OutOfMemory>
-    ensures { IfOk result (λ asked. asked ≡ each request_of values.now) }
+fn all_requests(alloc: Global, values: Values) -> Result<Option<Asked>, OutOfMemory>
+    ensures { IfOk result (λ asked. asked ≡ each request_of values) }
 {
     let mut asked = Sequence::new(alloc);
-    'requests: for value in values {
-        match request_of(alloc, value)? {
+    'requests: for value in values.into_vec() {
+        match request_of(alloc, value) {
             Some(request) => asked.push(request)?,
             None => return Ok(None),
         }
@@ -74,11 +71,11 @@ fn all_requests(alloc: Global, values: &[Value]) -> Result<Option<Asked>, OutOfM
 }
 
 /// The statements that a list spells, if the value is one and each member spells a statement.
-pub fn statements_in(alloc: Global, v: &Value) -> Result<Option<Asked>, OutOfMemory>
-    ensures { IfOk result (λ asked. asked ≡ statements_in v.now) }
+pub fn statements_in(alloc: Global, v: Value) -> Result<Option<Asked>, OutOfMemory>
+    ensures { IfOk result (λ asked. asked ≡ statements_in v) }
 {
-    match list_in(v) {
-        Some(members) => all_requests(alloc, members.as_slice()),
+    match into_list(v) {
+        Some(members) => all_requests(alloc, members),
         None => Ok(None),
     }
 }

@@ -7,5 +7,5 @@ use Rattle.script_form.proofs.scripts.read_script.Goals as goal
 
 pub read_sessions-requires-clause-countable : goal.read_sessions-requires-clause-countable
 read_sessions-requires-clause-countable c =
-    let all = All-take IsCountable 1024 c.args.values.now c.requires in
+    let all = All-take IsCountable 1024 c.args.values c.requires in
     subst (λ (vs : List Value). All IsCountable vs) (sym c.served.ensures.value) all
