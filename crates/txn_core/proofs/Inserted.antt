@@ -1,6 +1,10 @@
 -- The documents of an insert, one after another.
 use Rattle.std.proofs.Common.{◌≡◌, ℕ, ◌+◌, ◌<◌, ◌≤◌, List, [], ◌∷◌, ◌++◌, length, get_or, drop, Option, Some, None, Result, Ok, Err, refl, sym, ◌∙◌, ap, subst, add_assoc, add-zero, append-nil, append_assoc, arith}
 use Rattle.std.proofs.lemmas.List.{drop_more, drop_all}
+use Rattle.ion_values.specs.declared.value.Body.{Body, out-Body, roll-Body, roll-out-Body}
+use Rattle.ion_values.specs.declared.value.Body.TheOpen.{Body-F}
+use Rattle.ion_values.specs.declared.value.Body.TheVariants as body
+use Rattle.ion_values.specs.declared.value.Field.{Field}
 use Rattle.ion_values.specs.declared.value.Value.{Value}
 use Rattle.pql_model.specs.declared.expr.Expr.{Expr}
 use Rattle.pql_model.specs.declared.scope.Bound.{Bound}
@@ -12,7 +16,7 @@ use Rattle.ledger_model.specs.Values.{named_id}
 use Rattle.ledger_model.specs.declared.block.Content.TheVariants.{Kept}
 use Rattle.ledger_model.specs.declared.block.Draft.{Draft}
 use Rattle.ledger_model.specs.declared.outcome.Refusal.{Refusal}
-use Rattle.ledger_model.specs.Run.{Progress, Effect, and_then, changed_by, documents_in, if_documents, inserted, new_document, next_id, not_stored, nothing, on_table, reserved, stored, table_now, unless}
+use Rattle.ledger_model.specs.Run.{Progress, Effect, and_then, changed_by, documents_in, if_documents, inserted, members_or, new_document, next_id, not_stored, nothing, on_table, reserved, stored, table_now, unless}
 use Rattle.txn_core.specs.declared.effect.Effect as held
 use Rattle.txn_core.specs.declared.stopped.Stopped.{Stopped}
 use Rattle.txn_core.specs.declared.stopped.Stopped.TheVariants.{Refused, OutOfMemory}
@@ -104,6 +108,39 @@ pub all-stored : (t : Opened) (table : TableId) (e : Effect) (vs : List Value) (
     → rest_of t table e (drop i vs) ≡ all → all ≡ Ok e
 all-stored t table e vs i all past left =
     sym left ∙ ap (rest_of t table e) (drop_all i vs past) ∙ ap (λ (x : Effect). Ok x) (nothing-last e)
+
+-- one document alone
+module _ (t : Opened) (table : TableId) (v : Value) (e : Effect) (empty : e ≡ nothing) where
+  alone : rest_of t table e (v ∷ []) ≡ stored t.begun table t.done (v ∷ [])
+  alone = none-stored t table (v ∷ []) e empty
+
+  pub one-alone : (now : Effect) → Stores t table v e (Ok tt) now → stored t.begun table t.done (v ∷ []) ≡ Ok now
+  one-alone now stores =
+      all-stored t table now (v ∷ []) 1 (stored t.begun table t.done (v ∷ [])) (omega arith)
+      (one-stored t table e (v ∷ []) 0 v (stored t.begun table t.done (v ∷ [])) (omega arith) refl alone now stores)
+
+  pub none-alone : (stopped : Stopped) (now : Effect) → Stores t table v e (Err stopped) now → StopsFor stopped (λ cause. stored t.begun table t.done (v ∷ []) ≡ Err cause)
+  none-alone stopped now stores =
+      not-stored t table e (v ∷ []) 0 v (stored t.begun table t.done (v ∷ [])) (omega arith) refl alone stopped now stores
+
+-- a value that is no list is one document
+alone_as : (v : Value) (b : Body-F Body Field Value) → ((x : List Value) → v.body ≡ body.List x → ⊥) → v.body ≡ roll-Body b → members_or v b ≡ v ∷ []
+unfolding roll-Body denote.Hole.Carrier.roll
+alone_as v (Body-F.List vs) other is = absurd (other vs is)
+alone_as v (Body-F.Null x) other is = refl
+alone_as v (Body-F.Bool x) other is = refl
+alone_as v (Body-F.Int x) other is = refl
+alone_as v (Body-F.Decimal x) other is = refl
+alone_as v (Body-F.Timestamp x) other is = refl
+alone_as v (Body-F.Symbol x) other is = refl
+alone_as v (Body-F.String x) other is = refl
+alone_as v (Body-F.Clob x) other is = refl
+alone_as v (Body-F.Blob x) other is = refl
+alone_as v (Body-F.Sexp x) other is = refl
+alone_as v (Body-F.Struct x) other is = refl
+
+pub alone_in : (v : Value) → ((x : List Value) → v.body ≡ body.List x → ⊥) → members_or v (out-Body v.body) ≡ v ∷ []
+alone_in v other = alone_as v (out-Body v.body) other (sym (roll-out-Body v.body))
 
 -- ---- one document
 

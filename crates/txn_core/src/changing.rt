@@ -21,8 +21,10 @@ use pql_model::{Bindings, Change, FromClause, Rows};
 use std::alloc::Global;
 
 impl Txn {
-    /// What changes the documents that the rows of the sources name. It stops with `ReservedName` of the first table in the text that
-    /// it writes and that is the ledger's own, with `NoSuchTable` of the first one that isn't active, and where what a document
+    /// What changes the documents that the rows of the sources name. It stops with `ReservedName` of the first table in
+    /// the text that
+    /// it writes and that is the ledger's own, with `NoSuchTable` of the first one that isn't active, and where what a
+    /// document
     /// becomes isn't stored.
     pub(crate) fn change(
         &self,
@@ -50,7 +52,8 @@ impl Txn {
         from: &FromClause,
         params: &[Value],
     ) -> Result<Bindings, Stopped>
-        ensures { Comes result (rows_seen (tables_now self.now.base self.now.done) self.now.base (latest (map draft_of self.now.base.revisions ++ self.now.done.log)) params.now from.now) }
+        ensures { Comes result (rows_seen (tables_now self.now.base self.now.done) self.now.base
+            (latest (map draft_of self.now.base.revisions ++ self.now.done.log)) params.now from.now) }
     {
         let tables = self.tables_now(alloc)?;
         if let Some(cause) = first_absent(alloc, tables.as_slice(), from.sources.as_slice())? {

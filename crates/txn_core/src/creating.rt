@@ -31,7 +31,8 @@ impl Txn {
 
     /// Why no table of this name is created, where none is.
     fn not_created(&self, alloc: Global, name: &Text) -> Result<Option<Refusal>, OutOfMemory>
-        ensures { IfOk result (λ cause. cause ≡ not_created (tables_now self.now.base self.now.done) self.now.done.schema name.now) }
+        ensures { IfOk result (λ cause.
+            cause ≡ not_created (tables_now self.now.base self.now.done) self.now.done.schema name.now) }
     {
         if let Some(cause) = reserved(alloc, name)? {
             return Ok(Some(cause));

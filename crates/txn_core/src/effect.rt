@@ -8,7 +8,8 @@ use ledger_model::{Drafts, Item, SchemaList};
 use lists::Sequence;
 use std::alloc::Global;
 
-/// What one statement does: its answer's rows, its changes of the schema, its revisions, how many ids it makes, and what it reads.
+/// What one statement does: its answer's rows, its changes of the schema, its revisions, how many ids it makes, and
+/// what it reads.
 #[derive(Drop)]
 pub(crate) struct Effect {
     pub rows: Values,

@@ -16,7 +16,8 @@ use pql_model::Statement;
 use std::alloc::Global;
 
 impl Txn {
-    /// Does one statement on the transaction's version and what its statements have done so far. After a refusal the transaction is
+    /// Does one statement on the transaction's version and what its statements have done so far. After a refusal the
+    /// transaction is
     /// ended; after `Ended`, which comes to every statement from then on, and after `OutOfMemory` it is as before.
     #[tactic(auto, using(crate::proofs::Effects::executed_ended, crate::proofs::Effects::executed_done, crate::proofs::Effects::executed_refused, crate::proofs::Effects::executed_wanting))]
     pub fn execute(
@@ -82,7 +83,8 @@ impl Txn {
         effect
     }
 
-    /// What the statement does with these parameters. It stops with `ParameterCount` where they are too few or too many, and with
+    /// What the statement does with these parameters. It stops with `ParameterCount` where they are too few or too
+    /// many, and with
     /// `TooDeep` where one of them is.
     fn effect_of(
         &self,

@@ -20,7 +20,8 @@ use versions::{Indexed, copy_indexes, has_index, index_all, index_count};
 const MOST_INDEXES: u64 = 5;
 
 impl Txn {
-    /// What makes an index on the field of the table of this name. It stops with `ReservedName` where the name is the ledger's own,
+    /// What makes an index on the field of the table of this name. It stops with `ReservedName` where the name is the
+    /// ledger's own,
     /// with `NoSuchTable` where no active table has it, with `IndexExists` where the field has an index, and with `TooManyIndexes`
     /// where the table has as many as it may have.
     pub(crate) fn create_index(
@@ -50,7 +51,8 @@ impl Txn {
         field: &Text,
         table: TableId,
     ) -> Result<Option<Refusal>, OutOfMemory>
-        ensures { IfOk result (λ cause. cause ≡ not_indexed (indexes_now self.now.base self.now.done) name.now field.now table) }
+        ensures { IfOk result (λ cause.
+            cause ≡ not_indexed (indexes_now self.now.base self.now.done) name.now field.now table) }
     {
         let indexes = self.indexes_now(alloc)?;
         if has_index(indexes.as_slice(), table, field.as_str()) {

@@ -1,5 +1,5 @@
 //! INSERT INTO a table.
-ghost use Rattle.std.specs.Prelude.{◌≡◌, ◌+◌, ◌<◌, ◌^◌, Ok, Err, MatchResult, OnOk};
+ghost use Rattle.std.specs.Prelude.{◌≡◌, ◌+◌, ◌<◌, ◌^◌, [], ◌∷◌, OnOk};
 ghost use Rattle.ion_values.specs.declared.value.Body.{out-Body};
 ghost use Rattle.ledger_model.specs.Run.{documents_in, if_documents, inserted, members_or, new_document, stored};
 ghost use Rattle.txn_core.specs.Effects.{both, effect_of};
@@ -11,14 +11,13 @@ use crate::effect::Effect;
 use crate::limits::{not_stored, reserved};
 use crate::stopped::Stopped;
 use crate::transaction::Txn;
-use ion_values::{Body, Kind, OutOfMemory, Text, Value, copy};
+use ion_values::{Body, Kind, OutOfMemory, Text, Value, Values};
 use ledger_model::{Content, Draft, Refusal};
 use lists::Sequence;
 use pql_expr::eval;
 use pql_model::{Evaluated, Expr};
 use ql_types::{DocId, TableId};
 use std::alloc::Global;
-use std::slice;
 
 impl Txn {
     /// What inserts what the expression means into the table of this name. It stops with `ReservedName` where the name is the
@@ -37,35 +36,50 @@ impl Txn {
         }
         let table = self.table_named(alloc, name)?;
         let found = eval(alloc, value, &Sequence::new(alloc), params)?;
-        self.insert_found(alloc, table, &found)
+        self.insert_found(alloc, table, found)
     }
 
-    /// What inserts what an expression means into the table of this id.
+    /// What inserts what an expression means into the table of this id. MISSING is no document.
     fn insert_found(
         &self,
         alloc: Global,
         table: TableId,
-        found: &Evaluated,
+        found: Evaluated,
     ) -> Result<Effect, Stopped>
-        ensures { Does result (if_documents (documents_in found.now) (stored self.now.begun table self.now.done)) }
+        ensures { Does result (if_documents (documents_in found) (stored self.now.begun table self.now.done)) }
     {
-        match documents_in(found) {
-            Ok(documents) => self.store_all(alloc, table, documents),
-            Err(cause) => Err(Stopped::Refused(cause)),
+        match found {
+            Evaluated::Missing => Err(Stopped::Refused(Refusal::NotADocument { kind: Kind::Null })),
+            Evaluated::Found(value) => self.store_members(alloc, table, value),
         }
     }
 
-    /// What stores the values as documents, one after another. It stops at the first one that isn't stored.
-    fn store_all(
-        &self,
-        alloc: Global,
-        table: TableId,
-        documents: &[Value],
-    ) -> Result<Effect, Stopped>
-        ensures { Does result (stored self.now.begun table self.now.done documents.now) }
+    /// What stores a list's elements, or the value alone.
+    fn store_members(&self, alloc: Global, table: TableId, value: Value) -> Result<Effect, Stopped>
+        ensures { Does result (stored self.now.begun table self.now.done (members_or value (out-Body value.body))) }
+    {
+        let Value { annotations, body } = value;
+        match body {
+            Body::List(values) => self.store_all(alloc, table, values),
+            body => self.store_one(alloc, table, Value { annotations, body }),
+        }
+    }
+
+    /// What stores the value as a document.
+    fn store_one(&self, alloc: Global, table: TableId, document: Value) -> Result<Effect, Stopped>
+        ensures { Does result (stored self.now.begun table self.now.done (document ∷ [])) }
     {
         let mut effect = Effect::new(alloc);
-        'documents: for document in documents {
+        self.store(alloc, table, document, &mut effect)?;
+        Ok(effect)
+    }
+
+    /// What stores the values as documents, one after another. It stops at the first one that isn't stored.
+    fn store_all(&self, alloc: Global, table: TableId, documents: Values) -> Result<Effect, Stopped>
+        ensures { Does result (stored self.now.begun table self.now.done documents) }
+    {
+        let mut effect = Effect::new(alloc);
+        'documents: for document in documents.into_vec() {
             self.store(alloc, table, document, &mut effect)?;
         }
         Ok(effect)
@@ -76,16 +90,16 @@ impl Txn {
         &self,
         alloc: Global,
         table: TableId,
-        value: &Value,
+        value: Value,
         effect: &mut Effect,
     ) -> Result<(), Stopped>
-        ensures { Stores self.now table value.now (effect_of effect.old) result (effect_of effect.new) }
+        ensures { Stores self.now table value (effect_of effect.old) result (effect_of effect.new) }
     {
         if let Some(cause) = not_stored(
             alloc,
             self.done.log.as_slice(),
             effect.log.as_slice(),
-            value,
+            &value,
         )? {
             return Err(Stopped::Refused(cause));
         }
@@ -101,38 +115,18 @@ fn add_document(
     effect: &mut Effect,
     raw: u128,
     table: TableId,
-    value: &Value,
+    value: Value,
 ) -> Result<(), OutOfMemory>
     requires { effect.old.made + 1 < 2 ^ 24 }
-    ensures { OnOk result (effect_of effect.new ≡ both (effect_of effect.old) (new_document raw table value.now)) }
+    ensures { OnOk result (effect_of effect.new ≡ both (effect_of effect.old) (new_document raw table value)) }
 {
     effect.rows.push(named_id(alloc, "documentId", raw)?)?;
     effect.log.push(Draft {
         table,
         id: DocId { raw },
         version: 0,
-        content: Content::Kept(copy(alloc, value)?),
+        content: Content::Kept(value),
     })?;
     effect.made += 1;
     Ok(())
-}
-
-/// The documents that a value inserts: a list's elements, or the value alone. MISSING is none.
-fn documents_in(found: &Evaluated) -> Result<&[Value], Refusal>
-    ensures { MatchResult result (λ vs. documents_in found.now ≡ Ok vs.now) (λ cause. documents_in found.now ≡ Err cause) }
-{
-    match found {
-        Evaluated::Missing => Err(Refusal::NotADocument { kind: Kind::Null }),
-        Evaluated::Found(value) => Ok(members_or(value)),
-    }
-}
-
-/// A list's elements, or the value alone.
-fn members_or(value: &Value) -> &[Value]
-    ensures { result.now ≡ members_or value.now (out-Body value.now.body) }
-{
-    match &value.body {
-        Body::List(values) => values.as_slice(),
-        _ => slice::from_ref(value),
-    }
 }

@@ -103,7 +103,8 @@ pub(crate) fn not_stored(
     not_kept(alloc, has_room, value)
 }
 
-/// Why the value isn't stored as a document's content, where it isn't: it is no struct, it nests too deep, its text is too
+/// Why the value isn't stored as a document's content, where it isn't: it is no struct, it nests too deep, its text is
+/// too
 /// long, or there is no room for one document more.
 pub(crate) fn not_kept(
     alloc: Global,

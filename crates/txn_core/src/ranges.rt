@@ -1,4 +1,5 @@
-//! That what a transaction keeps is within the ranges of its types, as every value of these types is. Nothing is done here
+//! That what a transaction keeps is within the ranges of its types, as every value of these types is. Nothing is done
+//! here
 //! but looking.
 ghost use Rattle.std.specs.Prelude.{IsTrue};
 ghost use Rattle.std.specs.List.{list_all};

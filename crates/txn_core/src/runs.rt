@@ -16,7 +16,8 @@ pub enum Ran {
     Refused { statement: u32, cause: Refusal },
 }
 
-/// Runs all statements of a transaction that has run none. `OutOfMemory` comes also where the transaction makes more than 2^24 - 1
+/// Runs all statements of a transaction that has run none. `OutOfMemory` comes also where the transaction makes more
+/// than 2^24 - 1
 /// tables and documents, or has more than 2^32 - 1 statements.
 pub fn run_statements(alloc: Global, txn: Txn, asked: &[Request]) -> Result<Ran, OutOfMemory>
     requires { txn.done ≡ start }

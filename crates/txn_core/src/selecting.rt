@@ -49,7 +49,7 @@ impl Txn {
             return Err(Stopped::Refused(cause));
         }
         let rows = self.rows_over(alloc, tables, from, params)?;
-        let Answer { rows } = answer(alloc, select, &rows, params)?;
+        let Answer { rows } = answer(alloc, select, rows, params)?;
         Ok(rows)
     }
 }

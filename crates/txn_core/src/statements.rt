@@ -27,7 +27,8 @@ pub(crate) fn read_statement(alloc: Global, text: &str) -> Result<Statement, Sto
 
 /// `ParameterCount` where the statement is given other than one parameter for each question mark.
 pub(crate) fn miscounted(statement: &Statement, params: &[Value]) -> Option<Refusal>
-    ensures { MatchOption result (counted statement.now params.now ≡ Ok statement.now) (λ cause. counted statement.now params.now ≡ Err cause) }
+    ensures { MatchOption result (counted statement.now params.now ≡ Ok statement.now) (λ cause.
+        counted statement.now params.now ≡ Err cause) }
 {
     let wanted = parameters(statement);
     if wanted as usize != params.len() {

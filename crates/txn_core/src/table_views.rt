@@ -51,7 +51,8 @@ impl<'a> TableViews<'a> {
         })
     }
 
-    /// The same, of the documents alone that pend or may meet one of the items, where these name documents or keys of indexes.
+    /// The same, of the documents alone that pend or may meet one of the items, where these name documents or keys of
+    /// indexes.
     pub(crate) fn read_by(
         alloc: Global,
         tables: Vec<Table>,
@@ -107,7 +108,8 @@ fn committed_rows(
     table: TableId,
     probe: &Probe,
 ) -> Result<Rows, OutOfMemory>
-    ensures { IfOk result (λ rows. rows ≡ meeting probe.now (rows_read read.now (committed_view table base.now.revisions))) }
+    ensures { IfOk result (λ rows.
+        rows ≡ meeting probe.now (rows_read read.now (committed_view table base.now.revisions))) }
 {
     match read {
         None => view_rows(alloc, base, table, &View::Committed, probe),

@@ -21,7 +21,8 @@ use ql_types::{DocId, TableId};
 use std::alloc::Global;
 use versions::{Recorded, Table, is_active};
 
-/// A document that the transaction has touched: its table, the version of its revision that pends, and whether that one has content.
+/// A document that the transaction has touched: its table, the version of its revision that pends, and whether that one
+/// has content.
 #[derive(Clone, Copy)]
 pub(crate) struct Mark {
     pub table: TableId,
@@ -32,7 +33,8 @@ pub(crate) struct Mark {
 /// Documents that the transaction has touched, by their ids, in order of first touch.
 pub(crate) type Marks = IndexMap<u128, Mark>;
 
-/// What a statement has done so far to documents, with the tables, and all documents that the transaction has touched by then.
+/// What a statement has done so far to documents, with the tables, and all documents that the transaction has touched
+/// by then.
 #[derive(Drop)]
 pub(crate) struct Touching {
     pub tables: Vec<Table>,
@@ -51,7 +53,8 @@ impl Touching {
     /// Adds the document's revision.
     fn add(&mut self, alloc: Global, draft: Draft) -> Result<(), OutOfMemory>
         ensures tables { OnOk result (self.new.tables ≡ self.old.tables) }
-        ensures marks { OnOk result (self.new.marks.entries ≡ insert_entry nat_eq self.old.marks.entries draft.id.raw (mark_of draft)) }
+        ensures marks { OnOk result (self.new.marks.entries ≡ insert_entry nat_eq self.old.marks.entries draft.id.raw
+            (mark_of draft)) }
         ensures effect { OnOk result (effect_of self.new.effect ≡ both (effect_of self.old.effect) (touch draft)) }
     {
         let row = named_id(alloc, "documentId", draft.id.raw)?;
@@ -137,7 +140,8 @@ impl Txn {
         content: Content,
     ) -> Result<Option<Draft>, OutOfMemory>
         requires { Stands self.now touching.now }
-        ensures { IfOk result (λ d. d ≡ revised self.now.base (so_far self.now (effect_of touching.now.effect)) id content) }
+        ensures { IfOk result (λ d.
+            d ≡ revised self.now.base (so_far self.now (effect_of touching.now.effect)) id content) }
     {
         let tables = touching.tables.as_slice();
         match touching.marks.get(&id.raw) {

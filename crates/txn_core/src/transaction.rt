@@ -55,7 +55,8 @@ impl Model for Txn {
     } };
 }
 
-/// What a transaction becomes a block of: its place in the script, its number under the mask, what was said and changed,
+/// What a transaction becomes a block of: its place in the script, its number under the mask, what was said and
+/// changed,
 /// and one revision for each document that was touched, with its final content, in order of first touch.
 #[derive(Drop)]
 pub struct Finished {
@@ -76,7 +77,14 @@ pub fn start_txn(
     number: u64,
     place: Place,
 ) -> Txn
-    ensures { result ≡ record { begun = record { mask = mask.bits; number = number }; place = place; base = base; since = since; done = start; ended = false } }
+    ensures { result ≡ record {
+      begun = record { mask = mask.bits; number = number };
+      place = place;
+      base = base;
+      since = since;
+      done = start;
+      ended = false;
+    } }
 {
     Txn {
         mask,
@@ -162,7 +170,8 @@ impl Txn {
         })
     }
 
-    /// The number of the next id behind so many more. `OutOfMemory` comes also where the transaction has made as many as
+    /// The number of the next id behind so many more. `OutOfMemory` comes also where the transaction has made as many
+    /// as
     /// it can.
     pub(crate) fn next_id(&self, more: u32) -> Result<u128, OutOfMemory>
         ensures id { IfOk result (λ raw. raw ≡ id_after self.now more) }
@@ -210,7 +219,8 @@ impl Txn {
     /// The table of this name, for a statement that changes its schema. It stops with `ReservedName` where the name is the ledger's
     /// own, and with `NoSuchTable` where no active table has it.
     pub(crate) fn table_changed(&self, alloc: Global, name: &Text) -> Result<TableId, Stopped>
-        ensures { Comes result (found_unless (reserved name.now) name.now (table_now self.now.base self.now.done name.now)) }
+        ensures { Comes result (found_unless (reserved name.now) name.now
+            (table_now self.now.base self.now.done name.now)) }
     {
         if let Some(cause) = reserved(alloc, name)? {
             return Err(Stopped::Refused(cause));

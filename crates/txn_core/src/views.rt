@@ -66,7 +66,8 @@ pub(crate) fn count_touched(
     Ok(documents.len())
 }
 
-/// The documents, each with its latest revision, in order of first insertion: those of the version under the pending revisions.
+/// The documents, each with its latest revision, in order of first insertion: those of the version under the pending
+/// revisions.
 /// It looks through the documents for each pending revision.
 #[tactic(auto, using(crate::proofs::Overlaid::latest_both))]
 pub(crate) fn latest_over<'a>(
