@@ -107,7 +107,8 @@ fn holds(alloc: Global, row: &str) -> Option<bool> {
     is_reloaded(alloc, store, blocks, next)
 }
 
-/// What a store holds, after how many calls one fails and what it keeps; the statements, one a transaction; and how they end, how
+/// What a store holds, after how many calls one fails and what it keeps; the statements, one a transaction; and how
+/// they end, how
 /// many blocks a reload of the settled store finds, a line each, and the next number.
 const ROWS: &str = "# each call fails in turn
 nothing 1 0 > CREATE TABLE t;SELECT * FROM t;SELECT * FROM t > SRR 0 1

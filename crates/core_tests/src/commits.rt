@@ -81,7 +81,8 @@ fn word(end: Result<Receipt, CommitFault>) -> &'static str {
     }
 }
 
-/// How the commit of one statement ends in an empty store of which the call after so many fails, with its own digest or one of
+/// How the commit of one statement ends in an empty store of which the call after so many fails, with its own digest or
+/// one of
 /// zeros.
 fn end_of(alloc: Global, passes: u64, text: &str, is_own: bool) -> Option<&'static str> {
     let mut tail = tail_of(alloc, store_of(alloc, "", passes, 0)?)?;

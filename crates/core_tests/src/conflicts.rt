@@ -13,7 +13,11 @@ use std::test::Fail;
 use txn_core::Txn;
 
 /// Makes a statement a transaction of its own.
-fn make(alloc: Global, tail: &mut Tail<MemoryStore, SetClock>, told: &str) -> Option<()> {
+pub(crate) fn make(
+    alloc: Global,
+    tail: &mut Tail<MemoryStore, SetClock>,
+    told: &str,
+) -> Option<()> {
     let mut txn = begun(alloc, tail)?;
     let digest = said(alloc, &mut txn, told)?;
     tail.commit(alloc, txn, digest).ok()?;
@@ -21,8 +25,8 @@ fn make(alloc: Global, tail: &mut Tail<MemoryStore, SetClock>, told: &str) -> Op
 }
 
 /// The tail behind these statements, each a transaction.
-fn tail_behind(alloc: Global, statements: &str) -> Option<Tail<MemoryStore, SetClock>> {
-    let mut tail = tail_of(alloc, store_of(alloc, "", 99, 0)?)?;
+pub(crate) fn tail_behind(alloc: Global, statements: &str) -> Option<Tail<MemoryStore, SetClock>> {
+    let mut tail = tail_of(alloc, store_of(alloc, "", 999, 0)?)?;
     for told in statements.split(';') {
         make(alloc, &mut tail, told)?;
     }
@@ -45,7 +49,8 @@ fn begin_two(alloc: Global, tail: &mut Tail<MemoryStore, SetClock>) -> Option<Tw
     Some(Two { first, second })
 }
 
-/// Asks a statement of each of two open transactions, commits the later one and then tells how the commit of the first one ends.
+/// Asks a statement of each of two open transactions, commits the later one and then tells how the commit of the first
+/// one ends.
 fn end_of_first(
     alloc: Global,
     tail: &mut Tail<MemoryStore, SetClock>,
@@ -92,7 +97,8 @@ fn end_text(alloc: Global, end: &Result<Receipt, CommitFault>) -> Option<String>
     }
 }
 
-/// The statements of four blocks, a text each and behind a bar its parameters; what the first transaction then reads, what the
+/// The statements of four blocks, a text each and behind a bar its parameters; what the first transaction then reads,
+/// what the
 /// second one writes, and how the commit of the first one ends.
 const ROWS: &str = "CREATE TABLE t;CREATE INDEX ON t (a);SELECT * FROM t;SELECT * FROM t > \
 SELECT * FROM t WHERE a = 5 > INSERT INTO t ?|{a:5} > since 4 block 4 a 5

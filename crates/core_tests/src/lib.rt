@@ -8,6 +8,8 @@ mod commits;
 #[cfg(test)]
 mod conflicts;
 #[cfg(test)]
+mod digests;
+#[cfg(test)]
 mod loads;
 #[cfg(test)]
 mod settles;

@@ -67,7 +67,8 @@ fn a_journal_is_loaded(rt: HostRuntime) -> Result<(), Fail> {
     Ok(())
 }
 
-/// Whether the load of a line fails by its store, whose call after so many fails, and gives the store and the clock back.
+/// Whether the load of a line fails by its store, whose call after so many fails, and gives the store and the clock
+/// back.
 fn fails(alloc: Global, passes: u64) -> Option<bool> {
     match Tail::reload(alloc, store_of(alloc, LINE, passes, 0)?, 7, MASK) {
         Ok(_) => None,

@@ -21,7 +21,8 @@ fn settled(alloc: Global, store: MemoryStore, times: u32, is_done: bool) -> Opti
     if ends_so { Some(store) } else { None }
 }
 
-/// The rest behind the line and after how many calls one fails and what it does; how often the store is settled and whether the last
+/// The rest behind the line and after how many calls one fails and what it does; how often the store is settled and
+/// whether the last
 /// time is done; and how many bytes the store has behind the line, and its failures.
 const ROWS: &str = "# the cut fails, undone and done, and then its sync
 rest 2 0 > 1 failed > 4 1

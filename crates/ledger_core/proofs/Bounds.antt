@@ -4,7 +4,7 @@ use Rattle.std.specs.Prelude.{nat_le, nat_lt, ◌==◌, IsTrue}
 use Rattle.std.proofs.lemmas.Bool.{and_from, and_parts, lt-ltb}
 use Rattle.ql_types.specs.declared.Place.{Place}
 use Rattle.ledger_model.specs.declared.block.Block.{Block}
-use Rattle.ledger_model.specs.Damages.{UndamagedBehind, strand_of}
+use Rattle.ledger_model.specs.Damages.{Undamaged, UndamagedBehind, strand_of}
 use Rattle.ledger_model.specs.Whole.{place_fits}
 use Rattle.made_blocks.proofs.Journals.{passes_all}
 use Rattle.ledger_claims.specs.Attempts.{Standing, IsStanding}
@@ -20,8 +20,11 @@ bound_behind (b ∷ bs) before u h =
     let rest = bound_behind bs (before ++ b ∷ []) u.2 (omega (arith, low, long)) in
     omega (arith, rest, long)
 
+pub undamaged_bound : (blocks : List Block) → Undamaged blocks → length blocks ≤ 2 ^ 32 - 1
+undamaged_bound blocks u = let h = bound_behind blocks [] u (omega arith) in omega (arith, h)
+
 pub bound : (s : Standing) → IsStanding s → length s.blocks ≤ 2 ^ 32 - 1
-bound s is = let h = bound_behind s.blocks [] is.undamaged (omega arith) in omega (arith, h)
+bound s is = undamaged_bound s.blocks is.undamaged
 
 pub place_within : (p : Place) → p.session < 2 ^ 32 → p.transaction < 2 ^ 32 → IsTrue (place_fits p)
 place_within p session transaction =

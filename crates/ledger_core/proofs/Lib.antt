@@ -7,6 +7,7 @@ pub mod Entering
 mod Joined
 mod Kept
 pub mod LastBlock
+mod Leaves
 pub mod Openings
 mod Read
 mod Standings

@@ -52,7 +52,8 @@ impl From<OutOfMemory> for Unkept {
 }
 
 impl<S: JournalStore, C> Tail<S, C> {
-    /// Puts the transaction's block behind the others, in the store first, and tells of it. After a fault the blocks are as before.
+    /// Puts the transaction's block behind the others, in the store first, and tells of it. After a fault the blocks
+    /// are as before.
     pub(crate) fn append_next(
         &mut self,
         alloc: Global,
@@ -60,7 +61,8 @@ impl<S: JournalStore, C> Tail<S, C> {
         time: IonTime,
     ) -> Result<Receipt, Unkept>
         requires { IsStanding (joined self.old.standing (next_block txn self.old.standing.blocks time)) }
-        ensures standing { OnOk result (self.new.standing ≡ joined self.old.standing (next_block txn self.old.standing.blocks time)) }
+        ensures standing { OnOk result (self.new.standing ≡ joined self.old.standing
+            (next_block txn self.old.standing.blocks time)) }
         ensures receipt { IfOk result (λ receipt. receipt ≡ receipt_of (next_block txn self.old.standing.blocks time)) }
         ensures same { OnErr result (self.new.standing ≡ self.old.standing) }
         ensures clock { self.new.clock ≡ self.old.clock }

@@ -98,7 +98,8 @@ impl<S: JournalStore, C: Clock> Tail<S, C> {
         ensures part { OnErr result (MayHoldPartOf self.old.standing txn (Some digest)
             (IsAnswer (C.answers self.old.clock) (C.answers self.new.clock) (C.always self.old.clock))
             (held (S.told self.old.store)) (held (S.told self.new.store))) }
-        ensures marked { OnErr result ((self.new ≡ record self.old { clock = self.new.clock }) ⊎ (self.new.marked ≡ true)) }
+        ensures marked { OnErr result ((self.new ≡ record self.old { clock = self.new.clock })
+            ⊎ (self.new.marked ≡ true)) }
         ensures fine { OnOk result ((S.told self.new.store).faults ≡ (S.told self.old.store).faults) }
         ensures fault { IfErr result (λ fault. IsCommitFault fault (S.told self.old.store) (S.told self.new.store)) }
     {
@@ -124,7 +125,8 @@ impl<S: JournalStore, C: Clock> Tail<S, C> {
         ensures part { OnErr result (MayHoldPartOf self.old.standing txn sent
             (IsAnswer (C.answers self.old.clock) (C.answers self.new.clock) (C.always self.old.clock))
             (held (S.told self.old.store)) (held (S.told self.new.store))) }
-        ensures marked { OnErr result ((self.new ≡ record self.old { clock = self.new.clock }) ⊎ (self.new.marked ≡ true)) }
+        ensures marked { OnErr result ((self.new ≡ record self.old { clock = self.new.clock })
+            ⊎ (self.new.marked ≡ true)) }
         ensures fine { OnOk result ((S.told self.new.store).faults ≡ (S.told self.old.store).faults) }
         ensures fault { IfErr result (λ fault. IsCommitFault fault (S.told self.old.store) (S.told self.new.store)) }
     {
@@ -160,7 +162,8 @@ impl<S: JournalStore, C: Clock> Tail<S, C> {
         ensures part { OnErr result (MayHoldPartOf self.old.standing txn sent
             (IsAnswer (C.answers self.old.clock) (C.answers self.new.clock) (C.always self.old.clock))
             (held (S.told self.old.store)) (held (S.told self.new.store))) }
-        ensures marked { OnErr result ((self.new ≡ record self.old { clock = self.new.clock }) ⊎ (self.new.marked ≡ true)) }
+        ensures marked { OnErr result ((self.new ≡ record self.old { clock = self.new.clock })
+            ⊎ (self.new.marked ≡ true)) }
         ensures fine { OnOk result ((S.told self.new.store).faults ≡ (S.told self.old.store).faults) }
         ensures fault { IfErr result (λ e. IsCommitFault e.fault (S.told self.old.store) (S.told self.new.store)) }
     {
@@ -183,7 +186,8 @@ impl<S: JournalStore, C: Clock> Tail<S, C> {
 
     /// The clock's time. The clock is asked once.
     fn time(&mut self) -> IonTime
-        ensures answer { IsAnswer (C.answers self.old.clock) (C.answers self.new.clock) (C.always self.old.clock) result }
+        ensures answer { IsAnswer (C.answers self.old.clock) (C.answers self.new.clock)
+            (C.always self.old.clock) result }
         ensures always { C.always self.new.clock ≡ C.always self.old.clock }
         ensures same { self.new ≡ record self.old { clock = self.new.clock } }
     {
@@ -244,7 +248,7 @@ impl<S: JournalStore, C> Tail<S, C> {
         ensures found { IfErr result (λ fault. IsFound self.now.standing txn.now sent fault) }
     {
         let since = txn.since();
-        match first_conflict(alloc, txn.footprint(), &self.blocks, since, &self.version)? {
+        match first_conflict(alloc, txn.footprint(), self.blocks(), since, &self.version)? {
             Some(named) => Err(CommitFault::Conflict { since, named }),
             None => Ok(()),
         }

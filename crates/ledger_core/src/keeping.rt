@@ -76,7 +76,8 @@ impl<S: JournalStore> Keeper<S> {
         ensures part { OnErr result ((held (S.told self.new.store) ≡ held (S.told self.old.store))
             ⊎ HoldsPart self.old.marked self.old.size line.now (held (S.told self.old.store))
             (held (S.told self.new.store))) }
-        ensures marked { IfErr result (λ fault. ((fault ≡ SettleFault.OutOfMemory) × (self.new ≡ self.old)) ⊎ (self.new.marked ≡ true)) }
+        ensures marked { IfErr result (λ fault. ((fault ≡ SettleFault.OutOfMemory) × (self.new ≡ self.old))
+            ⊎ (self.new.marked ≡ true)) }
         ensures later { (S.told self.old.store).faults ≤ (S.told self.new.store).faults }
         ensures fine { OnOk result ((S.told self.new.store).faults ≡ (S.told self.old.store).faults) }
         ensures fault { IfErr result (λ fault. IsSettleFault fault (S.told self.old.store) (S.told self.new.store)) }

@@ -4,6 +4,7 @@
 mod appending;
 mod attempt;
 mod begin;
+mod chain;
 mod commit;
 mod keeping;
 mod laws;

@@ -1,18 +1,20 @@
 //! The tail of what a store holds.
-ghost use Rattle.std.specs.Prelude.{◌≡◌, ◌<◌, ◌≤◌, ◌^◌, true, ℕ, IfOk, OnOk, IfErr, IfSome, IsErrOf};
+ghost use Rattle.std.specs.Prelude.{◌≡◌, ◌<◌, ◌≤◌, ◌^◌, ℕ, None, length, IfOk, OnOk, IfErr, IfSome};
 ghost use Rattle.ql_types.specs.Ids.{transaction_in};
-ghost use Rattle.outside.specs.Causes.{HasCause};
+ghost use Rattle.outside.specs.Store.{ReadsAt};
 ghost use Rattle.outside.specs.Told.{held};
-ghost use Rattle.journal_text.specs.Reading.{IsFault};
+ghost use Rattle.journal_text.specs.Feeding.{taken};
 ghost use Rattle.ledger_claims.specs.Attempts.{IsStanding};
 ghost use Rattle.ledger_claims.specs.Fits.{greatest, mask_of};
 ghost use Rattle.ledger_core.specs.Loads.{IsRead, IsLoaded, IsCause, cause_told};
 ghost use Rattle.ledger_core.specs.Known.{IsKnown, standing_of};
 
+use crate::chain::Chain;
 use crate::keeping::Keeper;
 use crate::tail::{Tail, version_of};
-use journal_text::{JournalFault, read_journal};
-use ledger_model::{Block, Blocks, Damage};
+use ion_values::OutOfMemory;
+use journal_text::{JournalFault, JournalReader};
+use ledger_model::{Block, Damage};
 use outside::{JournalStore, OutFault};
 use ql_types::{IdMask, id_parts};
 use std::alloc::Global;
@@ -46,6 +48,17 @@ impl From<JournalFault> for LoadCause {
     }
 }
 
+impl From<OutOfMemory> for LoadCause {
+    ghost use Rattle.std.specs.Prelude.{◌≡◌};
+    ghost use Rattle.ledger_core.specs.declared.reload.LoadCause.TheVariants as cause;
+
+    ghost from_gives = { λ _ e. e ≡ cause.OutOfMemory };
+
+    fn from(_error: OutOfMemory) -> LoadCause {
+        LoadCause::OutOfMemory
+    }
+}
+
 /// No journal was loaded. The store and the clock are given back.
 #[derive(Drop)]
 pub struct LoadFault<S, C> {
@@ -54,19 +67,27 @@ pub struct LoadFault<S, C> {
     pub clock: C,
 }
 
+/// What was read of a store, and how many bytes there were.
+#[derive(Drop)]
+struct Stored {
+    reader: JournalReader,
+    size: u64,
+}
+
 /// What a journal's bytes tell.
 #[derive(Drop)]
 struct Loaded {
     mask: IdMask,
     last: u64,
-    blocks: Blocks,
+    blocks: Chain,
     version: Versions,
     size: u64,
     marked: bool,
 }
 
 impl<S: JournalStore, C> Tail<S, C> {
-    /// The tail of the journal that the store holds, which is read to its end. A rest that is no whole line is left in place
+    /// The tail of the journal that the store holds, which is read to its end. A rest that is no whole line is left in
+    /// place
     /// and marked to be cut. The mask is what the first block's strand shows, or the given one where there is no block.
     /// `Damaged` comes at the first damaged line, and `StoreFault` only where the store failed.
     pub fn reload(
@@ -136,11 +157,8 @@ fn load<S: JournalStore>(alloc: Global, store: &mut S, mask: IdMask) -> Result<L
     ensures fine { OnOk result ((S.told store.new).faults ≡ (S.told store.old).faults) }
     ensures cause { IfErr result (λ cause. IsCause cause (S.told store.old) (S.told store.new)) }
 {
-    let bytes = match read_stored(alloc, store) {
-        Ok(bytes) => bytes,
-        Err(fault) => return Err(stopped(store, fault)),
-    };
-    Ok(loaded_of(alloc, &bytes, mask)?)
+    let stored = read_stored(alloc, store)?;
+    Ok(loaded_of(alloc, stored, mask)?)
 }
 
 /// The store's fault, with how often the store has failed.
@@ -155,35 +173,78 @@ fn stopped<S: JournalStore>(store: &S, fault: OutFault) -> LoadCause
     }
 }
 
-/// Reads the store up to the size that it tells, or to its end. Each turn takes at least one byte.
-fn read_stored<S: JournalStore>(alloc: Global, store: &mut S) -> Result<Vec<u8>, OutFault>
-    ensures read { IfOk result (λ all. IfSome (held (S.told store.old)) (λ held. all.items ≡ held)) }
+/// The size of the store.
+fn size_of<S: JournalStore>(store: &mut S) -> Result<u64, LoadCause>
+    ensures size { IfOk result (λ size. IfSome (held (S.told store.old)) (λ bytes. size ≡ length bytes)) }
     ensures content { (S.told store.new).content ≡ (S.told store.old).content }
-    ensures cause { HasCause (S.told store.old).faults (S.told store.new).faults result }
-    ensures last { IsErrOf result OutFault.Failed → (S.told store.new).last_failed ≡ true }
+    ensures fine { OnOk result ((S.told store.new).faults ≡ (S.told store.old).faults) }
+    ensures later { (S.told store.old).faults ≤ (S.told store.new).faults }
+    ensures cause { IfErr result (λ cause. IsCause cause (S.told store.old) (S.told store.new)) }
 {
-    let size = store.size()?;
-    let mut all = Vec::new(alloc);
-    let mut piece = [0u8; 65536];
-    'pieces: while (all.len() as u64) < size {
-        let at = all.len() as u64;
-        let room = (size - at).min(65536) as usize;
-        let count = store.read_at(at, &mut piece[..room])?;
-        if count == 0 {
-            return Ok(all);
-        }
-        all.extend_from_slice(&piece[..count])?;
+    match store.size() {
+        Ok(size) => Ok(size),
+        Err(fault) => Err(stopped(store, fault)),
     }
-    Ok(all)
 }
 
-/// What the bytes of a journal tell.
-fn loaded_of(alloc: Global, bytes: &[u8], given: IdMask) -> Result<Loaded, JournalFault>
-    ensures journal { IfOk result (λ loaded. IsRead bytes.now loaded.blocks.list loaded.marked) }
-    ensures facts { IfOk result (λ loaded. IsKnown given.bits loaded) }
-    ensures fault { IfErr result (λ fault. IsFault bytes.now fault) }
+/// The number of bytes that were read into the piece, from an offset of the store on.
+fn read_piece<S: JournalStore>(store: &mut S, at: u64, piece: &mut [u8]) -> Result<usize, LoadCause>
+    requires { 0 < length piece.old }
+    ensures bytes { IfOk result (λ count. IfSome (S.told store.old).content (λ content.
+        ReadsAt content.bytes at piece.new count)) }
+    ensures within { IfOk result (λ count. count ≤ length piece.new) }
+    ensures content { (S.told store.new).content ≡ (S.told store.old).content }
+    ensures fine { OnOk result ((S.told store.new).faults ≡ (S.told store.old).faults) }
+    ensures later { (S.told store.old).faults ≤ (S.told store.new).faults }
+    ensures cause { IfErr result (λ cause. IsCause cause (S.told store.old) (S.told store.new)) }
 {
-    let (blocks, size) = read_journal(alloc, bytes)?;
+    match store.read_at(at, piece) {
+        Ok(count) => Ok(count),
+        Err(fault) => Err(stopped(store, fault)),
+    }
+}
+
+/// Reads the store up to the size that it tells, or to its end, in pieces of at most 65,536 bytes. Each turn takes at
+/// least
+/// one byte.
+fn read_stored<S: JournalStore>(alloc: Global, store: &mut S) -> Result<Stored, LoadCause>
+    ensures read { IfOk result (λ stored. IfSome (held (S.told store.old)) (λ held. taken stored.reader ≡ held)) }
+    ensures reads { IfOk result (λ stored. stored.reader.damaged ≡ None) }
+    ensures size { IfOk result (λ stored. stored.size ≡ length (taken stored.reader)) }
+    ensures content { (S.told store.new).content ≡ (S.told store.old).content }
+    ensures later { (S.told store.old).faults ≤ (S.told store.new).faults }
+    ensures fine { OnOk result ((S.told store.new).faults ≡ (S.told store.old).faults) }
+    ensures cause { IfErr result (λ cause. IsCause cause (S.told store.old) (S.told store.new)) }
+{
+    let whole = size_of(store)?;
+    let mut reader = JournalReader::new(alloc);
+    let mut size = 0;
+    let mut piece = [0u8; 65536];
+    'pieces: while size < whole {
+        let room = (whole - size).min(65536) as usize;
+        let count = read_piece(store, size, &mut piece[..room])?;
+        if count == 0 {
+            return Ok(Stored { reader, size });
+        }
+        reader.feed_all(&piece[..count])?;
+        size += count as u64;
+    }
+    Ok(Stored { reader, size })
+}
+
+/// What the bytes that were read tell.
+fn loaded_of(alloc: Global, stored: Stored, given: IdMask) -> Result<Loaded, OutOfMemory>
+    requires reads { stored.reader.damaged ≡ None }
+    requires size { stored.size ≡ length (taken stored.reader) }
+    ensures journal { IfOk result (λ loaded. IsRead (taken stored.reader) loaded.blocks.list loaded.marked) }
+    ensures facts { IfOk result (λ loaded. IsKnown given.bits loaded) }
+{
+    let Stored {
+        reader,
+        size: read_to,
+    } = stored;
+    let (listed, size) = reader.end();
+    let blocks = Chain::of(alloc, listed)?;
     let mask = mask_of(blocks.as_slice(), given);
     let last = greatest_number(mask, blocks.as_slice());
     let version = version_of(alloc, blocks.as_slice())?;
@@ -193,7 +254,7 @@ fn loaded_of(alloc: Global, bytes: &[u8], given: IdMask) -> Result<Loaded, Journ
         blocks,
         version,
         size,
-        marked: size < bytes.len() as u64,
+        marked: size < read_to,
     })
 }
 
@@ -225,7 +286,8 @@ fn greatest_number(mask: IdMask, blocks: &[Block]) -> u64
 
 /// The number of the block's transaction.
 fn number_of(mask: IdMask, block: &Block) -> u64
-    ensures { transaction_in mask.bits block.now.header.tx.raw < 2 ^ 64 → result ≡ transaction_in mask.bits block.now.header.tx.raw }
+    ensures { transaction_in mask.bits block.now.header.tx.raw < 2 ^ 64
+        → result ≡ transaction_in mask.bits block.now.header.tx.raw }
 {
     match id_parts(mask, block.header.tx.raw) {
         Some((number, _)) => number,

@@ -7,12 +7,13 @@ ghost use Rattle.ledger_core.specs.Attempting.{next_block};
 
 use block_form::{revision_hash, seal, strand_hash};
 use ion_values::{IonTime, OutOfMemory};
-use ledger_model::{Block, Draft, Header, Info, Metadata, Revision, Revisions, TableIds, Told};
+use ledger_model::{
+    Block, Draft, Drafts, Header, Info, Metadata, Revision, Revisions, TableIds, Told,
+};
 use lists::Sequence;
 use ql_types::{BlockAddress, Hash32, IdMask, StrandId, TxId, id_raw};
 use std::alloc::Global;
 use txn_core::{Finished, Txn};
-use versions::copy_content;
 
 /// The transaction as the next block behind these: made at this time, or at that of the last block where it is later.
 pub(crate) fn into_block(
@@ -48,7 +49,7 @@ pub(crate) fn into_block(
         revisions: count,
     };
     let tables = tables_of(alloc, drafts.as_slice())?;
-    let revisions = revisions_of(alloc, &header, drafts.as_slice())?;
+    let revisions = revisions_of(alloc, &header, drafts)?;
     let previous = last_hash(alloc, mask, before)?;
     let info = Info {
         place,
@@ -104,19 +105,19 @@ fn tables_of(alloc: Global, drafts: &[Draft]) -> Result<TableIds, OutOfMemory>
 }
 
 /// The revisions that the drafts become in the block of this header, in order.
-fn revisions_of(alloc: Global, header: &Header, drafts: &[Draft]) -> Result<Revisions, OutOfMemory>
-    ensures { IfOk result (λ revisions. revisions ≡ map (revision_of header.now) drafts.now) }
+fn revisions_of(alloc: Global, header: &Header, drafts: Drafts) -> Result<Revisions, OutOfMemory>
+    ensures { IfOk result (λ revisions. revisions ≡ map (revision_of header.now) drafts) }
 {
     let mut revisions = Sequence::new(alloc);
-    'drafts: for draft in drafts {
+    'drafts: for draft in drafts.into_vec() {
         revisions.push(revision_of(alloc, header, draft)?)?;
     }
     Ok(revisions)
 }
 
 /// The revision that a draft becomes in the block of this header.
-fn revision_of(alloc: Global, header: &Header, draft: &Draft) -> Result<Revision, OutOfMemory>
-    ensures { IfOk result (λ revision. revision ≡ revision_of header.now draft.now) }
+fn revision_of(alloc: Global, header: &Header, draft: Draft) -> Result<Revision, OutOfMemory>
+    ensures { IfOk result (λ revision. revision ≡ revision_of header.now draft) }
 {
     let metadata = Metadata {
         id: draft.id,
@@ -127,7 +128,7 @@ fn revision_of(alloc: Global, header: &Header, draft: &Draft) -> Result<Revision
     Ok(Revision {
         address: header.address,
         hash: revision_hash(alloc, &draft.content, &metadata)?,
-        content: copy_content(alloc, &draft.content)?,
+        content: draft.content,
         metadata,
     })
 }

@@ -1,18 +1,22 @@
 //! The tail of a journal over its store.
-ghost use Rattle.std.specs.Prelude.{◌≡◌, IfOk, OnErr, OnOk, IfErr, ◌<◌, ◌^◌, ◌≤◌, ◌⊎◌, true, false, option_map};
+ghost use Rattle.std.specs.Prelude.{◌≡◌, ◌-◌, [], length, IfOk, OnErr, OnOk, IfErr, MatchOption, ◌<◌, ◌^◌, ◌≤◌, ◌⊎◌, true, false, option_map};
 ghost use Rattle.ledger_model.specs.State.{state};
 ghost use Rattle.ledger_claims.specs.Attempts.{IsStanding};
 ghost use Rattle.ledger_claims.specs.Stores.{Holding, IsSynced};
 ghost use Rattle.outside.specs.Told.{held};
+ghost use Rattle.proof_forms.specs.Issued.{block_hashes, IsDigest};
 ghost use Rattle.ledger_core.specs.Faults.{IsSettleFault, IsTriedWith};
 ghost use Rattle.ledger_core.specs.Tails.{Leaves, MayHoldPart, joined};
 
 use crate::appending::Unkept;
+use crate::chain::Chain;
 use crate::keeping::{Keeper, SettleFault};
 use ion_values::OutOfMemory;
 use journal_text::line;
 use ledger_model::{Block, Blocks};
 use outside::JournalStore;
+use pad_tree::Grow;
+use proof_forms::{Digest, undamaged_is_chained};
 use ql_types::IdMask;
 use std::alloc::Global;
 use std::marker::Model;
@@ -28,7 +32,8 @@ pub struct Tail<S: JournalStore, C> {
     pub(crate) mask: IdMask,
     /// The last number of a transaction that was drawn or found.
     pub(crate) last: u64,
-    pub(crate) blocks: Blocks,
+    /// The blocks, and the tree over their hashes.
+    pub(crate) blocks: Chain,
     /// What the blocks stand for.
     pub(crate) version: Versions,
 }
@@ -50,7 +55,11 @@ impl<S: JournalStore, C> Model for Tail<S, C> {
       marked = t.keeper.marked;
     } };
 
-    ghost invariant = { λ t. IsTail (held (S.told t.keeper.store)) (record { mask = t.mask.bits; last = t.last; blocks = t.blocks.list }) t.keeper.marked t.keeper.size × (t.version ≡ state t.blocks.list) };
+    ghost invariant = { λ t. IsTail (held (S.told t.keeper.store)) (record {
+      mask = t.mask.bits;
+      last = t.last;
+      blocks = t.blocks.list;
+    }) t.keeper.marked t.keeper.size × (t.version ≡ state t.blocks.list) };
 }
 
 impl<S: JournalStore, C> Tail<S, C> {
@@ -59,7 +68,25 @@ impl<S: JournalStore, C> Tail<S, C> {
         ensures blocks { result.now.list ≡ self.now.standing.blocks }
         ensures standing { IsStanding self.now.standing }
     {
-        &self.blocks
+        self.blocks.blocks()
+    }
+
+    /// The tree over the hashes of the blocks. It takes no memory.
+    pub fn grown(&self) -> &Grow
+        ensures { result.now.leaves ≡ block_hashes self.now.standing.blocks }
+    {
+        self.blocks.tree()
+    }
+
+    /// The digest of the journal, with its last block as the tip, or None where there is no block. It takes no memory
+    /// and
+    /// hashes nothing.
+    pub fn digest(&self) -> Option<Digest>
+        ensures { MatchOption result (self.now.standing.blocks ≡ [])
+            (λ digest. IsDigest self.now.standing.blocks (length self.now.standing.blocks - 1) digest) }
+    {
+        undamaged_is_chained();
+        self.blocks.digest()
     }
 
     /// What the tail keeps true. It does nothing.
@@ -85,7 +112,8 @@ impl<S: JournalStore, C> Tail<S, C> {
         ensures tried { IfErr result (λ e. IsTriedWith block e.fault (option_map (λ b. b.value) e.tried)) }
         ensures left { IfErr result (λ e. Leaves self.old.standing.blocks (option_map (λ b. b.value) e.tried)
             (held (S.told self.old.store)) (held (S.told self.new.store))) }
-        ensures marked { IfErr result (λ e. ((e.fault ≡ SettleFault.OutOfMemory) × (self.new ≡ self.old)) ⊎ (self.new.marked ≡ true)) }
+        ensures marked { IfErr result (λ e. ((e.fault ≡ SettleFault.OutOfMemory) × (self.new ≡ self.old))
+            ⊎ (self.new.marked ≡ true)) }
         ensures later { (S.told self.old.store).faults ≤ (S.told self.new.store).faults }
         ensures fine { OnOk result ((S.told self.new.store).faults ≡ (S.told self.old.store).faults) }
         ensures fault { IfErr result (λ e. IsSettleFault e.fault (S.told self.old.store) (S.told self.new.store)) }
@@ -103,7 +131,7 @@ impl<S: JournalStore, C> Tail<S, C> {
             }
         }
         self.version = version;
-        self.blocks.push(block).unwrap();
+        self.blocks.push(block);
         Ok(())
     }
 
@@ -134,7 +162,7 @@ impl<S: JournalStore, C> Tail<S, C> {
             size: _,
             marked: _,
         } = keeper;
-        (blocks, store, clock)
+        (blocks.into_blocks(), store, clock)
     }
 }
 

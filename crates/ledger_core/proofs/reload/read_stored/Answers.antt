@@ -1,17 +1,56 @@
-use Rattle.std.proofs.Common.{◌≡◌, ◌∙◌, ap, ◌++◌, take, rules}
+use Rattle.std.proofs.Common.{◌≡◌, ◌∙◌, ◌+◌, ◌++◌, Err, ap, arith, length, length-append, rules, take}
 use Rattle.outside.specs.Told.{held}
-use Rattle.ledger_core.proofs.Read.{front-next, take-inside}
+use Rattle.journal_text.specs.Feeding.{taken}
+use Rattle.ledger_core.specs.Loads.{IsCause, cause_of}
+use Rattle.ledger_core.proofs.Read.{fed-cause, front-next, front-none, long-of, take-inside}
 use Rattle.ledger_core.proofs.Syncs.{bytes_of}
 use Rattle.ledger_core.proofs.reload.read_stored.Goals as goal
 
+pub pieces-init : goal.pieces-init
+pieces-init g c = record {
+  front = front-none (held (g.S.JournalStore.told c.args.store.now)) (taken c.new-reader.result) _ c.in_ok-whole.ensures.size c.new-reader.ensures.taken;
+  size = search rules;
+  within = search rules;
+  reads = search rules;
+  content = search rules;
+  fine = search rules;
+}
+
 pub pieces-preserved : goal.pieces-preserved
 pieces-preserved g c =
-    let grown : c.extend_from_slice.new.self.items ≡ c.pieces.all.items ++ take c.in_ok-count.count c.read_at.new.out =
-    c.in_ok-extend_from_slice.ensures.items ∙ ap (λ xs. c.pieces.all.items ++ xs) (take-inside c.in_ok-count.count c.read_at.new.out _ c.in_ok-count.ensures.bound.0) in
+    let was = c.pieces.invariant in
+    let all = taken c.pieces.reader in
+    let out = c.read_piece.new.piece in
+    let count = c.in_ok-count.count in
+    let inside = c.in_ok-count.ensures.within in
+    let grown : taken c.feed_all.new.self ≡ all ++ take count out =
+    c.in_ok-feed_all.ensures.taken ∙ ap (λ xs. all ++ xs) (take-inside count out _ inside) in
+    let long : length (taken c.feed_all.new.self) ≡ length all + count =
+    ap length grown ∙ length-append all (take count out) ∙ ap (λ n. length all + n) (long-of out count inside) in
+    let place = was.size in
     record {
-      front = front-next (held (g.S.JournalStore.told c.args.store.now)) (g.S.JournalStore.told c.pieces.store).content c.pieces.all.items c.read_at.new.out _ _ _ _
-          (ap bytes_of c.pieces.invariant.content) (search rules) c.pieces.invariant.within c.pieces.invariant.front c.in_ok-count.ensures.given grown;
+      front = front-next (held (g.S.JournalStore.told c.args.store.now)) (g.S.JournalStore.told c.pieces.store).content all out _ _ _ count
+          (ap bytes_of was.content) place was.within was.front c.in_ok-count.ensures.bytes grown;
+      size = omega (arith, place, long);
       within = search rules;
+      reads = search rules;
       content = search rules;
       fine = search rules;
     }
+
+pub returns-in_err-feed_all-clause-cause : goal.returns-in_err-feed_all-clause-cause
+returns-in_err-feed_all-clause-cause g c =
+    let told = g.S.JournalStore.told in
+    let was = c.pieces.invariant in
+    let all = taken c.pieces.reader in
+    let out = c.read_piece.new.piece in
+    let count = c.in_ok-count.count in
+    let fault = c.in_err-feed_all.field-0.0 in
+    let same : (told c.read_piece.new.store).faults ≡ (told c.args.store.now).faults = c.in_ok-count.ensures.fine ∙ was.fine in
+    let why : IsCause (cause_of fault) (told c.args.store.now) (told c.read_piece.new.store) =
+    fed-cause _ _ all _ _ fault
+    (front-next (held (told c.args.store.now)) (told c.pieces.store).content all out _ _ _ count
+    (ap bytes_of was.content) was.size was.within was.front c.in_ok-count.ensures.bytes (ap (λ xs. all ++ xs) (take-inside count out _ c.in_ok-count.ensures.within)))
+    same c.in_err-feed_all.ensures.fault in
+    let is : c.from_residual-in_err-feed_all.result ≡ Err (cause_of fault) = search rules in
+    rw is why

@@ -1,8 +1,8 @@
-use Rattle.std.proofs.Common.{◌≡◌, ◌∙◌, [], ◌∷◌, ◌++◌, ap, sym, subst, inl, inr, rules}
-use Rattle.std.proofs.lemmas.Result.{IfOk-at_ok}
+use Rattle.std.proofs.Common.{◌≡◌, ◌∙◌, [], ◌∷◌, ◌++◌, ap, arith, length, sym, subst, inl, inr}
 use Rattle.ledger_model.specs.Journal.{line}
 use Rattle.ledger_claims.specs.Attempts.{IsStanding}
 use Rattle.ledger_core.specs.Tails.{TailHeld, joined}
+use Rattle.ledger_core.proofs.Bounds.{undamaged_bound}
 use Rattle.ledger_core.proofs.Joined.{appended, faulted, holds-more, left_with, may-hold, tried_with}
 use Rattle.outside.specs.Told.{held}
 use Rattle.ledger_core.proofs.tail.Tail.append_block.Goals as goal
@@ -30,10 +30,16 @@ returns-in-Err-clause-left g c =
     (left_with _ c.args.block c.of.result.value _ _ c.of.ensures
     (may-hold _ _ _ c.args.block _ _ _ _ c.as_bytes.result.now _ c.self.invariant is c.in-Err.ensures.part))
 
+pub push-requires-clause-few : goal.push-requires-clause-few
+push-requires-clause-few g c =
+    let kept = ap length c.make_room.ensures.list in
+    let bound = undamaged_bound c.self.inside.blocks.list c.self.invariant.0.stands.undamaged in
+    omega (arith, kept, bound)
+
 pub invariant_of-self-2 : goal.invariant_of-self-2
 invariant_of-self-2 g c =
     let is : c.as_bytes.result.now ≡ line c.args.block = c.as_bytes.ensures.value ∙ c.as_str.ensures ∙ c.in_ok-text.ensures in
-    let more = IfOk-at_ok _ c.unwrap.ensures c.push.ensures.pushed ∙ ap (λ bs. bs ++ c.args.block ∷ []) c.make_room.ensures.list in
+    let more = c.push.ensures ∙ ap (λ bs. bs ++ c.args.block ∷ []) c.make_room.ensures.list in
     let stands = subst (λ (t : TailHeld _ _). IsStanding (joined t.standing c.args.block)) (sym c.self.view_is) c.requires in
     appended _ _ _ _ c.args.block _ _ _ _ _ _ c.as_bytes.result.now _ _ stands c.self.invariant is more
     c.in-Ok.ensures.size c.in-Ok.ensures.bytes c.in_ok-version.ensures
@@ -41,5 +47,5 @@ invariant_of-self-2 g c =
 pub returns-clause-holds : goal.returns-clause-holds
 returns-clause-holds g c =
     let is : c.as_bytes.result.now ≡ line c.args.block = c.as_bytes.ensures.value ∙ c.as_str.ensures ∙ c.in_ok-text.ensures in
-    let more = IfOk-at_ok _ c.unwrap.ensures c.push.ensures.pushed ∙ ap (λ bs. bs ++ c.args.block ∷ []) c.make_room.ensures.list in
+    let more = c.push.ensures ∙ ap (λ bs. bs ++ c.args.block ∷ []) c.make_room.ensures.list in
     holds-more _ _ _ _ c.args.block _ _ _ _ c.as_bytes.result.now _ c.self.invariant is more c.in-Ok.ensures.bytes

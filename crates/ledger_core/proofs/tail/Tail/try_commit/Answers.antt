@@ -1,10 +1,8 @@
-use Rattle.std.proofs.Common.{◌≡◌, Err, Option, Result, ap, rules, subst, sym}
+use Rattle.std.proofs.Common.{Err, subst, sym}
 use Rattle.std.specs.Prelude.{option_map}
-use Rattle.ledger_core.specs.declared.appending.Receipt.{Receipt}
 use Rattle.ledger_core.specs.declared.commit.CommitFault.{CommitFault}
-use Rattle.ledger_core.specs.Committing.{CommitEnds, IsAnswer, IsTried, fault_of}
+use Rattle.ledger_core.specs.Committing.{CommitEnds, IsAnswer, IsTried}
 use Rattle.ledger_core.proofs.Commits.{IsReady, put_faulted, put_part, put_seals, put_stands, put_tried, ready}
-use Rattle.ledger_core.proofs.Joined.{on-err}
 use Rattle.ledger_core.proofs.tail.Tail.try_commit.Goals as goal
 
 pub append_next-requires : goal.append_next-requires
