@@ -1,6 +1,5 @@
 //! The journal that a store holds, to be read and left as it is.
 ghost use Rattle.std.specs.Prelude.{◌≡◌, Err, IfOk, IfErr};
-ghost use Rattle.ledger_model.specs.Damages.{Undamaged};
 ghost use Rattle.ledger_claims.specs.Calls.{span};
 ghost use Rattle.command_claims.specs.Journals.{IsUnchanged, Reads};
 ghost use Rattle.ledger_cli.specs.Stops.{IsLoadStop, load_stop};
@@ -8,7 +7,6 @@ ghost use Rattle.ledger_cli.specs.Stops.{IsLoadStop, load_stop};
 use crate::returned::{HandedBack, Returned};
 use crate::stop::Stop;
 use ledger_core::{LoadFault, Tail};
-use ledger_model::Blocks;
 use outside::JournalStore;
 use ql_types::IdMask;
 use std::alloc::Global;
@@ -31,28 +29,24 @@ pub fn unloaded<T, S, C>(fault: LoadFault<S, C>) -> HandedBack<Result<T, Stop>, 
     }
 }
 
-/// Reads the blocks of the journal that the store holds. A rest behind its lines is left.
-pub fn read_blocks<S: JournalStore>(alloc: Global, store: S) -> Returned<Result<Blocks, Stop>, S>
-    ensures read { IfOk result.came (λ blocks. Reads (span (S.told store) (S.told result.store)) blocks.list) }
-    ensures undamaged { IfOk result.came (λ blocks. Undamaged blocks.list) }
-    ensures stop { IfErr result.came (λ stop. IsLoadStop stop (span (S.told store) (S.told result.store))) }
-    ensures unchanged { IsUnchanged (span (S.told store) (S.told result.store)) }
+/// The tail of the journal that the store holds, or why there is none, with the store. A rest behind its lines is left.
+pub fn read_tail<S: JournalStore>(alloc: Global, store: S) -> Result<Tail<S, ()>, Returned<Stop, S>>
+    ensures read { IfOk result (λ tail. Reads (span (S.told store) (S.told tail.store)) tail.standing.blocks) }
+    ensures stop { IfErr result (λ back. IsLoadStop back.came (span (S.told store) (S.told back.store))) }
+    ensures unchanged { IfErr result (λ back. IsUnchanged (span (S.told store) (S.told back.store))) }
 {
     match Tail::reload(alloc, store, (), IdMask { bits: 0 }) {
-        Ok(tail) => {
-            let (blocks, store, _) = tail.into_parts();
-            Returned {
-                came: Ok(blocks),
-                store,
-            }
-        }
+        Ok(tail) => Ok(tail),
         Err(fault) => {
-            let HandedBack {
-                came,
+            let LoadFault {
+                cause,
                 store,
                 clock: _,
-            } = unloaded(fault);
-            Returned { came, store }
+            } = fault;
+            Err(Returned {
+                came: Stop::from(cause),
+                store,
+            })
         }
     }
 }

@@ -1,5 +1,5 @@
 //! What the commands come to: an output, or why there is none.
-ghost use Rattle.std.specs.Prelude.{◌≡◌, ◌<◌, Some, false};
+ghost use Rattle.std.specs.Prelude.{◌≡◌, ◌<◌, Err, Some, false};
 ghost use Rattle.ledger_claims.specs.Calls.{span};
 ghost use Rattle.ledger_claims.specs.Streams.{TakesFew};
 ghost use Rattle.command_claims.specs.Calls.{outside};
@@ -14,7 +14,7 @@ ghost use Rattle.ledger_cli.specs.Questions.{Tells};
 use crate::audit::counts_text;
 use crate::digest::digest_text;
 use crate::input::read_all;
-use crate::journal::read_blocks;
+use crate::journal::read_tail;
 use crate::judging::judge;
 use crate::make::make;
 use crate::prove::proof_text;
@@ -153,16 +153,13 @@ fn read_script<So: Source>(alloc: Global, source: &mut So) -> Result<Script, Sto
 fn digest<St: JournalStore>(alloc: Global, tip: Option<u64>, store: St) -> Came<St>
     ensures { Tells (asks.digest tip) result.came (span (St.told store) (St.told result.store)) }
 {
-    let Returned { came, store } = read_blocks(alloc, store);
-    match came {
-        Ok(blocks) => Returned {
-            came: digest_text(alloc, &blocks, tip),
-            store,
-        },
-        Err(stop) => Returned {
-            came: Err(stop),
-            store,
-        },
+    match read_tail(alloc, store) {
+        Ok(tail) => {
+            let came = digest_text(alloc, &tail, tip);
+            let (_, store, _) = tail.into_parts();
+            Returned { came, store }
+        }
+        Err(unread) => stopped(unread),
     }
 }
 
@@ -176,16 +173,13 @@ fn prove<St: JournalStore>(
 ) -> Came<St>
     ensures { Tells (asks.proof sequence index tip) result.came (span (St.told store) (St.told result.store)) }
 {
-    let Returned { came, store } = read_blocks(alloc, store);
-    match came {
-        Ok(blocks) => Returned {
-            came: proof_text(alloc, &blocks, sequence, index, tip),
-            store,
-        },
-        Err(stop) => Returned {
-            came: Err(stop),
-            store,
-        },
+    match read_tail(alloc, store) {
+        Ok(tail) => {
+            let came = proof_text(alloc, &tail, sequence, index, tip);
+            let (_, store, _) = tail.into_parts();
+            Returned { came, store }
+        }
+        Err(unread) => stopped(unread),
     }
 }
 
@@ -193,15 +187,26 @@ fn prove<St: JournalStore>(
 fn audit<St: JournalStore>(alloc: Global, store: St) -> Came<St>
     ensures { Tells asks.counts result.came (span (St.told store) (St.told result.store)) }
 {
-    let Returned { came, store } = read_blocks(alloc, store);
-    match came {
-        Ok(blocks) => Returned {
-            came: counts_text(alloc, &blocks),
-            store,
-        },
-        Err(stop) => Returned {
-            came: Err(stop),
-            store,
-        },
+    match read_tail(alloc, store) {
+        Ok(tail) => {
+            let (blocks, store, _) = tail.into_parts();
+            Returned {
+                came: counts_text(alloc, &blocks),
+                store,
+            }
+        }
+        Err(unread) => stopped(unread),
+    }
+}
+
+/// The answer where no journal was read.
+fn stopped<St>(unread: Returned<Stop, St>) -> Came<St>
+    ensures came { result.came ≡ Err unread.came }
+    ensures store { result.store ≡ unread.store }
+{
+    let Returned { came, store } = unread;
+    Returned {
+        came: Err(came),
+        store,
     }
 }

@@ -18,7 +18,8 @@ pub struct AloneRan<S: JournalStore, C: Clock> {
     pub outcome: Outcome,
 }
 
-/// Runs the job at its place on the tail, by one worker in this thread. All room is made before; where it can't be had, nothing
+/// Runs the job at its place on the tail, by one worker in this thread. All room is made before; where it can't be had,
+/// nothing
 /// is run, and the tail comes back.
 pub fn run_alone<S: JournalStore, C: Clock, G: Gate, R: Wait + Sync>(
     rt: &R,
@@ -28,7 +29,8 @@ pub fn run_alone<S: JournalStore, C: Clock, G: Gate, R: Wait + Sync>(
     gate: &G,
     tail: Tail<S, C>,
 ) -> Result<AloneRan<S, C>, NotMade<S, C>>
-    ensures ran { IfOk result (λ r. AllHaveRun S.told C.answers C.always 1 (record { place = place; job = job.now } ∷ []) tail
+    ensures ran { IfOk result (λ r. AllHaveRun S.told C.answers C.always 1
+        (record { place = place; job = job.now } ∷ []) tail
         r.tail (record { place = place; outcome = r.outcome } ∷ [])) }
     ensures refused { IfErr result (λ e. e.tail ≡ tail) }
 {

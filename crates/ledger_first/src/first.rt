@@ -14,8 +14,10 @@ use std::alloc::Global;
 use std::sync::Wait;
 use std::thread::Threads;
 
-/// Runs the job of session 0 alone, and then the script's sessions by so many workers, as `run_all` does. The outcomes are those
-/// of the sessions. Where there is no room for the job, nothing is run, and where there is none behind it, the job alone.
+/// Runs the job of session 0 alone, and then the script's sessions by so many workers, as `run_all` does. The outcomes
+/// are those
+/// of the sessions. Where there is no room for the job, nothing is run, and where there is none behind it, the job
+/// alone.
 pub fn run_behind_first<
     S: JournalStore + Send,
     C: Clock + Send,
@@ -34,9 +36,11 @@ pub fn run_behind_first<
     requires some { 0 < workers }
     requires few { AreNumbered script.now }
     requires zeroth { place.session ≡ 0 }
-    ensures ran { IfOk result (λ r. HaveAllRun S.told C.answers C.always workers (record { place = place; job = first.now })
+    ensures ran { IfOk result (λ r. HaveAllRun S.told C.answers C.always workers
+        (record { place = place; job = first.now })
         (all_placed script.now) tail r.outcomes r.tail) }
-    ensures refused { IfErr result (λ e. HasBegun S.told C.answers C.always (record { place = place; job = first.now }) tail e.tail
+    ensures refused { IfErr result (λ e. HasBegun S.told C.answers C.always
+        (record { place = place; job = first.now }) tail e.tail
         ⊎ (e.tail ≡ tail)) }
 {
     match run_alone(rt, alloc, first, place, gate, tail) {

@@ -7,8 +7,10 @@ use denote.Ref.{NamedLft}
 use Rattle.std.proofs.Crossing.{crosses}
 use Rattle.atomic_table.proofs.shared.Seat.TheSendSync as seat
 use Rattle.turn_lock.proofs.turns.Turns.TheSendSync as turns
+use Rattle.pad_tree.proofs.grow.Grow.TheSendSync as grow
 use Rattle.outside.specs.declared.traits.JournalStore as store
 use Rattle.outside.specs.declared.traits.Clock as clock
+use Rattle.ledger_core.specs.contracts.chain.Chain as Chain
 use Rattle.ledger_core.specs.contracts.tail.Tail as Tail
 use Rattle.ledger_model.proofs.outcome.PlacedOutcome.TheSendSync as outcome
 use Rattle.ledger_shared.specs.contracts.entry.Entry as Entry
@@ -27,10 +29,14 @@ entry_send = search (sendable, crosses) depth 14
 entries_send : IsSend Entries.the_row
 entries_send = let e = entry_send in search (sendable, crosses) depth 14
 
+-- the blocks of a tail, and the tree over them
+chain_send : IsSend Chain.the_row
+chain_send = let b = blocks_send in search (sendable, crosses, grow.the_send) depth 20
+
 module _ (S C : RattleType) (g : store.Ghosts S.Denot) (h : clock.Ghosts C.Denot) (s : IsSend S) (c : IsSend C) where
   tail_send : IsSend (Tail.the_row S C g)
   tail_send =
-      let b = blocks_send in let v = versions_send in
+      let b = chain_send in let v = versions_send in
       search sendable depth 14
 
   shared_send : IsSend (Shared.the_row S C g h)

@@ -1,19 +1,19 @@
 use Rattle.ledger_claims.specs.Calls.{span}
 use Rattle.command_claims.specs.Journals as asks
-use Rattle.ledger_cli.proofs.Answering.{answered_so, if_err, if_ok, unread_so}
+use Rattle.ledger_cli.proofs.Answering.{answered_so, unread_so}
 use Rattle.ledger_cli.proofs.work.digest.Goals as goal
-
-pub digest_text-requires : goal.digest_text-requires
-digest_text-requires g c = if_ok _ c.in-Ok.is c.read_blocks-came.ensures.undamaged
 
 pub returns-in-Ok : goal.returns-in-Ok
 returns-in-Ok g c =
-    let k = c.read_blocks-came in
-    answered_so (asks.digest c.args.tip) c.in-Ok.blocks.list c.digest_text.result (span (g.St.JournalStore.told c.args.store) (g.St.JournalStore.told k.result.store))
-    (if_ok _ c.in-Ok.is k.ensures.read) c.digest_text.ensures.published c.digest_text.ensures.stop
+    let told = g.St.JournalStore.told in
+    let tail = c.in-Ok.tail in
+    rw c.into_parts-store.ensures.store
+    (answered_so (asks.digest c.args.tip) tail.standing.blocks c.digest_text-came.result (span (told c.args.store) (told tail.store)) c.in-Ok.ensures.read
+    c.digest_text-came.ensures.published c.digest_text-came.ensures.stop)
 
 pub returns-in-Err : goal.returns-in-Err
 returns-in-Err g c =
-    let k = c.read_blocks-came in
-    unread_so (asks.digest c.args.tip) c.in-Err.stop (span (g.St.JournalStore.told c.args.store) (g.St.JournalStore.told k.result.store))
-    (if_err _ c.in-Err.is k.ensures.stop) k.ensures.unchanged
+    let told = g.St.JournalStore.told in
+    let unread = c.in-Err.unread in
+    rw (c.stopped.ensures.came, c.stopped.ensures.store)
+    (unread_so (asks.digest c.args.tip) unread.came (span (told c.args.store) (told unread.store)) c.in-Err.ensures.stop c.in-Err.ensures.unchanged)
