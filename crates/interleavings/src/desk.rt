@@ -208,7 +208,8 @@ fn ending_line(
 }
 
 impl Desk {
-    /// Does what the event says, and answers the line that tells of it. After want of memory nothing is known of the desk.
+    /// Does what the event says, and answers the line that tells of it. After want of memory nothing is known of the
+    /// desk.
     pub fn answer(&mut self, alloc: Global, event: Event) -> Result<Text, OutOfMemory>
         requires { AreOpen self.old.tail.standing self.old.transactions.items }
         ensures sound { OnOk result (AreOpen self.new.tail.standing self.new.transactions.items) }

@@ -36,7 +36,8 @@ fn has_address(strand: StrandId, before: &[Block], block: &Block) -> bool
 
 /// Whether the id is that of a transaction of the strand, from 1 on.
 fn is_transaction(strand: StrandId, tx: TxId) -> bool
-    ensures { result ≡ (nat_le 1 (transaction_in strand.raw tx.raw) && nat_lt (transaction_in strand.raw tx.raw) (2 ^ 64) && (thing_in strand.raw tx.raw == 0)) }
+    ensures { result ≡ (nat_le 1 (transaction_in strand.raw tx.raw)
+        && nat_lt (transaction_in strand.raw tx.raw) (2 ^ 64) && (thing_in strand.raw tx.raw == 0)) }
 {
     match id_parts(IdMask { bits: strand.raw }, tx.raw) {
         Some((number, thing)) => 1 <= number && thing == 0,
@@ -46,7 +47,8 @@ fn is_transaction(strand: StrandId, tx: TxId) -> bool
 
 /// Whether the id is that of a transaction of the strand, from 1 on, and no earlier block has it.
 fn has_id(registry: &Registry, strand: StrandId, block: &Block) -> bool
-    ensures { (before : List Block) → Stands strand.raw before registry.now → result ≡ spec.has_id strand.raw before block.now }
+    ensures { (before : List Block) → Stands strand.raw before registry.now
+        → result ≡ spec.has_id strand.raw before block.now }
 {
     let tx = block.header.tx;
     is_transaction(strand, tx) && !registry.has_transaction(tx)
@@ -104,7 +106,8 @@ pub(crate) fn damage_of(
 ) -> Result<Option<Damage>, OutOfMemory>
     requires { Stands (spec.strand_of before.now block.now) before.now registry.old }
     ensures kind { IfOk result (λ kind. kind ≡ spec.damage_behind before.now block.now) }
-    ensures stands { IfOk result (λ kind. kind ≡ None → Stands (spec.strand_of before.now block.now) (before.now ++ block.now ∷ []) registry.new) }
+    ensures stands { IfOk result (λ kind. kind ≡ None → Stands (spec.strand_of before.now block.now) (before.now
+        ++ block.now ∷ []) registry.new) }
 {
     let strand = strand_of(before, block);
     if !has_address(strand, before, block) {

@@ -43,7 +43,8 @@ fn first_feed(bytes: &[u8]) -> Option<usize>
 
 /// What stands in front of the first line feed, if there is one.
 pub(crate) fn first_line(bytes: &[u8]) -> Option<&[u8]>
-    ensures { MatchOption result (has_no_line_feed bytes.now ≡ true) (λ text. (has_no_line_feed text.now ≡ true) × (bytes.now ≡ text.now ++ 10 ∷ drop (length text.now + 1) bytes.now)) }
+    ensures { MatchOption result (has_no_line_feed bytes.now ≡ true) (λ text. (has_no_line_feed text.now ≡ true)
+        × (bytes.now ≡ text.now ++ 10 ∷ drop (length text.now + 1) bytes.now)) }
 {
     let Some(end) = first_feed(bytes) else {
         return None;

@@ -62,8 +62,10 @@ impl JournalReader {
     }
 
     /// Takes the bytes of the piece up to and with its first line feed, or all of them where there is none, and answers
-    /// their number. A character may be cut by the end of a piece. `Damaged` comes exactly at the first whole line that fails
-    /// a check, with the first check that it fails; from then on the answer is the same and nothing is taken. After want of
+    /// their number. A character may be cut by the end of a piece. `Damaged` comes exactly at the first whole line that
+    /// fails
+    /// a check, with the first check that it fails; from then on the answer is the same and nothing is taken. After
+    /// want of
     /// memory nothing was taken.
     pub fn feed(&mut self, piece: &[u8]) -> Result<usize, JournalFault>
         ensures again { IfSome self.old.damaged (λ fault. (result ≡ Err fault) × (self.new ≡ self.old)) }
@@ -94,7 +96,8 @@ impl JournalReader {
         requires { self.old.damaged ≡ None }
         ensures taken { OnOk result (taken self.new ≡ taken self.old ++ piece.now) }
         ensures reads { OnOk result (self.new.damaged ≡ None) }
-        ensures fault { IfErr result (λ fault. (rest : List ℕ) → IsFault (taken self.old ++ (piece.now ++ rest)) fault) }
+        ensures fault { IfErr result (λ fault. (rest : List ℕ)
+            → IsFault (taken self.old ++ (piece.now ++ rest)) fault) }
     {
         let mut at = 0;
         'lines: while at < piece.len() {
@@ -110,7 +113,8 @@ impl JournalReader {
         requires one_line { has_no_line_feed text.now ≡ true }
         ensures taken { OnOk result (taken self.new ≡ taken self.old ++ (text.now ++ 10 ∷ [])) }
         ensures same { OnErr result (SameTaken self.old self.new) }
-        ensures fault { IfErr result (λ fault. (rest : List ℕ) → IsFault (taken self.old ++ ((text.now ++ 10 ∷ []) ++ rest)) fault) }
+        ensures fault { IfErr result (λ fault. (rest : List ℕ)
+            → IsFault (taken self.old ++ ((text.now ++ 10 ∷ []) ++ rest)) fault) }
         ensures lasting { self.new.damaged ≡ damage_in result }
     {
         let begun = self.line.len();
@@ -160,7 +164,8 @@ fn lasting(fault: JournalFault) -> Option<JournalFault>
     }
 }
 
-/// How many bytes there are with one line more, of which so many bytes were there and so many come before its line feed.
+/// How many bytes there are with one line more, of which so many bytes were there and so many come before its line
+/// feed.
 fn longer(size: u64, begun: usize, text: usize) -> Result<u64, OutOfMemory>
     ensures { IfOk result (λ new. new ≡ size + begun + text + 1) }
 {
@@ -206,7 +211,8 @@ fn registry_for(
     }
 }
 
-/// Puts the block behind the others whose line this text is, with a line feed behind it, if it passes each check, and gives
+/// Puts the block behind the others whose line this text is, with a line feed behind it, if it passes each check, and
+/// gives
 /// the registry with it. The given one is that of the blocks; where there is none it is made anew.
 fn take_line(
     alloc: Global,

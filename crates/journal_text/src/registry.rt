@@ -41,7 +41,8 @@ impl Registry {
 
     /// Whether a block so far has this transaction. It takes no memory.
     pub(crate) fn has_transaction(&self, tx: TxId) -> bool
-        ensures { (strand : ℕ) (before : List Block) → Stands strand before self.now → result ≡ has_transaction before tx.raw }
+        ensures { (strand : ℕ) (before : List Block) → Stands strand before self.now
+            → result ≡ has_transaction before tx.raw }
     {
         self.transactions.contains(&tx.raw)
     }
@@ -54,8 +55,12 @@ impl Registry {
         strand: StrandId,
         block: &Block,
     ) -> Result<bool, OutOfMemory>
-        ensures follows { (before : List Block) → Stands strand.raw before self.old → has_id strand.raw before block.now ≡ true → IfOk result (λ b. b ≡ follows strand.raw (state before) block.now) }
-        ensures stands { (before : List Block) → Stands strand.raw before self.old → has_id strand.raw before block.now ≡ true → IfOk result (λ b. b ≡ true → Stands strand.raw (before ++ block.now ∷ []) self.new) }
+        ensures follows { (before : List Block) → Stands strand.raw before self.old
+            → has_id strand.raw before block.now ≡ true
+            → IfOk result (λ b. b ≡ follows strand.raw (state before) block.now) }
+        ensures stands { (before : List Block) → Stands strand.raw before self.old
+            → has_id strand.raw before block.now ≡ true
+            → IfOk result (λ b. b ≡ true → Stands strand.raw (before ++ block.now ∷ []) self.new) }
     {
         if !self.has_ids(alloc, strand, block)? {
             return Ok(false);
@@ -74,7 +79,8 @@ impl Registry {
 
     /// Whether the block made the ids of its new tables and documents, no two of them equal.
     fn has_ids(&self, alloc: Global, strand: StrandId, block: &Block) -> Result<bool, OutOfMemory>
-        ensures { (before : List Block) → Stands strand.raw before self.now → has_id strand.raw before block.now ≡ true → IfOk result (λ b. b ≡ ids_follow strand.raw (made_ids (state before) block.now) block.now.header.tx.raw) }
+        ensures { (before : List Block) → Stands strand.raw before self.now → has_id strand.raw before block.now ≡ true
+            → IfOk result (λ b. b ≡ ids_follow strand.raw (made_ids (state before) block.now) block.now.header.tx.raw) }
     {
         let mut made = ids::created(alloc, block.info.schema.as_slice())?;
         self.documents
@@ -89,7 +95,9 @@ impl Registry {
 
     /// Whether each revision follows what the blocks so far left, and no document has two.
     fn has_revisions(&self, alloc: Global, block: &Block) -> Result<bool, OutOfMemory>
-        ensures { (strand : ℕ) (before : List Block) → Stands strand before self.now → IfOk result (λ b. b ≡ (list_all (revision_follows (state before) block.now) (recorded_in block.now.info.tables block.now.revisions) && all_differ (document_ids block.now.revisions))) }
+        ensures { (strand : ℕ) (before : List Block) → Stands strand before self.now
+            → IfOk result (λ b. b ≡ (list_all (revision_follows (state before) block.now)
+            (recorded_in block.now.info.tables block.now.revisions) && all_differ (document_ids block.now.revisions))) }
     {
         let created = ids::created(alloc, block.info.schema.as_slice())?;
         let created = ids::set_of(alloc, created.as_slice())?;
@@ -103,7 +111,10 @@ impl Registry {
 
     /// Whether each revision of the block, which created these tables, follows what the blocks so far left.
     fn have_all(&self, created: &BTreeSet<u128>, block: &Block) -> bool
-        ensures { (strand : ℕ) (before : List Block) → Stands strand before self.now → HasKeys created.now (created_ids block.now.info.schema) → result ≡ list_all (revision_follows (state before) block.now) (recorded_in block.now.info.tables block.now.revisions) }
+        ensures { (strand : ℕ) (before : List Block) → Stands strand before self.now
+            → HasKeys created.now (created_ids block.now.info.schema)
+            → result ≡ list_all (revision_follows (state before) block.now)
+            (recorded_in block.now.info.tables block.now.revisions) }
     {
         let tables = block.info.tables.as_slice();
         let revisions = block.revisions.as_slice();
@@ -125,7 +136,9 @@ impl Registry {
         table: TableId,
         revision: &Revision,
     ) -> bool
-        ensures { (strand : ℕ) (before : List Block) → Stands strand before self.now → HasKeys created.now (created_ids block.now.info.schema) → result ≡ revision_follows (state before) block.now (record { table = table; revision = revision.now }) }
+        ensures { (strand : ℕ) (before : List Block) → Stands strand before self.now
+            → HasKeys created.now (created_ids block.now.info.schema)
+            → result ≡ revision_follows (state before) block.now (record { table = table; revision = revision.now }) }
     {
         if !is_of(&block.header, revision) {
             return false;
@@ -138,7 +151,8 @@ impl Registry {
 
     /// Whether the table is active before the block or one of those that it created.
     fn has_table(&self, created: &BTreeSet<u128>, table: TableId) -> bool
-        ensures { (strand : ℕ) (before : List Block) (ids : List ℕ) → Stands strand before self.now → HasKeys created.now ids → result ≡ has_table (state before).tables ids table }
+        ensures { (strand : ℕ) (before : List Block) (ids : List ℕ) → Stands strand before self.now
+            → HasKeys created.now ids → result ≡ has_table (state before).tables ids table }
     {
         if self.tables.is_active(table) {
             return true;

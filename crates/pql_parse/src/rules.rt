@@ -79,7 +79,8 @@ fn earlier(first: Option<Fault>, second: Option<Fault>) -> Option<Fault>
 /// The first fault in names, in BY and in targets.
 fn first_misplaced(scope: &Scope<'_>, marks: &[Mark]) -> Option<Fault>
     requires { IsScope scope.now }
-    ensures { option_map fault_of result ≡ spec.first_fault (λ m. spec.judged m.place m.role scope.now.sources.now) marks.now }
+    ensures { option_map fault_of result ≡ spec.first_fault (λ m.
+        spec.judged m.place m.role scope.now.sources.now) marks.now }
 {
     'marks: for mark in marks {
         if let Some(kind) = judged(scope, mark) {

@@ -90,7 +90,8 @@ fn begins_float(bytes: &[u8]) -> bool
 
 /// The number that the digits in the text write, or None from 2^127 on.
 fn digits_value(text: &[u8]) -> Option<u128>
-    ensures { SomeIff result (digits_value 10 (filter is_ascii_digit text.now) < 2 ^ 127) (digits_value 10 (filter is_ascii_digit text.now)) }
+    ensures { SomeIff result (digits_value 10 (filter is_ascii_digit text.now) < 2 ^ 127)
+        (digits_value 10 (filter is_ascii_digit text.now)) }
 {
     let number = magnitude(text)?;
     (number < 1 << 127).then_some(number)
@@ -98,7 +99,8 @@ fn digits_value(text: &[u8]) -> Option<u128>
 
 /// The same, or None from 2^128 on.
 fn magnitude(text: &[u8]) -> Option<u128>
-    ensures { SomeIff result (digits_value 10 (filter is_ascii_digit text.now) < 2 ^ 128) (digits_value 10 (filter is_ascii_digit text.now)) }
+    ensures { SomeIff result (digits_value 10 (filter is_ascii_digit text.now) < 2 ^ 128)
+        (digits_value 10 (filter is_ascii_digit text.now)) }
 {
     let mut number = 0u128;
     'digits: for b in text {

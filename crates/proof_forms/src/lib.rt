@@ -20,7 +20,8 @@ pub struct Digest {
     pub tip: BlockAddress,
 }
 
-/// A proof that a revision is in the journal of a digest: the header of its block, its index among the block's revisions,
+/// A proof that a revision is in the journal of a digest: the header of its block, its index among the block's
+/// revisions,
 /// counted from 0, and the hashes with which its own comes to the digest.
 #[derive(Drop)]
 pub struct Proof {

@@ -12,7 +12,8 @@ use std::alloc::Global;
 
 /// The block of the revision, where there is such a revision.
 fn block_at(blocks: &Blocks, sequence: u64, index: u32) -> Result<&Block, NoSuch>
-    ensures there { IfOk result (λ block. spec.IsThere blocks.now.list block.now sequence index (length blocks.now.list - 1)) }
+    ensures there { IfOk result (λ block. spec.IsThere blocks.now.list block.now sequence index
+        (length blocks.now.list - 1)) }
     ensures refused { MatchResult result (λ _. spec.refusal_at_end blocks.now.list sequence index ≡ None)
         (λ e. spec.refusal_at_end blocks.now.list sequence index ≡ Some e) }
 {
@@ -31,8 +32,10 @@ fn block_at(blocks: &Blocks, sequence: u64, index: u32) -> Result<&Block, NoSuch
     block_of(blocks, wanted)
 }
 
-/// The proof of a revision of a chained journal by the tree that grew with it, whose leaves are the hashes of its blocks. It
-/// is that of `prove` with the last block as the tip, and where there is none the refusal is that one's; on no blocks it is
+/// The proof of a revision of a chained journal by the tree that grew with it, whose leaves are the hashes of its
+/// blocks. It
+/// is that of `prove` with the last block as the tip, and where there is none the refusal is that one's; on no blocks
+/// it is
 /// `Block`.
 pub fn prove_grown(
     alloc: Global,

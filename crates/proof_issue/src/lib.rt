@@ -82,8 +82,10 @@ fn past_revisions(block: &Block, index: u32) -> Option<NoSuch>
 
 /// The block of the revision, where there is such a revision and its block isn't past the tip.
 fn block_of(blocks: &Blocks, wanted: Wanted) -> Result<&Block, NoSuch>
-    ensures there { IfOk result (λ block. spec.IsThere blocks.now.list block.now wanted.sequence wanted.index wanted.tip) }
-    ensures refused { MatchResult result (λ _. spec.refusal blocks.now.list wanted.sequence wanted.index wanted.tip ≡ None)
+    ensures there { IfOk result (λ block.
+        spec.IsThere blocks.now.list block.now wanted.sequence wanted.index wanted.tip) }
+    ensures refused { MatchResult result (λ _. spec.refusal blocks.now.list wanted.sequence wanted.index wanted.tip
+        ≡ None)
         (λ e. spec.refusal blocks.now.list wanted.sequence wanted.index wanted.tip ≡ Some e) }
 {
     let Wanted {
@@ -133,12 +135,14 @@ fn root_over(alloc: Global, leaves: &[Hash32]) -> Result<Hash32, OutOfMemory>
     }
 }
 
-/// The digest of a chained journal with this tip: the root of the tree over the hashes of its blocks up to the tip, counted
+/// The digest of a chained journal with this tip: the root of the tree over the hashes of its blocks up to the tip,
+/// counted
 /// from 0. There is none exactly where no block has the tip's number.
 pub fn digest(alloc: Global, blocks: &Blocks, tip: u64) -> Result<Digest, NoSuch>
     requires { Chained blocks.now.list }
     ensures digest { IfOk result (λ d. IsDigest blocks.now.list tip d) }
-    ensures refused { MatchResult result (λ _. spec.past_end blocks.now.list tip ≡ None) (λ e. spec.IsRefused (spec.past_end blocks.now.list tip) e) }
+    ensures refused { MatchResult result (λ _. spec.past_end blocks.now.list tip ≡ None) (λ e.
+        spec.IsRefused (spec.past_end blocks.now.list tip) e) }
 {
     if let Some(refused) = past_end(blocks, tip) {
         return Err(refused);
@@ -226,9 +230,11 @@ fn proof_of(
     Ok(proof)
 }
 
-/// The proof of a revision of a chained journal, by its block's number and its index there, both counted from 0, for the
+/// The proof of a revision of a chained journal, by its block's number and its index there, both counted from 0, for
+/// the
 /// digest with this tip. There is none exactly where, in this order, the tip is no block's number, the number is no
-/// block's, the block is past the tip, or the index is no revision's. The proof is accepted for each revision that has its
+/// block's, the block is past the tip, or the index is no revision's. The proof is accepted for each revision that has
+/// its
 /// block's address, as each has in an undamaged journal.
 pub fn prove(
     alloc: Global,
@@ -238,7 +244,8 @@ pub fn prove(
     tip: u64,
 ) -> Result<Proof, NoSuch>
     requires { Chained blocks.now.list }
-    ensures proof { IfOk result (λ p. IfSome (slice_get blocks.now.list sequence) (λ b. p ≡ proof_for blocks.now.list b sequence index tip)) }
+    ensures proof { IfOk result (λ p. IfSome (slice_get blocks.now.list sequence) (λ b.
+        p ≡ proof_for blocks.now.list b sequence index tip)) }
     ensures accepted { IfOk result (λ p. IsAccepted blocks.now.list sequence index tip p) }
     ensures refused { MatchResult result (λ _. spec.refusal blocks.now.list sequence index tip ≡ None)
         (λ e. spec.IsRefused (spec.refusal blocks.now.list sequence index tip) e) }

@@ -75,7 +75,8 @@ pub(crate) fn committed_rows(
     Ok(rows)
 }
 
-/// The rows of these documents in the table's committed view that meet the probe, in order of first insertion. It looks each
+/// The rows of these documents in the table's committed view that meet the probe, in order of first insertion. It looks
+/// each
 /// document up.
 #[tactic(auto, using(crate::proofs::Latest::rows_committed_among))]
 pub fn committed_among(
@@ -85,7 +86,8 @@ pub fn committed_among(
     table: TableId,
     probe: &Probe,
 ) -> Result<Rows, OutOfMemory>
-    ensures { IfOk result (λ rows. rows ≡ meeting probe.now (rows_among ids.now (committed_view table version.now.revisions))) }
+    ensures { IfOk result (λ rows.
+        rows ≡ meeting probe.now (rows_among ids.now (committed_view table version.now.revisions))) }
 {
     let latest = version.newest_among(alloc, ids)?;
     let rows = live_rows(alloc, latest.as_slice(), table, probe)?;

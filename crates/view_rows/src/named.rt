@@ -41,7 +41,8 @@ fn rows_of(
     table: TableId,
     probe: &Probe,
 ) -> Result<Rows, OutOfMemory>
-    requires { AreNamed ids.now (meets probe.now) (filter_map (row_of table) (latest (map draft_of version.now.revisions))) }
+    requires { AreNamed ids.now (meets probe.now)
+        (filter_map (row_of table) (latest (map draft_of version.now.revisions))) }
     ensures { IfOk result (λ rows. rows ≡ meeting probe.now (user_view table (map draft_of version.now.revisions) [])) }
 {
     let latest = version.newest_among(alloc, ids)?;
@@ -73,7 +74,8 @@ pub(crate) fn latest_named(
     }
 }
 
-/// The rows of the table's committed view that meet the probe. It looks a document up that the probe names, and goes over all
+/// The rows of the table's committed view that meet the probe. It looks a document up that the probe names, and goes
+/// over all
 /// documents otherwise.
 #[tactic(auto, using(crate::proofs::Naming::committed_alone))]
 pub(crate) fn committed_named(

@@ -12,7 +12,8 @@ use ql_types::TableId;
 use std::alloc::Global;
 use versions::Versions;
 
-/// The rows of the table's view that meet the probe, with no changes that pend, in the view's order. Documents that the probe
+/// The rows of the table's view that meet the probe, with no changes that pend, in the view's order. Documents that the
+/// probe
 /// names are looked up; otherwise it goes once over all documents, and of a history once over all revisions.
 pub fn view_rows(
     alloc: Global,

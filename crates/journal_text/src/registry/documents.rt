@@ -60,7 +60,8 @@ impl Latest {
 
     /// Whether a revision of a document of this table can come next.
     fn is_continued(&self, table: TableId, revision: &Revision) -> bool
-        ensures { result ≡ ((table.raw == self.now.table.raw) && (revision.now.metadata.version == self.now.version + 1) && self.now.is_kept) }
+        ensures { result ≡ ((table.raw == self.now.table.raw) && (revision.now.metadata.version == self.now.version + 1)
+            && self.now.is_kept) }
     {
         table.raw == self.table.raw
             && is_next(self.version, revision.metadata.version)
@@ -80,7 +81,9 @@ impl Documents {
 
     /// Whether the revision, of a document of this table, is a new document's first or another one's next.
     pub(super) fn is_continued(&self, table: TableId, revision: &Revision) -> bool
-        ensures { (revisions : List Recorded) → DocumentsStand revisions self.now → result ≡ continues (record { table = table; revision = revision.now }) (latest_of revisions revision.now.metadata.id.raw) }
+        ensures { (revisions : List Recorded) → DocumentsStand revisions self.now
+            → result ≡ continues (record { table = table; revision = revision.now })
+            (latest_of revisions revision.now.metadata.id.raw) }
     {
         match self.latest.get(&revision.metadata.id.raw) {
             Some(latest) => latest.is_continued(table, revision),
@@ -90,7 +93,8 @@ impl Documents {
 
     /// Puts the id of the revision's document behind the ids, if the document is new.
     fn add_if_new(&self, ids: &mut Vec<u128>, revision: &Revision) -> Result<(), OutOfMemory>
-        ensures { (before : List Recorded) → DocumentsStand before self.now → OnOk result (ids.new.items ≡ ids.old.items ++ filter (is_new before) (revision.now.metadata.id.raw ∷ [])) }
+        ensures { (before : List Recorded) → DocumentsStand before self.now → OnOk result (ids.new.items ≡ ids.old.items
+            ++ filter (is_new before) (revision.now.metadata.id.raw ∷ [])) }
     {
         let id = revision.metadata.id.raw;
         if self.latest.contains_key(&id) {
@@ -106,7 +110,8 @@ impl Documents {
         ids: &mut Vec<u128>,
         revisions: &[Revision],
     ) -> Result<(), OutOfMemory>
-        ensures { (before : List Recorded) → DocumentsStand before self.now → OnOk result (ids.new.items ≡ ids.old.items ++ filter (is_new before) (document_ids revisions.now)) }
+        ensures { (before : List Recorded) → DocumentsStand before self.now → OnOk result (ids.new.items ≡ ids.old.items
+            ++ filter (is_new before) (document_ids revisions.now)) }
     {
         'revisions: for revision in revisions {
             self.add_if_new(ids, revision)?;
@@ -120,7 +125,8 @@ impl Documents {
         tables: &[TableId],
         revisions: &[Revision],
     ) -> Result<(), OutOfMemory>
-        ensures { (before : List Recorded) → DocumentsStand before self.old → OnOk result (DocumentsStand (before ++ recorded_in tables.now revisions.now) self.new) }
+        ensures { (before : List Recorded) → DocumentsStand before self.old
+            → OnOk result (DocumentsStand (before ++ recorded_in tables.now revisions.now) self.new) }
     {
         let shorter = tables.len().min(revisions.len());
         'revisions: for at in 0..shorter {

@@ -85,7 +85,8 @@ fn all_made_by(strand: StrandId, number: u64, ids: &[u128]) -> bool
 
 /// Whether the transaction, whose number fits 64 bits, made each thing of these ids.
 pub(super) fn are_made_by(strand: StrandId, tx: TxId, ids: &[u128]) -> bool
-    ensures { transaction_in strand.raw tx.raw < 2 ^ 64 → result ≡ list_all (spec.is_made_by strand.raw (transaction_in strand.raw tx.raw)) ids.now }
+    ensures { transaction_in strand.raw tx.raw < 2 ^ 64
+        → result ≡ list_all (spec.is_made_by strand.raw (transaction_in strand.raw tx.raw)) ids.now }
 {
     match id_parts(IdMask { bits: strand.raw }, tx.raw) {
         Some((number, _)) => all_made_by(strand, number, ids),

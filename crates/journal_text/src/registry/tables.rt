@@ -33,14 +33,16 @@ impl Tables {
 
     /// Whether an active table has this id.
     pub(super) fn is_active(&self, id: TableId) -> bool
-        ensures { (tables : List Table) (indexes : List Indexed) → TablesStand tables indexes self.now → result ≡ is_active tables id }
+        ensures { (tables : List Table) (indexes : List Indexed) → TablesStand tables indexes self.now
+            → result ≡ is_active tables id }
     {
         self.active.contains(&id.raw)
     }
 
     /// Whether the active table of this name has this id.
     fn is_named(&self, name: &Text, id: TableId) -> bool
-        ensures { (tables : List Table) (indexes : List Indexed) → TablesStand tables indexes self.now → result ≡ is_named tables name.now id }
+        ensures { (tables : List Table) (indexes : List Indexed) → TablesStand tables indexes self.now
+            → result ≡ is_named tables name.now id }
     {
         match self.names.get(name.as_str()) {
             Some(found) => found.raw == id.raw,
@@ -50,7 +52,8 @@ impl Tables {
 
     /// Creates a table, if no active one has its name.
     fn create(&mut self, alloc: Global, name: &Text, id: TableId) -> Result<bool, OutOfMemory>
-        ensures { (tables : List Table) (indexes : List Indexed) → TablesStand tables indexes self.old → IfOk result (λ b. Changes tables indexes (change.Create name.now id) b self.new) }
+        ensures { (tables : List Table) (indexes : List Indexed) → TablesStand tables indexes self.old
+            → IfOk result (λ b. Changes tables indexes (change.Create name.now id) b self.new) }
     {
         if self.names.contains_key(name.as_str()) {
             return Ok(false);
@@ -63,7 +66,8 @@ impl Tables {
 
     /// Gives a field an index, if its table is active and it has none.
     fn index(&mut self, alloc: Global, field: &Text, id: TableId) -> Result<bool, OutOfMemory>
-        ensures { (tables : List Table) (indexes : List Indexed) → TablesStand tables indexes self.old → IfOk result (λ b. Changes tables indexes (change.Index field.now id) b self.new) }
+        ensures { (tables : List Table) (indexes : List Indexed) → TablesStand tables indexes self.old
+            → IfOk result (λ b. Changes tables indexes (change.Index field.now id) b self.new) }
     {
         if !self.is_active(id) {
             return Ok(false);
@@ -75,7 +79,8 @@ impl Tables {
 
     /// Drops a table, if it is the active one of this name.
     fn remove(&mut self, name: &Text, id: TableId) -> bool
-        ensures { (tables : List Table) (indexes : List Indexed) → TablesStand tables indexes self.old → all_differ (table_ids tables) ≡ true → Changes tables indexes (change.Drop name.now id) result self.new }
+        ensures { (tables : List Table) (indexes : List Indexed) → TablesStand tables indexes self.old
+            → all_differ (table_ids tables) ≡ true → Changes tables indexes (change.Drop name.now id) result self.new }
     {
         if !self.is_named(name, id) {
             return false;
@@ -87,7 +92,8 @@ impl Tables {
 
     /// Makes a change of the schema, if it can be made.
     fn change(&mut self, alloc: Global, change: &Schema) -> Result<bool, OutOfMemory>
-        ensures { (tables : List Table) (indexes : List Indexed) → TablesStand tables indexes self.old → all_differ (table_ids tables) ≡ true → IfOk result (λ b. Changes tables indexes change.now b self.new) }
+        ensures { (tables : List Table) (indexes : List Indexed) → TablesStand tables indexes self.old
+            → all_differ (table_ids tables) ≡ true → IfOk result (λ b. Changes tables indexes change.now b self.new) }
     {
         match change {
             Schema::Create { name, table } => self.create(alloc, name, *table),
@@ -104,7 +110,9 @@ impl Tables {
         alloc: Global,
         schema: &[Schema],
     ) -> Result<bool, OutOfMemory>
-        ensures { (tables : List Table) (indexes : List Indexed) → TablesStand tables indexes self.old → all_differ (table_ids tables ++ created_ids schema.now) ≡ true → IfOk result (λ b. AllChange tables indexes schema.now b self.new) }
+        ensures { (tables : List Table) (indexes : List Indexed) → TablesStand tables indexes self.old
+            → all_differ (table_ids tables ++ created_ids schema.now) ≡ true
+            → IfOk result (λ b. AllChange tables indexes schema.now b self.new) }
     {
         'changes: for change in schema {
             if !self.change(alloc, change)? {

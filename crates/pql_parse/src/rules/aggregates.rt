@@ -9,7 +9,8 @@ use pql_model::{Mark, ParseKind, Place, Role};
 
 /// The first fault in aggregates.
 pub fn first_mixed(marks: &[Mark]) -> Option<Fault>
-    ensures { option_map fault_of result ≡ spec.first_fault (λ m. spec.mixed (spec.has_whole marks.now) m.place m.role) marks.now }
+    ensures { option_map fault_of result ≡ spec.first_fault (λ m. spec.mixed (spec.has_whole marks.now) m.place m.role)
+        marks.now }
 {
     let grouped = has_whole(marks);
     'marks: for mark in marks {
