@@ -12,6 +12,9 @@ import time
 from pathlib import Path
 
 TOP = Path(__file__).resolve().parent.parent
+sys.path.insert(0, str(TOP / "bench"))
+from callgrind import counted
+
 WORDS = ["run", "--plain-ids", "--at", "2020-01-01T00:00:00.000Z"]
 ROUNDS, COMMITS = 5, 500
 FEW, MANY = 100, 300
@@ -82,12 +85,11 @@ def instructions(program, folder):
     """Instructions a commit, and those of SHA-256 among them."""
     counts = []
     for commits in (FEW, MANY):
-        said = folder / "instructions"
-        run(["valgrind", "-q", "--tool=callgrind", f"--callgrind-out-file={said}", program], folder, commits)
-        table = subprocess.run(["callgrind_annotate", "--threshold=100", said], capture_output=True, text=True).stdout
-        lines = re.findall(r"^\s*([\d,]+)\s+\([\s\d.]+%\)\s+(.*)$", table, re.M)
-        told = [(int(count.replace(",", "")), name) for count, name in lines]
-        counts.append((told[0][0], sum(count for count, name in told[1:] if "sha2" in name)))
+        (folder / "journal").unlink(missing_ok=True)
+        report, count, hashed = counted([program, folder / "journal", *WORDS], script(commits), folder / "instructions")
+        if report.count(b"outcome:committed") != commits + 1:
+            sys.exit(report[-500:].decode())
+        counts.append((count, hashed))
     (few, few_hashed), (many, many_hashed) = counts
     each, hashed = (many - few) / (MANY - FEW), (many_hashed - few_hashed) / (MANY - FEW)
     print(f"instructions a commit: {each:.0f}, of which SHA-256 {hashed:.0f}")

@@ -9,32 +9,26 @@ should be.
 The program is crates/ledger/out/ledger, where `rt ci` leaves it, or another path.
 """
 import re
-import subprocess
 import sys
 import tempfile
 from pathlib import Path
 
-ROOT = Path(__file__).resolve().parent.parent
-PROGRAM = ROOT / "crates" / "ledger" / "out" / "ledger"
+import running
+from running import PROGRAM, ROOT, check
+
 WORDS = ["run", "--plain-ids", "--at", "2020-05-05T10:00:00.000Z", "--workers"]
 WORKERS = [1, 2, 4]
 TIMES = 5
+SECONDS = 60
 TRANSFERS = 12
 WHOLE = "[{total:400}]"
 STATES = "[{accounts:4,total:400}],[{owner:\"Ada\",amount:160},{owner:\"Eve\",amount:65},{owner:\"Grace\",amount:90},{owner:\"Kay\",amount:85}]"
 
 
-def check(holds, what):
-    if not holds:
-        sys.exit(f"not so: {what}")
-
-
 def run(program, journal, part, workers):
     """The lines of the report of this part."""
-    command = [program, str(journal), *WORDS, str(workers)]
-    ended = subprocess.run(command, input=(ROOT / "examples" / f"bank.{part}.ion").read_bytes(), capture_output=True)
-    check(ended.returncode == 0, f"status 0 and not {ended.returncode}: {ended.stdout!r}")
-    return ended.stdout.decode().splitlines()
+    script = (ROOT / "examples" / f"bank.{part}.ion").read_bytes()
+    return running.run([program, journal, *WORDS, workers], script, SECONDS)
 
 
 def judge(program, journal, workers):

@@ -10,13 +10,13 @@ where something isn't as it should be.
 The program is crates/ledger/out/ledger, where `rt ci` leaves it, or another path.
 """
 import re
-import subprocess
 import sys
 import tempfile
 from pathlib import Path
 
-ROOT = Path(__file__).resolve().parent.parent
-PROGRAM = ROOT / "crates" / "ledger" / "out" / "ledger"
+import running
+from running import PROGRAM, check
+
 WORDS = ["run", "--plain-ids", "--at", "2020-01-01T00:00:00.000Z", "--workers"]
 RUNS = 200
 WORKERS = 8
@@ -30,20 +30,8 @@ LINE = re.compile(r"\{session:(\d+),transaction:(\d+),outcome:(committed|conflic
 CONFLICT = re.compile(r",block:(\d+),item:\{kind:doc,table:\"\w{22}\",id:\"\w{22}\"\}|,block:(\d+),item:\{kind:table,table:\"\w{22}\"\}")
 
 
-def check(holds, what):
-    if not holds:
-        sys.exit(f"not so: {what}")
-
-
 def run(program, journal, workers, script):
-    """The lines of the script's report."""
-    command = [program, str(journal), *WORDS, str(workers)]
-    try:
-        ended = subprocess.run(command, input=script.encode(), capture_output=True, timeout=SECONDS)
-    except subprocess.TimeoutExpired:
-        sys.exit(f"not so: the run ends within {SECONDS} seconds")
-    check(ended.returncode == 0, f"status 0 and not {ended.returncode}: {ended.stdout!r} {ended.stderr!r}")
-    return ended.stdout.decode().splitlines()
+    return running.run([program, journal, *WORDS, workers], script.encode(), SECONDS)
 
 
 def ascend(numbers):

@@ -14,8 +14,9 @@ import sys
 import tempfile
 from pathlib import Path
 
-ROOT = Path(__file__).resolve().parent.parent
-PROGRAM = ROOT / "crates" / "ledger" / "out" / "ledger"
+import running
+from running import PROGRAM, check
+
 WORDS = ["run", "--plain-ids", "--at", "2020-01-01T00:00:00.000Z", "--workers"]
 WORKERS = 64
 DEEPEST = 70
@@ -24,11 +25,6 @@ SHARE = 32
 SECONDS = 300
 LEVELS = 64
 DOCUMENT = "a parameter or a document that nests too deep"
-
-
-def check(holds, what):
-    if not holds:
-        sys.exit(f"not so: {what}")
 
 
 # ---- what nests
@@ -178,14 +174,7 @@ def constructs():
 # ---- runs
 
 def run(program, journal, workers, script):
-    """The lines of the script's report."""
-    command = [program, str(journal), *WORDS, str(workers)]
-    try:
-        ended = subprocess.run(command, input=script.encode(), capture_output=True, timeout=SECONDS)
-    except subprocess.TimeoutExpired:
-        sys.exit(f"not so: the run ends within {SECONDS} seconds")
-    check(ended.returncode == 0, f"status 0 and not {ended.returncode}: {ended.stdout[:500]!r} {ended.stderr[-2000:]!r}")
-    return ended.stdout.decode().splitlines()
+    return running.run([program, journal, *WORDS, workers], script.encode(), SECONDS)
 
 
 def session(transactions):
