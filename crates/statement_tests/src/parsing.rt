@@ -32,6 +32,14 @@ fn fails(alloc: Global, text: &str, at: usize, kind: ParseKind) -> bool {
     }
 }
 
+/// Whether this is told of a text: the kind of its fault, which is at this offset, or `Read`.
+fn is_told(alloc: Global, text: &str, kind: &str, at: usize) -> bool {
+    if kind == "Read" {
+        return is_read(alloc, text);
+    }
+    fails(alloc, text, at, kind_of(kind))
+}
+
 /// The kind that a row of a table names.
 fn kind_of(name: &str) -> ParseKind {
     match name {

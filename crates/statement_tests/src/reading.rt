@@ -1,7 +1,7 @@
 //! Values and statements that texts are read as.
 use ion_text::{read_stream, write};
 use ion_values::{Value, Values};
-use pql_model::{FromClause, Select, Statement};
+use pql_model::{Expr, FromClause, Select, Statement};
 use pql_parse::parse;
 use std::alloc::Global;
 
@@ -21,14 +21,15 @@ pub fn written(alloc: Global, values: &[Value]) -> Option<String> {
     Some(out)
 }
 
-fn statement(alloc: Global, before: &str, text: &str, after: &str) -> Option<Statement> {
+/// The statement of a text between two others.
+pub fn statement(alloc: Global, before: &str, text: &str, after: &str) -> Option<Statement> {
     let text = format!(in alloc; "{before}{text}{after}").ok()?;
     parse(alloc, text.as_str()).ok()
 }
 
-/// The statement that selects this of the sources `t` and `u`.
+/// The statement that selects this of the sources `t`, which has the BY name `id`, `u`, `b` and `d`.
 pub fn selecting(alloc: Global, text: &str) -> Option<Statement> {
-    statement(alloc, "SELECT ", text, " FROM t, u")
+    statement(alloc, "SELECT ", text, " FROM t BY id, u, b, d")
 }
 
 /// The statement that selects all of these sources.
@@ -44,7 +45,19 @@ pub fn select_of(statement: &Statement) -> Option<&Select> {
     }
 }
 
-/// Of which sources it does.
+/// The expression that a statement selects the VALUE of, or that is its first item.
+pub fn expression_of(statement: &Statement) -> Option<&Expr> {
+    match select_of(statement)? {
+        Select::Value(value) => Some(value),
+        Select::Items(items) => match items.as_slice() {
+            [first, ..] => Some(&first.value),
+            _ => None,
+        },
+        Select::Star => None,
+    }
+}
+
+/// Of which sources a statement selects.
 pub fn clause_of(statement: &Statement) -> Option<&FromClause> {
     match statement {
         Statement::Select { select: _, from } => Some(from),

@@ -1,25 +1,21 @@
 //! The rows of FROM over a table in memory.
 use crate::reading::{clause_of, selecting_from, values};
 use crate::shelf::Shelf;
-use ion_values::{Body, Value, copy};
+use ion_values::{Body, Value};
 use lists::{Sequence, Text};
 use pql_from::bindings;
 use pql_model::{Bindings, Bound, Expr, FromClause, Row, Rows, Statement};
 use ql_types::DocId;
 use std::alloc::Global;
-use std::test::Fail;
 
 /// The documents of these values, of the ids 1 and so on.
 fn documents(alloc: Global, text: &str) -> Option<Rows> {
     let mut rows = Sequence::new(alloc);
     let mut raw: u128 = 0;
-    for value in values(alloc, text)?.as_slice() {
+    for value in values(alloc, text)?.into_vec() {
         raw = raw.saturating_add(1);
-        rows.push(Row {
-            id: DocId { raw },
-            value: copy(alloc, value).ok()?,
-        })
-        .ok()?;
+        let id = DocId { raw };
+        rows.push(Row { id, value }).ok()?;
     }
     Some(rows)
 }
@@ -99,14 +95,16 @@ fn given_of(alloc: Global, text: &str) -> Option<Text> {
     given(alloc, clause_of(&statement)?)
 }
 
+fn row_holds(alloc: Global, row: &str) -> Option<bool> {
+    let (text, rows) = row.split_once(" ->")?;
+    Some(given_of(alloc, text)?.as_str() == rows)
+}
+
 #[test]
-fn a_clause_gives_its_rows(rt: HostRuntime) -> Result<(), Fail> {
-    for line in CLAUSES.lines() {
-        let (text, rows) = line.split_once(" ->").ok_or("a line without its rows")?;
-        let found = given_of(rt.alloc(), text).ok_or("a clause that is not read, or no memory")?;
-        assert_eq!(rt; found.as_str(), rows, "{text}");
+fn a_clause_gives_its_rows(rt: HostRuntime) {
+    for row in CLAUSES.lines() {
+        assert!(rt; row_holds(rt.alloc(), row) == Some(true), "{row}");
     }
-    Ok(())
 }
 
 /// The rows of no source on this condition.

@@ -1,10 +1,8 @@
 //! How operators bind.
 use super::fails;
-use pql_model::{Expr, Operator, ParseKind, Select, Statement};
-use pql_parse::{ParseAnswer, parse};
+use crate::reading::{expression_of, statement};
+use pql_model::{Expr, Operator, ParseKind};
 use std::alloc::Global;
-use std::process::Abort;
-use std::test::Fail;
 
 // The operators between two operands with their layers, from the loosest on. Those of layer 4 don't chain.
 const OPERATORS: &str = "1 OR
@@ -89,117 +87,119 @@ fn sign(op: Operator) -> &'static str {
 }
 
 /// An expression of names and operators with its brackets. Steps of paths are left out.
-fn bracketed(alloc: Global, e: &Expr) -> Result<String, Fail> {
+fn bracketed(alloc: Global, e: &Expr) -> Option<String> {
     match e {
-        Expr::Path(path) => Ok(String::from_str(alloc, path.first.as_str())?),
-        Expr::Negate(e) => of_one(alloc, "-", &bracketed(alloc, e.get())?, ""),
-        Expr::Not(e) => of_one(alloc, "NOT ", &bracketed(alloc, e.get())?, ""),
-        Expr::IsNull(e) => of_one(alloc, "(", &bracketed(alloc, e.get())?, " IS NULL)"),
-        Expr::IsMissing(e) => of_one(alloc, "(", &bracketed(alloc, e.get())?, " IS MISSING)"),
+        Expr::Path(path) => String::from_str(alloc, path.first.as_str()).ok(),
+        Expr::Negate(e) => of_one(alloc, "-", bracketed(alloc, e.get()), ""),
+        Expr::Not(e) => of_one(alloc, "NOT ", bracketed(alloc, e.get()), ""),
+        Expr::IsNull(e) => of_one(alloc, "(", bracketed(alloc, e.get()), " IS NULL)"),
+        Expr::IsMissing(e) => of_one(alloc, "(", bracketed(alloc, e.get()), " IS MISSING)"),
         Expr::Binary { op, left, right } => {
-            let left = bracketed(alloc, left.get())?;
-            of_two(alloc, &left, sign(*op), &bracketed(alloc, right.get())?)
+            let left = bracketed(alloc, left.get());
+            of_two(alloc, left, sign(*op), bracketed(alloc, right.get()))
         }
         Expr::IsIn { value, list } => {
-            let value = bracketed(alloc, value.get())?;
-            of_two(alloc, &value, "IN", &bracketed(alloc, list.get())?)
+            let value = bracketed(alloc, value.get());
+            of_two(alloc, value, "IN", bracketed(alloc, list.get()))
         }
         Expr::Like { value, pattern } => {
-            let value = bracketed(alloc, value.get())?;
-            of_two(alloc, &value, "LIKE", &bracketed(alloc, pattern.get())?)
+            let value = bracketed(alloc, value.get());
+            of_two(alloc, value, "LIKE", bracketed(alloc, pattern.get()))
         }
         Expr::Between { value, low, high } => {
-            let value = bracketed(alloc, value.get())?;
-            let low = bracketed(alloc, low.get())?;
-            between(alloc, &value, &low, &bracketed(alloc, high.get())?)
+            let value = bracketed(alloc, value.get());
+            let low = bracketed(alloc, low.get());
+            let bounds = of_bounds(alloc, low, bracketed(alloc, high.get()));
+            of_two(alloc, value, "BETWEEN", bounds)
         }
-        _ => Ok(String::from_str(alloc, "?")?),
+        _ => String::from_str(alloc, "?").ok(),
     }
 }
 
-fn of_one(alloc: Global, before: &str, operand: &str, after: &str) -> Result<String, Fail> {
-    Ok(format!(in alloc; "{before}{operand}{after}")?)
+fn of_one(alloc: Global, before: &str, operand: Option<String>, after: &str) -> Option<String> {
+    let operand = operand?;
+    format!(in alloc; "{before}{operand}{after}").ok()
 }
 
-fn of_two(alloc: Global, left: &str, sign: &str, right: &str) -> Result<String, Fail> {
-    Ok(format!(in alloc; "({left} {sign} {right})")?)
+fn of_two(
+    alloc: Global,
+    left: Option<String>,
+    sign: &str,
+    right: Option<String>,
+) -> Option<String> {
+    let left = left?;
+    let right = right?;
+    format!(in alloc; "({left} {sign} {right})").ok()
 }
 
-fn between(alloc: Global, value: &str, low: &str, high: &str) -> Result<String, Fail> {
-    Ok(format!(in alloc; "({value} BETWEEN {low} AND {high})")?)
+fn of_bounds(alloc: Global, low: Option<String>, high: Option<String>) -> Option<String> {
+    let low = low?;
+    let high = high?;
+    format!(in alloc; "{low} AND {high}").ok()
 }
 
-fn read(alloc: Global, expression: &str) -> Result<String, Fail> {
-    let text = format!(in alloc; "SELECT VALUE {expression} FROM t")?;
-    let answer = parse(alloc, text.as_str());
-    match answer_of(&answer) {
-        Some(e) => bracketed(alloc, e),
-        None => Ok(String::from_str(alloc, "no expression")?),
-    }
+fn is_bracketed(alloc: Global, expression: &str, wanted: &str) -> Option<bool> {
+    let statement = statement(alloc, "SELECT VALUE ", expression, " FROM t")?;
+    let found = bracketed(alloc, expression_of(&statement)?)?;
+    Some(found.as_str() == wanted)
 }
 
-fn answer_of(answer: &Result<Statement, ParseAnswer>) -> Option<&Expr> {
-    match answer {
-        Ok(
-            Statement::Select {
-                select: Select::Value(e),
-                from: _,
-            },
-        ) => Some(e),
-        _ => None,
-    }
+/// Whether an expression of the table has its brackets.
+fn row_holds(alloc: Global, row: &str) -> Option<bool> {
+    let (expression, wanted) = row.split_once(" : ")?;
+    is_bracketed(alloc, expression, wanted)
 }
 
-/// Two operators between three operands.
-fn test_pair(rt: &impl Abort, alloc: Global, first: &str, second: &str) -> Result<(), Fail> {
-    let (layer, first) = first.split_once(" ").ok_or("no layer")?;
-    let (second_layer, second) = second.split_once(" ").ok_or("no layer")?;
+/// Whether two operators bind by their layers between three operands.
+fn pair_binds(alloc: Global, first: &str, second: &str) -> Option<bool> {
+    let (layer, first) = first.split_once(' ')?;
+    let (second_layer, second) = second.split_once(' ')?;
     if layer == "4" && second_layer == "4" {
-        return Ok(());
+        return Some(true);
     }
-    let found = read(alloc, format!(in alloc; "a {first} b {second} c")?.as_str())?;
-    let expected = if layer < second_layer {
-        format!(in alloc; "(a {first} (b {second} c))")?
-    } else {
-        format!(in alloc; "((a {first} b) {second} c)")?
-    };
-    assert_eq!(rt; found.as_str(), expected.as_str());
-    Ok(())
+    let text = format!(in alloc; "a {first} b {second} c").ok()?;
+    let wanted = grouped(alloc, first, second, layer < second_layer)?;
+    is_bracketed(alloc, text.as_str(), wanted.as_str())
 }
 
-/// Two comparisons of one operand, of which the second is refused.
-fn test_chain(rt: &impl Abort, alloc: Global, first: &str, second: &str) -> Result<(), Fail> {
-    let before = format!(in alloc; "SELECT VALUE a {first} ")?;
-    let text = format!(in alloc; "{before}{second} FROM t")?;
-    assert!(rt;
-        fails(alloc, text.as_str(), before.len(), ParseKind::Unexpected),
-        "{}",
-        text
-    );
-    Ok(())
+/// Three operands of two operators with the brackets of the right ones, or of the left ones.
+fn grouped(alloc: Global, first: &str, second: &str, is_right: bool) -> Option<String> {
+    if is_right {
+        return format!(in alloc; "(a {first} (b {second} c))").ok();
+    }
+    format!(in alloc; "((a {first} b) {second} c)").ok()
+}
+
+/// Whether of two comparisons of one operand the second is refused.
+fn is_no_chain(alloc: Global, first: &str, second: &str) -> Option<bool> {
+    let before = format!(in alloc; "SELECT VALUE a {first} ").ok()?;
+    let text = format!(in alloc; "{before}{second} FROM t").ok()?;
+    Some(fails(alloc, text.as_str(), before.len(), ParseKind::Unexpected))
 }
 
 #[test]
-fn operators_bind_by_their_layers(rt: HostRuntime) -> Result<(), Fail> {
+fn operators_bind_by_their_layers(rt: HostRuntime) {
+    for row in ROWS.lines() {
+        assert!(rt; row_holds(rt.alloc(), row) == Some(true), "{row}");
+    }
     for first in OPERATORS.lines() {
         for second in OPERATORS.lines() {
-            test_pair(&rt, rt.alloc(), first, second)?;
+            assert!(rt;
+                pair_binds(rt.alloc(), first, second) == Some(true),
+                "{first} {second}"
+            );
         }
     }
-    for row in ROWS.lines() {
-        let (expression, expected) = row.split_once(" : ").ok_or("no colon")?;
-        let found = read(rt.alloc(), expression)?;
-        assert_eq!(rt; found.as_str(), expected);
-    }
-    Ok(())
 }
 
 #[test]
-fn comparisons_do_not_chain(rt: HostRuntime) -> Result<(), Fail> {
+fn comparisons_do_not_chain(rt: HostRuntime) {
     for first in COMPARISONS.lines() {
         for second in COMPARISONS.lines() {
-            test_chain(&rt, rt.alloc(), first, second)?;
+            assert!(rt;
+                is_no_chain(rt.alloc(), first, second) == Some(true),
+                "{first} {second}"
+            );
         }
     }
-    Ok(())
 }

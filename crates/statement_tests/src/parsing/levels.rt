@@ -1,10 +1,8 @@
 //! How deep expressions may nest, and how long texts may be.
-use super::{fails, failure, is_read};
+use super::{fails, failure, is_read, is_told};
 use pql_model::ParseKind;
 use pql_parse::ParseAnswer;
 use std::alloc::Global;
-use std::process::Abort;
-use std::test::Fail;
 
 // How often a construct may stand in itself round an operand, with which there are 64 levels; that operand;
 // the offset of the token that is too deep where it stands once more, round a 1; and the construct, in
@@ -95,20 +93,48 @@ UPDATE t INSERT INTO a VALUE 1 AT ~
 UPDATE t REMOVE a[~]
 DELETE FROM t WHERE ~";
 
-fn repeated(alloc: Global, part: &str, count: u32) -> Result<String, Fail> {
-    let mut text = String::new(alloc);
-    for _ in 0..count {
-        text.push_str(part)?;
-    }
-    Ok(text)
+// What is told of a text, and at which offset; and the text, in which what stands between two `~` stands so often. A last
+// token may be too deep, one that is refused itself has its own kind, and so has the text's end.
+const REPEATED: &str = "TooDeep 77 64 INSERT INTO t ~(~
+TextEnds 77 63 INSERT INTO t ~(~
+NotAToken 78 64 INSERT INTO t ~[~#
+TextEnds 78 64 INSERT INTO t ~[~
+Read 0 99988 DROP TABLE t~ ~
+TooLong 100000 99988 #DROP TABLE t~ ~
+TextEnds 100000 99988 DROP TABLE  ~ ~
+NotAToken 99999 99988 DROP TABLE ~ ~#
+Read 0 32767 INSERT INTO t 0.~0~
+TooWide 14 32767 INSERT INTO t 0.~0~0";
+
+/// A text in which the part between two `~` stands so often.
+fn repeated(alloc: Global, text: &str, count: &str) -> Option<String> {
+    let count = count.parse::<usize>().ok()?;
+    let (before, rest) = text.split_once('~')?;
+    let (part, after) = rest.split_once('~')?;
+    let parts = part.repeat(alloc, count).ok()?;
+    format!(in alloc; "{before}{parts}{after}").ok()
+}
+
+fn repeated_holds(alloc: Global, row: &str) -> Option<bool> {
+    let (kind, rest) = row.split_once(' ')?;
+    let (at, rest) = rest.split_once(' ')?;
+    let (count, text) = rest.split_once(' ')?;
+    let text = repeated(alloc, text, count)?;
+    Some(is_told(alloc, text.as_str(), kind, at.parse::<usize>().ok()?))
 }
 
 /// A construct that stands so often in itself, round an operand.
-fn nested(alloc: Global, construct: &str, count: u32, operand: &str) -> Result<String, Fail> {
-    let (open, close) = construct.split_once("~").ok_or("no mark")?;
-    let open = repeated(alloc, open, count)?;
-    let close = repeated(alloc, close, count)?;
-    Ok(format!(in alloc; "{open}{operand}{close}")?)
+fn nested(alloc: Global, construct: &str, count: usize, operand: &str) -> Option<String> {
+    let (open, close) = construct.split_once('~')?;
+    let open = open.repeat(alloc, count).ok()?;
+    let close = close.repeat(alloc, count).ok()?;
+    format!(in alloc; "{open}{operand}{close}").ok()
+}
+
+/// The text that inserts a construct that stands so often in itself.
+fn inserted(alloc: Global, construct: &str, count: usize, operand: &str) -> Option<String> {
+    let text = nested(alloc, construct, count, operand)?;
+    format!(in alloc; "INSERT INTO t {text}").ok()
 }
 
 fn is_too_deep(alloc: Global, text: &str) -> bool {
@@ -118,84 +144,52 @@ fn is_too_deep(alloc: Global, text: &str) -> bool {
     }
 }
 
-fn test_construct(rt: &impl Abort, alloc: Global, row: &str) -> Result<(), Fail> {
-    let (count, rest) = row.split_once(" ").ok_or("no number")?;
-    let (operand, rest) = rest.split_once(" ").ok_or("no operand")?;
-    let (at, construct) = rest.split_once(" ").ok_or("no offset")?;
-    let count = count.parse::<u32>()?;
-    let at = at.parse::<usize>()?;
-    let most = nested(alloc, construct, count, operand)?;
-    let text = format!(in alloc; "INSERT INTO t {most}")?;
-    assert!(rt; !is_too_deep(alloc, text.as_str()), "{}", row);
-    let more = nested(alloc, construct, count.saturating_add(1), "1")?;
-    let text = format!(in alloc; "INSERT INTO t {more}")?;
-    assert!(rt;
-        fails(alloc, text.as_str(), at, ParseKind::TooDeep),
-        "{}",
-        row
-    );
-    Ok(())
+/// Whether a construct may stand so often in itself, and is too deep at this offset where it stands once more.
+fn is_bounded(
+    alloc: Global,
+    construct: &str,
+    count: usize,
+    operand: &str,
+    at: usize,
+) -> Option<bool> {
+    let most = inserted(alloc, construct, count, operand)?;
+    let more = inserted(alloc, construct, count.saturating_add(1), "1")?;
+    Some(!is_too_deep(alloc, most.as_str()) && fails(alloc, more.as_str(), at, ParseKind::TooDeep))
 }
 
-fn test_place(rt: &impl Abort, alloc: Global, row: &str) -> Result<(), Fail> {
-    let (before, after) = row.split_once("~").ok_or("no mark")?;
-    let most = nested(alloc, "(~)", 63, "1")?;
-    let text = format!(in alloc; "{before}{most}{after}")?;
-    assert!(rt; is_read(alloc, text.as_str()), "{}", row);
-    let more = nested(alloc, "(~)", 64, "1")?;
-    let text = format!(in alloc; "{before}{more}{after}")?;
+fn construct_holds(alloc: Global, row: &str) -> Option<bool> {
+    let (count, rest) = row.split_once(' ')?;
+    let (operand, rest) = rest.split_once(' ')?;
+    let (at, construct) = rest.split_once(' ')?;
+    let count = count.parse::<usize>().ok()?;
+    let at = at.parse::<usize>().ok()?;
+    is_bounded(alloc, construct, count, operand, at)
+}
+
+/// The text of a place whose expression is so many brackets round an operand.
+fn bracketed(alloc: Global, place: &str, count: usize) -> Option<String> {
+    let (before, after) = place.split_once('~')?;
+    let brackets = nested(alloc, "(~)", count, "1")?;
+    format!(in alloc; "{before}{brackets}{after}").ok()
+}
+
+fn place_holds(alloc: Global, place: &str) -> Option<bool> {
+    let most = bracketed(alloc, place, 63)?;
+    let more = bracketed(alloc, place, 64)?;
+    let (before, _) = place.split_once('~')?;
     let at = before.len().saturating_add(63);
-    assert!(rt;
-        fails(alloc, text.as_str(), at, ParseKind::TooDeep),
-        "{}",
-        row
-    );
-    Ok(())
-}
-
-/// A last token may be too deep, one that is refused itself has its own kind, and so has the text's end.
-fn test_last(rt: &impl Abort, alloc: Global) -> Result<(), Fail> {
-    let brackets = repeated(alloc, "(", 64)?;
-    let text = format!(in alloc; "INSERT INTO t {brackets}")?;
-    assert!(rt; fails(alloc, text.as_str(), 77, ParseKind::TooDeep));
-    let brackets = repeated(alloc, "(", 63)?;
-    let text = format!(in alloc; "INSERT INTO t {brackets}")?;
-    assert!(rt; fails(alloc, text.as_str(), 77, ParseKind::TextEnds));
-    let lists = repeated(alloc, "[", 64)?;
-    let text = format!(in alloc; "INSERT INTO t {lists}#")?;
-    assert!(rt; fails(alloc, text.as_str(), 78, ParseKind::NotAToken));
-    let text = format!(in alloc; "INSERT INTO t {lists}")?;
-    assert!(rt; fails(alloc, text.as_str(), 78, ParseKind::TextEnds));
-    Ok(())
+    Some(is_read(alloc, most.as_str()) && fails(alloc, more.as_str(), at, ParseKind::TooDeep))
 }
 
 #[test]
-fn sixty_four_levels_are_read(rt: HostRuntime) -> Result<(), Fail> {
+fn sixty_four_levels_are_read(rt: HostRuntime) {
     for row in CONSTRUCTS.lines() {
-        test_construct(&rt, rt.alloc(), row)?;
+        assert!(rt; construct_holds(rt.alloc(), row) == Some(true), "{row}");
     }
     for row in PLACES.lines() {
-        test_place(&rt, rt.alloc(), row)?;
+        assert!(rt; place_holds(rt.alloc(), row) == Some(true), "{row}");
     }
-    test_last(&rt, rt.alloc())
-}
-
-#[test]
-fn long_texts_are_read_up_to_their_limits(rt: HostRuntime) -> Result<(), Fail> {
-    let alloc = rt.alloc();
-    let spaces = repeated(alloc, " ", 99_988)?;
-    let text = format!(in alloc; "DROP TABLE t{spaces}")?;
-    assert!(rt; is_read(alloc, text.as_str()));
-    let text = format!(in alloc; "#DROP TABLE t{spaces}")?;
-    assert!(rt; fails(alloc, text.as_str(), 100_000, ParseKind::TooLong));
-    let text = format!(in alloc; "DROP TABLE  {spaces}")?;
-    assert!(rt; fails(alloc, text.as_str(), 100_000, ParseKind::TextEnds));
-    let text = format!(in alloc; "DROP TABLE {spaces}#")?;
-    assert!(rt; fails(alloc, text.as_str(), 99_999, ParseKind::NotAToken));
-    let places = repeated(alloc, "0", 32_767)?;
-    let text = format!(in alloc; "INSERT INTO t 0.{places}")?;
-    assert!(rt; is_read(alloc, text.as_str()));
-    let text = format!(in alloc; "INSERT INTO t 0.{places}0")?;
-    assert!(rt; fails(alloc, text.as_str(), 14, ParseKind::TooWide));
-    Ok(())
+    for row in REPEATED.lines() {
+        assert!(rt; repeated_holds(rt.alloc(), row) == Some(true), "{row}");
+    }
 }

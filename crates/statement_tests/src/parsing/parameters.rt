@@ -39,6 +39,6 @@ fn has_count(alloc: Global, row: &str) -> Option<bool> {
 #[test]
 fn question_marks_are_counted(rt: HostRuntime) {
     for row in ROWS.lines() {
-        assert_eq!(rt; has_count(rt.alloc(), row), Some(true), "{row}");
+        assert!(rt; has_count(rt.alloc(), row) == Some(true), "{row}");
     }
 }
