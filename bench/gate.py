@@ -56,13 +56,11 @@ def words_of(pid):
 
 
 def part_of(words):
-    """The crate that a prover's words name, and the part of its cost that they are."""
+    """The crate that a prover's words name, and the part of its cost that they are. A check keeps what it proved of a program alone."""
     crate = words[words.index("--crate-name") + 1]
     if words[1] == "build":
         return crate, "tests" if "--test" in words else "proof"
-    kept = words[words.index("--incremental") + 1] if "--incremental" in words else ""
-    name = os.path.basename(kept)
-    return crate, "edit " + name if name.isdigit() else "again" if name == "seed" else "edit whole"
+    return crate, "proof" if "-o" in words else "edits"
 
 
 def watched(top):
@@ -130,40 +128,23 @@ def clauses_in(lines):
 
 def table(costs):
     """A line a crate: its lines, and the processor minutes of its proof, its tests and its edits."""
-    rows, sums = [], [0.0] * 4
+    rows, sums = [], [0.0] * 3
     order = [line.split(":")[0].split()[0] for line in (TOP / "crates.txt").read_text().splitlines() if re.match(r"\w", line)]
     for crate in [it for it in order if it in costs] + [it for it in costs if it not in order]:
-        parts = costs[crate]
-        edits = sum(sum(seconds) for part, seconds in parts.items() if part.startswith("edit"))
-        minutes = [sum(parts.get(it, [])) for it in ("proof", "tests", "again")] + [edits]
+        minutes = [sum(costs[crate].get(it, [])) for it in ("proof", "tests", "edits")]
         sums = [a + b for a, b in zip(sums, minutes)]
-        tried = len([it for it in parts if re.fullmatch(r"edit \d+", it)])
+        tried = len([*(TOP / "crates" / crate / "must-fail").glob("*.edit")])
         rows.append((crate, *lines_of(crate), *minutes, tried))
-    head = "| Crate | Code | Contracts, definitions | Tests | Proofs | Proof | Tests | Before edits | Edits | Sum |"
-    print(head, "|---|" + "---:|" * 9, sep="\n")
+    print("| Crate | Code | Contracts, definitions | Tests | Proofs | Proof | Tests | Edits | Sum |", "|---|" + "---:|" * 8, sep="\n")
     for crate, code, stated, tests, proofs, *minutes, tried in rows:
         of = f" ({tried})" if tried else ""
-        print(f"| {crate} | {code} | {stated} | {tests} | {proofs} |", cells(minutes[:3]), f"{minutes[3] / 60:.1f}{of} | {sum(minutes) / 60:.1f} |")
+        print(f"| {crate} | {code} | {stated} | {tests} | {proofs} |", cells(minutes[:2]), f"{minutes[2] / 60:.1f}{of} | {sum(minutes) / 60:.1f} |")
     lines = [sum(row[place] for row in rows) for place in range(1, 5)]
     print("| all |", " | ".join(str(it) for it in lines), "|", cells(sums), f"{sum(sums) / 60:.1f} |")
 
 
 def cells(seconds):
     return " ".join(f"{it / 60:.1f} |" for it in seconds)
-
-
-def edits(costs):
-    """A line an edit, the dearest first, with its processor seconds; '+ whole' are those of edits tried from nothing."""
-    rows = []
-    for crate, parts in costs.items():
-        names = sorted(it.name for it in (TOP / "crates" / crate / "must-fail").glob("*.edit"))
-        for part, seconds in parts.items():
-            number = part.removeprefix("edit ")
-            if part.startswith("edit"):
-                name = names[int(number)] if number.isdigit() and int(number) < len(names) else "from nothing"
-                rows.append((sum(seconds), f"{crate}/{name}"))
-    for seconds, name in sorted(rows, reverse=True):
-        print(f"{seconds:7.1f}  {name}")
 
 
 # ---- the functions of one crate
@@ -207,11 +188,10 @@ def main():
         Path(words[1]).write_text(json.dumps(costs))
     elif words[:1] == ["--functions"] and len(words) > 1:
         return functions(words[1], words[2:])
-    elif words[:1] in (["--table"], ["--edits"]) and len(words) == 2:
+    elif words[:1] == ["--table"] and len(words) == 2:
         costs = json.loads(Path(words[1]).read_text())
-        return edits(costs) if words[0] == "--edits" else table(costs)
     else:
-        sys.exit("gate.py --run FILE COMMAND.. | --attach PID FILE | --table FILE | --edits FILE | --functions CRATE [--test]")
+        sys.exit("gate.py --run FILE COMMAND.. | --attach PID FILE | --table FILE | --functions CRATE [--test]")
     table(costs)
 
 
