@@ -1,100 +1,96 @@
 //! Transactions of which each call of the store fails in turn.
-use crate::tails::{MASK, PLACE, store_behind, store_of, tail_of};
-use ion_values::Text;
-use ledger_core::Tail;
-use ledger_model::{Job, Outcome, Request};
-use lists::Sequence;
-use outside::{MemoryStore, SetClock};
+use crate::bench::{Bench, MASK, bench_of};
+use crate::statements::asked_of;
+use crate::stores::store_told;
+use ledger_model::{Job, Outcome};
+use outside::MemoryStore;
 use ql_types::id_parts;
 use std::alloc::Global;
 use std::test::Fail;
 
-/// The job of one statement without parameters.
-fn job(alloc: Global, text: &str, abort: bool) -> Option<Job> {
-    let text = Text::from_text(alloc, text).ok()?;
-    let params = Sequence::new(alloc);
-    let mut statements = Sequence::new(alloc);
-    statements.push(Request { text, params }).ok()?;
-    Some(Job {
-        statements,
-        retries: 0,
-        digest: None,
-        abort,
-    })
+/// How a transaction ended, by one letter or the digit of its block, and its number where it was refused.
+#[derive(Clone, Copy)]
+struct Ended {
+    letter: char,
+    refused: Option<u64>,
 }
 
-/// Runs a statement as a transaction; one that begins with `-` is given up.
-fn attempt(alloc: Global, tail: &mut Tail<MemoryStore, SetClock>, text: &str) -> Option<Outcome> {
-    let (text, abort) = match text.strip_prefix("-") {
-        Some(text) => (text, true),
-        None => (text, false),
-    };
-    let job = job(alloc, text, abort)?;
-    Some(tail.attempt(alloc, &job, PLACE))
-}
-
-/// One letter for how a transaction ended, or the digit of its block.
-fn letter(outcome: &Outcome) -> &str {
-    match outcome {
-        Outcome::Committed { block: 0, .. } => "0",
-        Outcome::Committed { block: 1, .. } => "1",
-        Outcome::Committed { .. } => "2",
-        Outcome::Refused { .. } => "R",
-        Outcome::StoreFault { .. } => "S",
-        Outcome::Aborted { .. } => "A",
-        _ => "?",
+/// A digit up to 2.
+fn digit(number: u64) -> char {
+    match number {
+        0 => '0',
+        1 => '1',
+        2 => '2',
+        _ => '?',
     }
 }
 
-/// The number of a transaction that is refused.
-fn number(outcome: &Outcome) -> Option<u64> {
+fn letter(outcome: &Outcome) -> char {
+    match outcome {
+        Outcome::Committed { block, .. } => digit(*block),
+        Outcome::Refused { .. } => 'R',
+        Outcome::StoreFault { .. } => 'S',
+        Outcome::Aborted { .. } => 'A',
+        _ => '?',
+    }
+}
+
+fn refused(outcome: &Outcome) -> Option<u64> {
     match outcome {
         Outcome::Refused { tx, .. } => Some(id_parts(MASK, tx.raw)?.0),
         _ => None,
     }
 }
 
+/// Runs a statement as a transaction; one that begins with `-` is given up.
+fn attempt(alloc: Global, bench: &mut Bench, text: &str) -> Option<Ended> {
+    let (text, abort) = match text.strip_prefix("-") {
+        Some(text) => (text, true),
+        None => (text, false),
+    };
+    let job = Job {
+        statements: asked_of(alloc, text)?,
+        retries: 0,
+        digest: None,
+        abort,
+    };
+    let outcome = bench.attempt(alloc, &job);
+    Some(Ended {
+        letter: letter(&outcome),
+        refused: refused(&outcome),
+    })
+}
+
 /// How the statements end, one a transaction.
-fn ends_of(
-    alloc: Global,
-    tail: &mut Tail<MemoryStore, SetClock>,
-    statements: &str,
-) -> Option<String> {
+fn ends_of(alloc: Global, bench: &mut Bench, statements: &str) -> Option<String> {
     let mut ends = String::new(alloc);
     for statement in statements.split(';') {
-        ends.push_str(letter(&attempt(alloc, tail, statement)?))
-            .ok()?;
+        let ended = attempt(alloc, bench, statement)?;
+        ends.push(ended.letter).ok()?;
     }
     Some(ends)
 }
 
 /// The settled store behind the statements, or None where they don't end so.
 fn settled(alloc: Global, store: MemoryStore, statements: &str, ends: &str) -> Option<MemoryStore> {
-    let mut tail = tail_of(alloc, store)?;
-    let end_so = ends_of(alloc, &mut tail, statements)?.as_str() == ends;
-    let _settled = tail.settle();
-    let (_, store, _) = tail.into_parts();
+    let mut bench = bench_of(alloc, store)?;
+    let end_so = ends_of(alloc, &mut bench, statements)?.as_str() == ends;
+    let _settled = bench.settle();
+    let (_, store) = bench.into_parts();
     if end_so { Some(store) } else { None }
 }
 
-/// Whether the store has so many lines, and a reload finds as many blocks, and the next number.
-fn is_reloaded(alloc: Global, store: MemoryStore, blocks: u64, next: u64) -> Option<bool> {
-    let lines = store.held().iter().filter(|byte| **byte == b'\n').count();
-    let mut tail = tail_of(alloc, store)?;
-    let found = tail.blocks().len();
-    let refused = attempt(alloc, &mut tail, "")?;
-    Some(lines as u64 == blocks && found == blocks && number(&refused) == Some(next))
+/// How many lines there are.
+fn lines(bytes: &[u8]) -> u64 {
+    bytes.iter().filter(|byte| **byte == b'\n').count() as u64
 }
 
-/// A store that holds nothing, or a line and `rest`, with the call that fails and what a failing append leaves.
-fn store_told(alloc: Global, told: &str) -> Option<MemoryStore> {
-    let (held, told) = told.split_once(' ')?;
-    let (passes, kept) = told.split_once(' ')?;
-    let (passes, kept) = (passes.parse::<u64>().ok()?, kept.parse::<u64>().ok()?);
-    match held {
-        "nothing" => store_of(alloc, "", passes, kept),
-        _ => store_behind(alloc, held, passes, kept),
-    }
+/// How many blocks a reload of the store finds, and the next number.
+fn reloaded(alloc: Global, store: MemoryStore) -> Option<(u64, u64)> {
+    let mut bench = bench_of(alloc, store)?;
+    let blocks = bench.found().blocks;
+    let ended = attempt(alloc, &mut bench, "")?;
+    Some((blocks, ended.refused?))
 }
 
 fn holds(alloc: Global, row: &str) -> Option<bool> {
@@ -104,12 +100,13 @@ fn holds(alloc: Global, row: &str) -> Option<bool> {
     let (blocks, next) = left.split_once(' ')?;
     let (blocks, next) = (blocks.parse::<u64>().ok()?, next.parse::<u64>().ok()?);
     let store = settled(alloc, store_told(alloc, told)?, statements, ends)?;
-    is_reloaded(alloc, store, blocks, next)
+    let lines = lines(store.held());
+    let found = reloaded(alloc, store)?;
+    Some(lines == blocks && found == (blocks, next))
 }
 
 /// What a store holds, after how many calls one fails and what it keeps; the statements, one a transaction; and how
-/// they end, how
-/// many blocks a reload of the settled store finds, a line each, and the next number.
+/// they end, how many blocks a reload of the settled store finds, a line each, and the next number.
 const ROWS: &str = "# each call fails in turn
 nothing 1 0 > CREATE TABLE t;SELECT * FROM t;SELECT * FROM t > SRR 0 1
 nothing 1 9 > CREATE TABLE t;SELECT * FROM t;SELECT * FROM t > SRR 0 1

@@ -1,75 +1,19 @@
 //! Two transactions that are open at once, of which the one that began later is committed first.
-ghost use Rattle.std.specs.Prelude.{◌≡◌, IfSome};
-ghost use Rattle.core_tests.specs.Open.{AreOpen};
-
-use crate::commits::{begun, said};
-use crate::tails::{store_of, tail_of};
+use crate::bench::{Bench, Ends, empty_bench, make};
+use crate::statements::asked_of;
 use ion_values::Key;
-use ledger_core::{CommitFault, Receipt, Tail};
+use ledger_core::{CommitFault, Receipt};
 use ledger_model::Item;
-use outside::{MemoryStore, SetClock};
 use std::alloc::Global;
 use std::test::Fail;
-use txn_core::Txn;
 
-/// Makes a statement a transaction of its own.
-pub(crate) fn make(
-    alloc: Global,
-    tail: &mut Tail<MemoryStore, SetClock>,
-    told: &str,
-) -> Option<()> {
-    let mut txn = begun(alloc, tail)?;
-    let digest = said(alloc, &mut txn, told)?;
-    tail.commit(alloc, txn, digest).ok()?;
-    Some(())
-}
-
-/// The tail behind these statements, each a transaction.
-pub(crate) fn tail_behind(alloc: Global, statements: &str) -> Option<Tail<MemoryStore, SetClock>> {
-    let mut tail = tail_of(alloc, store_of(alloc, "", 999, 0)?)?;
+/// The bench behind these statements, each a transaction.
+pub(crate) fn bench_behind(alloc: Global, statements: &str) -> Option<Bench> {
+    let mut bench = empty_bench(alloc, 999)?;
     for told in statements.split(';') {
-        make(alloc, &mut tail, told)?;
+        make(alloc, &mut bench, told)?;
     }
-    Some(tail)
-}
-
-/// Two open transactions, in the order in which they began.
-#[derive(Drop)]
-struct Two {
-    first: Txn,
-    second: Txn,
-}
-
-/// Begins two transactions.
-fn begin_two(alloc: Global, tail: &mut Tail<MemoryStore, SetClock>) -> Option<Two>
-    ensures { IfSome result (λ two. AreOpen tail.new.standing two.first two.second) }
-{
-    let first = begun(alloc, tail)?;
-    let second = begun(alloc, tail)?;
-    Some(Two { first, second })
-}
-
-/// Asks a statement of each of two open transactions, commits the later one and then tells how the commit of the first
-/// one ends.
-fn end_of_first(
-    alloc: Global,
-    tail: &mut Tail<MemoryStore, SetClock>,
-    read: &str,
-    write: &str,
-) -> Option<Result<Receipt, CommitFault>> {
-    let two = begin_two(alloc, tail)?;
-    let Two {
-        mut first,
-        mut second,
-    } = two;
-    let reads = said(alloc, &mut first, read)?;
-    let writes = said(alloc, &mut second, write)?;
-    let later = tail.commit(alloc, second, writes);
-    if later.is_err() {
-        return None;
-    }
-    let end = tail.commit(alloc, first, reads);
-    Some(end)
+    Some(bench)
 }
 
 /// What an item tells, but for its table.
@@ -97,9 +41,30 @@ fn end_text(alloc: Global, end: &Result<Receipt, CommitFault>) -> Option<String>
     }
 }
 
+/// How the commit of the first one ends, where the later one is committed.
+fn ends_text(alloc: Global, ends: &Ends) -> Option<String> {
+    match &ends.later {
+        Some(Ok(_)) => end_text(alloc, &ends.first),
+        _ => None,
+    }
+}
+
+/// How the commit of the transaction that reads ends, where the one that writes begins later and is committed first.
+fn end_of_first(alloc: Global, bench: &mut Bench, read: &str, write: &str) -> Option<String> {
+    let reads = asked_of(alloc, read)?;
+    let writes = asked_of(alloc, write)?;
+    let ends = bench.commit_around(alloc, reads.as_slice(), writes.as_slice())?;
+    ends_text(alloc, &ends)
+}
+
+/// The same behind these statements.
+fn end_behind(alloc: Global, before: &str, read: &str, write: &str) -> Option<String> {
+    let mut bench = bench_behind(alloc, before)?;
+    end_of_first(alloc, &mut bench, read, write)
+}
+
 /// The statements of four blocks, a text each and behind a bar its parameters; what the first transaction then reads,
-/// what the
-/// second one writes, and how the commit of the first one ends.
+/// what the second one writes, and how the commit of the first one ends.
 const ROWS: &str = "CREATE TABLE t;CREATE INDEX ON t (a);SELECT * FROM t;SELECT * FROM t > \
 SELECT * FROM t WHERE a = 5 > INSERT INTO t ?|{a:5} > since 4 block 4 a 5
 CREATE TABLE t;CREATE INDEX ON t (a);SELECT * FROM t;SELECT * FROM t > \
@@ -115,9 +80,8 @@ fn holds(alloc: Global, row: &str) -> Option<bool> {
     let (before, row) = row.split_once(" > ")?;
     let (read, row) = row.split_once(" > ")?;
     let (write, told) = row.split_once(" > ")?;
-    let mut tail = tail_behind(alloc, before)?;
-    let end = end_of_first(alloc, &mut tail, read, write)?;
-    Some(end_text(alloc, &end)?.as_str() == told)
+    let end = end_behind(alloc, before, read, write)?;
+    Some(end.as_str() == told)
 }
 
 /// The first row that doesn't come out as it says.

@@ -4,6 +4,8 @@
 #[cfg(test)]
 mod attempts;
 #[cfg(test)]
+mod bench;
+#[cfg(test)]
 mod commits;
 #[cfg(test)]
 mod conflicts;
@@ -14,4 +16,6 @@ mod loads;
 #[cfg(test)]
 mod settles;
 #[cfg(test)]
-mod tails;
+mod statements;
+#[cfg(test)]
+mod stores;

@@ -1,30 +1,36 @@
 //! What a reload finds in a store, or why it finds no journal.
-use crate::tails::{LINE, MASK, store_behind, store_of, store_of_bytes};
-use ledger_core::{LoadCause, Tail};
+use crate::bench::{Bench, clock_at};
+use crate::stores::{LINE, store_behind, store_of, store_of_bytes};
+use ledger_core::{LoadCause, LoadFault};
 use ledger_model::Damage;
-use outside::MemoryStore;
+use outside::{Clock, MemoryStore, SetClock};
 use std::alloc::Global;
 use std::test::Fail;
 
-/// How many blocks a reload finds in the store, and how many bytes a settling leaves; or why there is no tail.
-fn found(alloc: Global, store: MemoryStore) -> Result<(u64, usize), LoadCause> {
-    let mut tail = match Tail::reload(alloc, store, 7, MASK) {
-        Ok(tail) => tail,
-        Err(fault) => return Err(fault.cause),
-    };
-    let _settled = tail.settle();
-    let (blocks, store, _) = tail.into_parts();
-    Ok((blocks.len(), store.held().len()))
+/// How many blocks there are, and how many bytes a settling leaves.
+fn settled(bench: Bench) -> (u64, usize) {
+    let mut bench = bench;
+    let _settled = bench.settle();
+    let (blocks, store) = bench.into_parts();
+    (blocks, store.held().len())
+}
+
+/// What a load finds in the store, settled; or why there is no tail.
+fn found(alloc: Global, store: MemoryStore) -> Option<Result<(u64, usize), LoadCause>> {
+    match Bench::load(alloc, store, clock_at(alloc, 7)?)? {
+        Ok(bench) => Some(Ok(settled(bench))),
+        Err(fault) => Some(Err(fault.cause)),
+    }
 }
 
 /// What is found behind a line.
 fn found_behind(alloc: Global, rest: &str) -> Option<Result<(u64, usize), LoadCause>> {
-    Some(found(alloc, store_behind(alloc, rest, 99, 0)?))
+    found(alloc, store_behind(alloc, rest, 99, 0)?)
 }
 
 /// What is found in bytes.
 fn found_in(alloc: Global, bytes: &[u8]) -> Option<Result<(u64, usize), LoadCause>> {
-    Some(found(alloc, store_of_bytes(alloc, bytes, 99, 0)?))
+    found(alloc, store_of_bytes(alloc, bytes, 99, 0)?)
 }
 
 /// Whether one block of the line is found.
@@ -67,16 +73,25 @@ fn a_journal_is_loaded(rt: HostRuntime) -> Result<(), Fail> {
     Ok(())
 }
 
+/// Whether the store failed once, and it is given back as it was, with the clock, which stands at 7.
+fn is_given_back(fault: LoadFault<MemoryStore, SetClock>) -> bool {
+    let LoadFault {
+        cause,
+        store,
+        mut clock,
+    } = fault;
+    cause == LoadCause::StoreFault { count: 1 }
+        && store.held().len() == LINE.len()
+        && clock.now() == 7
+}
+
 /// Whether the load of a line fails by its store, whose call after so many fails, and gives the store and the clock
 /// back.
 fn fails(alloc: Global, passes: u64) -> Option<bool> {
-    match Tail::reload(alloc, store_of(alloc, LINE, passes, 0)?, 7, MASK) {
+    let store = store_of(alloc, LINE, passes, 0)?;
+    match Bench::load(alloc, store, clock_at(alloc, 7)?)? {
         Ok(_) => None,
-        Err(fault) => Some(
-            fault.cause == LoadCause::StoreFault { count: 1 }
-                && fault.store.held().len() == LINE.len()
-                && fault.clock == 7,
-        ),
+        Err(fault) => Some(is_given_back(fault)),
     }
 }
 

@@ -1,18 +1,19 @@
 //! What a settling cuts.
-use crate::tails::{LINE, MASK, store_behind};
-use ledger_core::{SettleFault, Tail};
+use crate::bench::bench_of;
+use crate::stores::{LINE, store_told};
+use ledger_core::SettleFault;
 use outside::{JournalStore, MemoryStore};
 use std::alloc::Global;
 use std::test::Fail;
 
 /// The store behind so many settlings, if the last of them is done, or fails by the store's first failure.
 fn settled(alloc: Global, store: MemoryStore, times: u32, is_done: bool) -> Option<MemoryStore> {
-    let mut tail = Tail::reload(alloc, store, 7, MASK).ok()?;
+    let mut bench = bench_of(alloc, store)?;
     let mut last = Ok(());
     for _ in 0..times {
-        last = tail.settle();
+        last = bench.settle();
     }
-    let (_, store, _) = tail.into_parts();
+    let (_, store) = bench.into_parts();
     let ends_so = match last {
         Ok(()) => is_done,
         Err(SettleFault::StoreFault { count: 1 }) => !is_done,
@@ -22,8 +23,7 @@ fn settled(alloc: Global, store: MemoryStore, times: u32, is_done: bool) -> Opti
 }
 
 /// The rest behind the line and after how many calls one fails and what it does; how often the store is settled and
-/// whether the last
-/// time is done; and how many bytes the store has behind the line, and its failures.
+/// whether the last time is done; and how many bytes the store has behind the line, and its failures.
 const ROWS: &str = "# the cut fails, undone and done, and then its sync
 rest 2 0 > 1 failed > 4 1
 rest 2 0 > 2 done > 0 1
@@ -34,15 +34,6 @@ rest 3 0 > 2 done > 0 1
 rest 99 0 > 1 done > 0 0
 # without a rest nothing is cut
 none 2 1 > 1 done > 0 0";
-
-/// The store of a line and a rest.
-fn store_told(alloc: Global, told: &str) -> Option<MemoryStore> {
-    let (rest, told) = told.split_once(' ')?;
-    let (passes, kept) = told.split_once(' ')?;
-    let (passes, kept) = (passes.parse::<u64>().ok()?, kept.parse::<u64>().ok()?);
-    let rest = if rest == "none" { "" } else { rest };
-    store_behind(alloc, rest, passes, kept)
-}
 
 fn holds(alloc: Global, row: &str) -> Option<bool> {
     let (told, row) = row.split_once(" > ")?;

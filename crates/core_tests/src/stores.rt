@@ -1,15 +1,6 @@
-//! Tails of journals in memory.
-use ledger_core::Tail;
-use outside::{Failing, MemoryStore, SetClock};
-use ql_types::{IdMask, Place};
+//! Stores in memory, and what they hold.
+use outside::{Failing, MemoryStore};
 use std::alloc::Global;
-
-pub(crate) const MASK: IdMask = IdMask { bits: 0 };
-
-pub(crate) const PLACE: Place = Place {
-    session: 1,
-    transaction: 1,
-};
 
 /// The line of the block of one transaction, at the beginning of 2020 in UTC: it created the table `t`, inserted `{a:5}`
 /// and selected it. ../block_form/vectors/make.py prints it.
@@ -46,7 +37,8 @@ pub(crate) fn store_of_bytes(
     kept: u64,
 ) -> Option<MemoryStore> {
     let held = bytes.to_vec(alloc).ok()?;
-    let fails = vec![in alloc; Failing { passes, kept }].ok()?;
+    let mut fails = Vec::new(alloc);
+    fails.push(Failing { passes, kept }).ok()?;
     Some(MemoryStore::new(alloc, held, fails))
 }
 
@@ -61,8 +53,15 @@ pub(crate) fn store_behind(
     store_of(alloc, text.as_str(), passes, kept)
 }
 
-/// The tail of the journal in a store, with a clock that stands at the beginning of 2020 in UTC.
-pub(crate) fn tail_of(alloc: Global, store: MemoryStore) -> Option<Tail<MemoryStore, SetClock>> {
-    let times = vec![in alloc; 1_577_836_800_000i64].ok()?;
-    Tail::reload(alloc, store, SetClock::new(times), MASK).ok()
+/// The store that a row tells: what it holds, after how many calls one fails, and how many bytes a failing append leaves.
+/// It holds nothing, or a line and behind it none or this rest.
+pub(crate) fn store_told(alloc: Global, told: &str) -> Option<MemoryStore> {
+    let (held, told) = told.split_once(' ')?;
+    let (passes, kept) = told.split_once(' ')?;
+    let (passes, kept) = (passes.parse::<u64>().ok()?, kept.parse::<u64>().ok()?);
+    match held {
+        "nothing" => store_of(alloc, "", passes, kept),
+        "none" => store_behind(alloc, "", passes, kept),
+        _ => store_behind(alloc, held, passes, kept),
+    }
 }
