@@ -56,7 +56,7 @@ def words_of(pid):
 
 
 def part_of(words):
-    """The crate that a prover's words name, and the part of its cost that they are. A check keeps what it proved of a program alone."""
+    """The crate that a prover's words name, and the part of its cost that they are: a check that keeps nothing is that of an edit."""
     crate = words[words.index("--crate-name") + 1]
     if words[1] == "build":
         return crate, "tests" if "--test" in words else "proof"

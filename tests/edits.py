@@ -18,9 +18,11 @@ ROOT = Path(__file__).resolve().parent.parent
 def try_edits(crate):
     """Whether the prover refuses each edit of the crate, those that `rt ci` tries among them."""
     folder = ROOT / "crates" / crate / "must-fail"
+    added = [folder / edit.name for edit in sorted((ROOT / "edits" / crate).glob("*.edit"))]
+    if any(edit.exists() for edit in added):
+        sys.exit(f"{crate}: an edit of edits/ stands in must-fail/ too")
     is_new = not folder.exists()
     folder.mkdir(exist_ok=True)
-    added = [folder / edit.name for edit in sorted((ROOT / "edits" / crate).glob("*.edit"))]
     try:
         for edit in added:
             shutil.copy(ROOT / "edits" / crate / edit.name, edit)
@@ -38,9 +40,9 @@ def main():
     unknown = [crate for crate in wanted if crate not in there]
     if unknown:
         sys.exit(f"no edits of {' '.join(unknown)}: there are those of {' '.join(there)}")
-    passed = [crate for crate in wanted if not try_edits(crate)]
-    if passed:
-        sys.exit(f"not all refused: {' '.join(passed)}")
+    open_ones = [crate for crate in wanted if not try_edits(crate)]
+    if open_ones:
+        sys.exit(f"not all refused: {' '.join(open_ones)}")
 
 
 main()
