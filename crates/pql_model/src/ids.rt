@@ -5,15 +5,14 @@ ghost use Rattle.ql_types.specs.Ids as spec;
 use lists::{OutOfMemory, Text};
 use ql_types::id_digits;
 use std::alloc::Global;
+use std::str;
 
 /// The 22 digits of an id as a text.
 pub fn id_text(alloc: Global, raw: u128) -> Result<Text, OutOfMemory>
     ensures { IfOk result (λ text. text ≡ spec.id_text raw) }
 {
-    let mut text = Text::new(alloc);
     let digits = id_digits(raw);
-    'digits: for digit in &digits {
-        text.push(char::from(*digit))?;
-    }
-    Ok(text)
+    // Letters and digits are ASCII, and so UTF-8.
+    let text = unsafe { str::from_utf8_unchecked(&digits) };
+    Text::from_text(alloc, text)
 }

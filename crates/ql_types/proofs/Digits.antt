@@ -1,5 +1,8 @@
 -- The digits of an id, from the last to the first, and which bytes they are.
-use Rattle.std.proofs.Common.{◌≡◌, ℕ, zero, suc, ◌/◌, ◌%◌, ◌<◌, Bool, true, List, ◌++◌, length, get_or, set, drop, arith, refl, append_assoc, add-one, length-append}
+use Rattle.std.proofs.Common.{◌≡◌, ◌∙◌, ℕ, zero, suc, ◌+◌, ◌*◌, ◌/◌, ◌%◌, ◌^◌, ◌<◌, Bool, true, List, [], ◌∷◌, ◌++◌, length, get_or, set, drop, ap, sym, arith, refl, append-nil, append_assoc, add-one, length-append}
+use Rattle.std.proofs.Math.Arith.{mod-mul}
+use Rattle.std.proofs.Math.Nat.{div-div-eq-div-mul, pow-suc, pow-succ'}
+use Rattle.std.proofs.lemmas.Nat.{div-mul-add, mod-mul-add}
 use Rattle.std.specs.Prelude.{nat_lt}
 use Rattle.std.specs.List.{All, AllPass, list_all}
 use Rattle.std.proofs.lemmas.List.{drop-set}
@@ -9,12 +12,19 @@ use Rattle.std.proofs.lemmas.Bool.Decides.{nat_tests}
 use Rattle.ql_types.specs.Ids.{alphabet, digits_of, id_text, is_letter_or_digit}
 
 -- one digit more before those that stand in the text
-pub digits-more : (text : List ℕ) (count number less more : ℕ) → less ≡ count → more ≡ suc count → count < length text
-    → digits_of less (number / 62) ++ drop less (set text count (get_or alphabet (number % 62) 0)) ≡ digits_of more number ++ drop more text
+pub digits-more : (text : List ℕ) (place count number less all at more : ℕ) → less ≡ count → all ≡ suc count → at ≡ place → more ≡ suc place
+    → place < length text
+    → digits_of less (number / 62) ++ drop at (set text place (get_or alphabet (number % 62) 0)) ≡ digits_of all number ++ drop more text
 unfolding digits_of
-digits-more text count number less more e f room =
+digits-more text place count number less all at more e f g h room =
     let digit = get_or alphabet (number % 62) 0 in
-    rw (e, f, drop-set text count digit room, add-one, append_assoc) refl
+    rw (e, f, g, h, drop-set text place digit room, add-one, append_assoc) refl
+
+-- no digits more
+pub digits-none : (text all : List ℕ) (from at left number : ℕ) → left ≡ 0 → at ≡ from → digits_of left number ++ drop at text ≡ all → drop from text ≡ all
+unfolding digits_of
+digits-none text all from at left number e f so_far =
+    ap (λ k. drop k text) (sym f) ∙ ap (λ k. digits_of k number ++ drop at text) (sym e) ∙ so_far
 
 -- so many digits
 pub length-digits_of : (count number : ℕ) → length (digits_of count number) ≡ count
@@ -22,6 +32,52 @@ unfolding digits_of
 length-digits_of zero number = refl
 length-digits_of (suc count) number =
     let before = length-digits_of count (number / 62) in rw (length-append, before) (omega arith)
+
+-- ---- digits in parts
+
+some-pow : (n : ℕ) → 0 < 62 ^ n
+some-pow zero = omega arith
+some-pow (suc n) = let before = some-pow n in let e = pow-suc 62 n in omega (arith, before, e)
+
+-- the digits of a number are those of its front, and then its last ones
+pub in_parts : (m n number : ℕ) → digits_of (m + n) number ≡ digits_of m (number / 62 ^ n) ++ digits_of n (number % 62 ^ n)
+unfolding digits_of
+in_parts m zero number =
+    let count : m + 0 ≡ m = omega arith in
+    let whole : number ≡ number / 62 ^ 0 = omega arith in
+    ap (λ k. digits_of k number) count ∙ ap (λ k. digits_of m k) whole ∙ sym (append-nil (digits_of m (number / 62 ^ 0)))
+in_parts m (suc n) number =
+    let digit : ℕ → ℕ = λ k. get_or alphabet k 0 in
+    let low = number % 62 ^ suc n in
+    let middle = number / 62 % 62 ^ n in
+    let last = number % 62 in
+    let small : last < 62 = omega arith in
+    let more : m + suc n ≡ suc (m + n) = omega arith in
+    let some : 0 < 62 = omega arith in
+    let split : low ≡ middle * 62 + last = ap (λ k. number % k) (pow-suc 62 n) ∙ mod-mul number (some-pow n) some in
+    let front : number / 62 / 62 ^ n ≡ number / 62 ^ suc n = div-div-eq-div-mul number 62 (62 ^ n) ∙ ap (λ k. number / k) (sym (pow-succ' 62 n)) in
+    let upper : middle ≡ low / 62 = sym (ap (λ k. k / 62) split ∙ div-mul-add middle 62 last small) in
+    let lowest : last ≡ low % 62 = sym (ap (λ k. k % 62) split ∙ mod-mul-add middle 62 last small) in
+    ap (λ k. digits_of k number) more
+    ∙ ap (λ t. t ++ digit last ∷ []) (in_parts m n (number / 62))
+    ∙ append_assoc (digits_of m (number / 62 / 62 ^ n)) (digits_of n middle) (digit last ∷ [])
+    ∙ ap (λ k. digits_of m k ++ (digits_of n middle ++ digit last ∷ [])) front
+    ∙ ap (λ k. digits_of m (number / 62 ^ suc n) ++ (digits_of n k ++ digit last ∷ [])) upper
+    ∙ ap (λ k. digits_of m (number / 62 ^ suc n) ++ (digits_of n (low / 62) ++ digit k ∷ [])) lowest
+
+-- the digits of an id in three parts, the last ones written first
+pub three_parts : (raw front : ℕ) (none third second first : List ℕ) → front ≡ raw / 62 ^ 10 → none ≡ []
+    → third ≡ digits_of 10 (raw % 62 ^ 10) ++ none → second ≡ digits_of 10 (front % 62 ^ 10) ++ third
+    → first ≡ digits_of 2 (front / 62 ^ 10) ++ second → first ≡ id_text raw
+three_parts raw front none third second first e empty is_third is_second is_first =
+    let back = digits_of 10 (raw % 62 ^ 10) in
+    let middle = digits_of 10 (front % 62 ^ 10) in
+    let top = digits_of 2 (front / 62 ^ 10) in
+    let last : third ≡ back = is_third ∙ ap (λ t. back ++ t) empty ∙ append-nil back in
+    is_first ∙ ap (λ t. top ++ t) (is_second ∙ ap (λ t. middle ++ t) last) ∙ sym (append_assoc top middle back)
+    ∙ ap (λ t. t ++ back) (sym (in_parts 2 10 front))
+    ∙ ap (λ k. digits_of 12 k ++ back) e
+    ∙ sym (in_parts 12 10 raw)
 
 -- what each digit of the alphabet passes, each digit of a text passes
 digits_of-list_all : (p : ℕ → Bool) → AllPass p alphabet → (count number : ℕ) → list_all p (digits_of count number) ≡ true

@@ -1,9 +1,9 @@
 //! Hashes, ids and addresses: the small types that every layer of the ledger names.
 #![tactic(auto)]
 
-ghost use Rattle.std.specs.Prelude.{◌≡◌, ◌≢◌, ℕ, ◌+◌, ◌*◌, ◌<◌, ◌^◌, All, IfSome, IsTrue, MatchResult, SomeIff, length};
+ghost use Rattle.std.specs.Prelude.{◌≡◌, ◌≢◌, ℕ, ◌+◌, ◌*◌, ◌<◌, ◌≤◌, ◌^◌, ◌++◌, All, IfSome, IsTrue, MatchResult, SomeIff, drop, length};
 ghost use Rattle.std.specs.Result.{result_ok};
-ghost use Rattle.ql_types.specs.Ids.{raw_id, transaction_in, thing_in, id_text, is_letter_or_digit, value_of, id_in};
+ghost use Rattle.ql_types.specs.Ids.{raw_id, transaction_in, thing_in, digits_of, id_text, is_letter_or_digit, value_of, id_in};
 
 /// A SHA-256 digest (FIPS 180-4).
 #[derive(Clone, Copy, Debug, PartialEq, Eq)]
@@ -97,7 +97,11 @@ pub fn id_parts(mask: IdMask, raw: u128) -> Option<(u64, u32)>
     Some((n, i))
 }
 
-/// The 22 digits of the id of this number, most significant first.
+/// How many numbers ten digits spell. Each of them fits 64 bits.
+const TEN_DIGITS: u128 = 839_299_365_868_340_224;
+
+/// The 22 digits of the id of this number, most significant first. The number is divided into three parts that fit 64
+/// bits, and then each part into its digits.
 pub fn id_digits(raw: u128) -> [u8; 22]
     ensures text { result ≡ id_text raw }
     ensures letters { All (λ byte. IsTrue (is_letter_or_digit byte)) result }
@@ -105,12 +109,23 @@ pub fn id_digits(raw: u128) -> [u8; 22]
     ensures long { length result ≡ 22 }
 {
     let mut text = [0; 22];
-    let mut rest = raw;
-    'digits: for written in 0..22 {
-        text[21 - written] = ALPHABET[(rest % 62) as usize];
+    let front = raw / TEN_DIGITS;
+    put_digits(&mut text, 12, 10, (raw % TEN_DIGITS) as u64);
+    put_digits(&mut text, 2, 10, (front % TEN_DIGITS) as u64);
+    put_digits(&mut text, 0, 2, (front / TEN_DIGITS) as u64);
+    text
+}
+
+/// Writes the last so many digits of a number from a place on. What stands behind them stays.
+fn put_digits(text: &mut [u8; 22], from: usize, count: usize, number: u64)
+    requires { from + count ≤ 22 }
+    ensures { drop from text.new ≡ digits_of count number ++ drop (from + count) text.old }
+{
+    let mut rest = number;
+    'digits: for written in 0..count {
+        text[from + count - 1 - written] = ALPHABET[(rest % 62) as usize];
         rest /= 62;
     }
-    text
 }
 
 /// The number of a digit of ids.

@@ -1,21 +1,11 @@
-use Rattle.std.proofs.Common.{rules, arith, ◌≡◌, ◌∙◌, ◌-◌}
-use Rattle.ql_types.specs.Ids.{digits_of}
-use Rattle.ql_types.proofs.Digits.{digits-more, id_text-letters, id_text-ascii}
+use Rattle.std.proofs.Common.{◌∙◌, ◌/◌, ◌^◌, ap, drop, length, refl}
+use Rattle.ql_types.proofs.Digits.{id_text-ascii, id_text-letters, length-digits_of, three_parts}
 use Rattle.ql_types.proofs.id_digits.Goals as goal
 
-pub digits-preserved : goal.digits-preserved
-digits-preserved c = record {
-  long = search rules;
-  so_far =
-      let long = c.digits.invariant.long in
-      digits-more c.digits.text (21 - c.digits.written) c.digits.rest _ _ (omega arith) (omega arith) (omega (arith, long))
-      ∙ c.digits.invariant.so_far;
-}
-
 pub returns-clause-text : goal.returns-clause-text
-unfolding digits_of
 returns-clause-text c =
-    let all : 22 - c.digits.written ≡ 0 = omega arith in rw all at c.digits.invariant.so_far
+    three_parts c.args.raw (c.args.raw / 62 ^ 10) _ (drop 12 c.put_digits.new.text) (drop 2 c.put_digits-2.new.text) c.put_digits-3.new.text
+    refl refl c.put_digits.ensures c.put_digits-2.ensures c.put_digits-3.ensures
 
 pub returns-clause-letters : goal.returns-clause-letters
 returns-clause-letters c = rw (returns-clause-text c) (id_text-letters c.args.raw)
@@ -24,4 +14,4 @@ pub returns-clause-ascii : goal.returns-clause-ascii
 returns-clause-ascii c = rw (returns-clause-text c) (id_text-ascii c.args.raw)
 
 pub returns-clause-long : goal.returns-clause-long
-returns-clause-long c = c.digits.invariant.long
+returns-clause-long c = ap length (returns-clause-text c) ∙ length-digits_of 22 c.args.raw

@@ -1,9 +1,0 @@
-use Rattle.std.proofs.Common.{◌≡◌, ◌-◌, ◌++◌, drop, length}
-use Rattle.ql_types.specs.Ids.{digits_of}
-use Rattle.ql_types.proofs.id_digits.Given as goal
-
-abbrev pub invariant-digits : goal.invariant-digits
-invariant-digits l = record {
-  long : length l.text ≡ 22;
-  so_far : digits_of (22 - l.written) l.rest ++ drop (22 - l.written) l.text ≡ digits_of 22 l.raw;
-}
