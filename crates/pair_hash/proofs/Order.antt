@@ -1,12 +1,13 @@
 -- Comparing lists of `i8` gives the order of hashes.
-use Rattle.std.proofs.Common.{◌≡◌, ◌∙◌, ℕ, suc, ◌-◌, ◌<◌, List, [], ◌∷◌, length, get_or, map, reverse, w8, inl, inr, arith, refl, ap}
+use Rattle.std.proofs.Common.{◌≡◌, ◌≢◌, ◌∙◌, ℕ, suc, ◌-◌, ◌<◌, List, [], ◌∷◌, length, get_or, drop, map, reverse, w8, inl, inr, arith, refl, ap}
 use Rattle.std.proofs.lemmas.List.{get_or-reverse, get_or_past, length-reverse}
-use Rattle.std.proofs.lemmas.Bool.Decides.{leb_tells, nat_tests}
+use Rattle.std.proofs.lemmas.Bool.Decides.{eqb_tells, leb_tells, nat_tests}
 use Rattle.std.proofs.lemmas.Int.{ints}
 use Rattle.std.specs.Int.{cast_signed}
-use Rattle.std.specs.Ordering.{int_cmp, ordering_then}
+use Rattle.std.specs.Ordering.{int_cmp, is_lt, ordering_then}
 use Rattle.std.specs.Cmp.Lexicographic.{slice_cmp}
-use Rattle.hash_forms.specs.PairHash.{signed_cmp, hash_cmp}
+use Rattle.std.specs.declared.cmp.Ordering.{Ordering}
+use Rattle.hash_forms.specs.PairHash.{comes_before, signed_cmp, hash_cmp}
 use Rattle.pair_hash.specs.Signed.{signed_bytes}
 
 -- for two bytes
@@ -42,3 +43,33 @@ reverse-below xs h k =
 pub signed_bytes-slice_cmp : (a b : List ℕ) → ((k : ℕ) → get_or (reverse a) k 0 < 256) → ((k : ℕ) → get_or (reverse b) k 0 < 256)
     → slice_cmp int_cmp (signed_bytes a) (signed_bytes b) ≡ hash_cmp a b
 signed_bytes-slice_cmp a b h g = each_byte (reverse a) (reverse b) h g
+
+-- ---- by the last bytes
+
+first_of : (xs ys : List ℕ) → 0 < length xs → 0 < length ys
+    → slice_cmp signed_cmp xs ys ≡ ordering_then (signed_cmp (get_or xs 0 0) (get_or ys 0 0)) (slice_cmp signed_cmp (drop 1 xs) (drop 1 ys))
+first_of [] ys h g = absurd (omega (arith, h))
+first_of (x ∷ xs) [] h g = absurd (omega (arith, g))
+first_of (x ∷ xs) (y ∷ ys) h g = refl
+
+-- bytes that differ tell the order before any others
+tells : (x y : ℕ) (rest : Ordering) → x ≢ y → is_lt (ordering_then (signed_cmp x y) rest) ≡ is_lt (signed_cmp x y)
+tells x y rest other =
+    elim (eqb_tells x y) [
+      | inl same ↦ absurd (other same.1)
+      | inr differ ↦ grind (arith, nat_tests, differ)
+    ]
+
+last_first : (a : List ℕ) → length a ≡ 32 → get_or (reverse a) 0 0 ≡ get_or a 31 0
+last_first a long = get_or-reverse a 0 0 (omega (arith, long)) ∙ ap (λ n. get_or a (n - 1 - 0) 0) long
+
+-- the last bytes, where they differ, tell the order
+pub by_last : (a b : List ℕ) → length a ≡ 32 → length b ≡ 32 → get_or a 31 0 ≢ get_or b 31 0
+    → comes_before a b ≡ is_lt (signed_cmp (get_or a 31 0) (get_or b 31 0))
+by_last a b long_a long_b differ =
+    let some_a = length-reverse a in
+    let some_b = length-reverse b in
+    let rest = slice_cmp signed_cmp (drop 1 (reverse a)) (drop 1 (reverse b)) in
+    ap is_lt (first_of (reverse a) (reverse b) (omega (arith, long_a, some_a)) (omega (arith, long_b, some_b)))
+    ∙ (λ i. is_lt (ordering_then (signed_cmp (last_first a long_a i) (last_first b long_b i)) rest))
+    ∙ tells (get_or a 31 0) (get_or b 31 0) rest differ

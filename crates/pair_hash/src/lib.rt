@@ -2,7 +2,8 @@
 #![tactic(auto)]
 
 ghost use Rattle.std.specs.Prelude.{◌≡◌, ℕ, ◌<◌, slice_index, reverse};
-ghost use Rattle.hash_forms.specs.PairHash.{comes_before, dot32, dot_of, dot_each};
+ghost use Rattle.std.specs.Ordering.{is_lt};
+ghost use Rattle.hash_forms.specs.PairHash.{comes_before, signed_cmp, dot32, dot_of, dot_each};
 ghost use Rattle.pair_hash.specs.Signed.{signed_bytes};
 
 use ql_types::{Hash, Hash32};
@@ -18,9 +19,29 @@ fn signed_from_last(bytes: &[u8; 32]) -> [i8; 32]
     from_last.map(|byte| byte.cast_signed())
 }
 
+/// Whether a byte is the lesser as a signed one.
+fn less_signed(x: u8, y: u8) -> bool
+    ensures { result ≡ is_lt (signed_cmp x y) }
+{
+    x.cast_signed() < y.cast_signed()
+}
+
 /// Whether `a` is the lesser: bytes count from the last to the first, each as a signed one, as in
-/// the Amazon QLDB Developer Guide.
+/// the Amazon QLDB Developer Guide. The last ones alone tell it, unless they are the same.
+#[tactic(auto, using(crate::proofs::Order::by_last))]
 pub fn before(a: &Hash32, b: &Hash32) -> bool
+    ensures { result ≡ comes_before a.now.bytes b.now.bytes }
+{
+    let (x, y) = (a.bytes[31], b.bytes[31]);
+    if x == y {
+        before_by_all(a, b)
+    } else {
+        less_signed(x, y)
+    }
+}
+
+/// The same, told by all bytes.
+fn before_by_all(a: &Hash32, b: &Hash32) -> bool
     ensures { result ≡ comes_before a.now.bytes b.now.bytes }
 {
     let a = signed_from_last(&a.bytes);

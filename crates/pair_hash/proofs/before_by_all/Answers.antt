@@ -1,7 +1,7 @@
 use Rattle.std.proofs.Common.{◌∙◌, ap}
 use Rattle.std.specs.Ordering.{is_lt}
 use Rattle.pair_hash.proofs.Order.{signed_bytes-slice_cmp}
-use Rattle.pair_hash.proofs.before.Goals as goal
+use Rattle.pair_hash.proofs.before_by_all.Goals as goal
 
 pub returns : goal.returns
 returns c =
