@@ -10,11 +10,14 @@ use ion_values::{Body, Field, Names, Value};
 use lists::{OutOfMemory, Text};
 use std::alloc::Global;
 
+/// For how many bytes a new text has room.
+const ROOM: usize = 256;
+
 /// The value's text, in the one spelling that values have when they are written.
 pub fn write(alloc: Global, v: &Value) -> Result<Text, OutOfMemory>
     ensures { IfOk result (λ text. text ≡ value_text v.now) }
 {
-    let mut out = Text::new(alloc);
+    let mut out = Text::from_string(String::with_capacity(alloc, ROOM)?);
     put_value(alloc, &mut out, v)?;
     Ok(out)
 }
