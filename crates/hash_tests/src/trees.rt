@@ -1,7 +1,8 @@
 //! Roots and heights of padded trees.
-ghost use Rattle.std.specs.Prelude.{◌≡◌, [], ◌∷◌, length, IfSome};
+ghost use Rattle.std.specs.Prelude.{◌≡◌, ◌≤◌, ◌^◌, [], ◌∷◌, length, IfSome};
 ghost use Rattle.hash_forms.specs.Tree.{pad_hash, root_of};
 
+use lists::Sequence;
 use pad_tree::{Grow, fold_path, height, path, root, root_level_by_level};
 use pair_hash::dot_full;
 use ql_types::{Hash, Hash32, Steps};
@@ -86,6 +87,43 @@ fn a_tree_grows(rt: HostRuntime) -> Result<(), Fail> {
     let siblings = grow.path(rt.alloc(), 2)?;
     let [first, second] = path_by_hand(&x, &y);
     assert!(rt; siblings.as_slice() == [first, second].as_slice());
+    Ok(())
+}
+
+/// The root of the tree that is made of these leaves at once, and how many pairs were hashed for it.
+fn made_at_once(alloc: Global, leaves: &[Hash32]) -> Option<(Hash, u64)>
+    requires { length leaves.now ≤ 2 ^ 32 }
+    ensures root { IfSome result (λ made. made.0 ≡ root_of leaves.now) }
+{
+    let mut steps = Steps { taken: 0 };
+    let leaves = Sequence::from_slice(alloc, leaves).ok()?;
+    let grow = Grow::of(alloc, leaves, &mut steps).ok()?;
+    Some((grow.root(), steps.taken))
+}
+
+/// The root of the tree that grew by these leaves.
+fn grown_to(alloc: Global, leaves: &[Hash32]) -> Option<Hash>
+    requires { length leaves.now ≤ 2 ^ 32 }
+{
+    let mut grow = Grow::new(alloc).ok()?;
+    'leaves: for leaf in leaves {
+        grow.append(*leaf).ok()?;
+    }
+    Some(grow.root())
+}
+
+#[test]
+fn a_tree_is_made_at_once(rt: HostRuntime) -> Result<(), Fail> {
+    let leaves = [1, 2, 3, 4, 5].map(|byte| Hash32 { bytes: [byte; 32] });
+    for (count, pairs) in [(0, 0), (1, 0), (2, 1), (3, 3), (5, 6)] {
+        assert!(rt; count <= leaves.len());
+        let (root, hashed) = made_at_once(rt.alloc(), &leaves[..count]).ok_or("no tree")?;
+        assert!(rt; hashed == pairs, "{count} leaves");
+        assert!(rt;
+            Some(root) == grown_to(rt.alloc(), &leaves[..count]),
+            "{count} leaves"
+        );
+    }
     Ok(())
 }
 

@@ -6,7 +6,7 @@ use Rattle.std.specs.Prelude.{slice_get}
 use Rattle.ql_types.specs.declared.Hash.TheVariants.{Full}
 use Rattle.ql_types.specs.declared.Hash32.{Hash32}
 use Rattle.hash_forms.specs.PairHash.{dot32}
-use Rattle.hash_forms.specs.Tree.{height_of, node, pad_hash, root_of, root_over}
+use Rattle.hash_forms.specs.Tree.{height_of, node, root_of, root_over}
 use Rattle.pad_tree.specs.Level.{IsNextLevel}
 use Rattle.pad_tree.specs.Paths.{path_of, path_over, sibling_of}
 use Rattle.pad_tree.specs.Growing.{after_steps, nodes_over, level_over, level_of, pad_of}
@@ -14,7 +14,7 @@ use Rattle.pad_tree.proofs.Room.{height_of-half, height_of-least}
 use Rattle.pad_tree.proofs.Next.{root_over-next, root_over-one}
 use Rattle.pad_tree.proofs.PathLevels.{path_over-more, path_over-one}
 
-take_none : (xs : List Hash32) → take 0 xs ≡ []
+pub take_none : (xs : List Hash32) → take 0 xs ≡ []
 take_none [] = refl
 take_none (x ∷ xs) = refl
 
@@ -50,7 +50,7 @@ next_is_over pad (x ∷ y ∷ xs) two = record {
   nodes = λ place. get_or-nodes_over pad (x ∷ y ∷ xs) place;
 }
 
-over_root : (pad : Hash32) (xs : List Hash32) → length xs ≤ 1 → level_over pad xs ≡ []
+pub over_root : (pad : Hash32) (xs : List Hash32) → length xs ≤ 1 → level_over pad xs ≡ []
 over_root pad [] one = refl
 over_root pad (x ∷ []) one = refl
 over_root pad (x ∷ y ∷ xs) one = absurd (omega arith)
@@ -206,25 +206,13 @@ pub no_step : (taken : ℕ) → taken ≡ after_steps 0 taken
 unfolding after_steps
 no_step taken = refl
 
-at_most : (n taken : ℕ) → after_steps n taken ≤ taken + n
+pub at_most : (n taken : ℕ) → after_steps n taken ≤ taken + n
 unfolding after_steps
 at_most zero taken = omega arith
 at_most (suc n) taken = let before = at_most n taken in omega (arith, before)
 
 pub few_steps : (n taken now : ℕ) → now ≡ after_steps n taken → now ≤ taken + (n + 2)
 few_steps n taken now is = let most = at_most n taken in omega (arith, is, most)
-
--- ---- pads
-
-pub pad_first : (pad : Hash32) (n : ℕ) → n ≡ 0 → pad ≡ pad_hash → pad ≡ pad_of n
-unfolding pad_of
-pad_first pad n none is = is ∙ sym (ap pad_of none)
-
-pub pad_more : (n more : ℕ) (pad next : Hash32) → more ≡ n + 1 → pad ≡ pad_of n → next ≡ dot32 pad pad → next ≡ pad_of more
-unfolding pad_of
-pad_more n more pad next e is hashed =
-    let one : more ≡ suc n = omega arith in
-    hashed ∙ ap (λ p. dot32 p p) is ∙ sym (ap pad_of one)
 
 -- ---- one leaf more
 

@@ -6,4 +6,5 @@ pub mod PathLevels
 pub mod Folding
 pub mod Growth
 pub mod Towers
+pub mod AtOnce
 mod Rows

@@ -1,14 +1,14 @@
 -- The levels of a tree as they are kept, while one leaf more makes its way up.
 use Rattle.std.proofs.Common.{◌≡◌, ◌≢◌, ◌∙◌, ℕ, zero, suc, ◌+◌, ◌-◌, ◌*◌, ◌/◌, ◌≤◌, ◌<◌, ◌^◌, List, [], ◌∷◌, ◌++◌, length, take, get_or, set, inl, inr, arith, refl, sym, ap, subst, length-append}
-use Rattle.std.proofs.lemmas.List.{get_or-set_same, get_or-set_other, get_or_append_left, get_or_default, length-set}
-use Rattle.std.proofs.Math.Seq.{get_or-append_seam, take-append_seam}
+use Rattle.std.proofs.lemmas.List.{get_or-set_same, get_or-set_other, get_or_default, length-set}
+use Rattle.std.proofs.Math.Seq.{take-append_seam}
 use Rattle.std.proofs.lemmas.Bool.Decides.{eqb_tells, leb_tells}
 use Rattle.ql_types.specs.declared.Hash32.{Hash32}
 use Rattle.hash_forms.specs.PairHash.{dot32}
 use Rattle.hash_forms.specs.Tree.{height_of}
 use Rattle.pad_tree.specs.Growing.{HasRoom, IsLevel, IsTower, KeptLevel, SameNodes, leaves_in, level_of, pad_of}
 use Rattle.pad_tree.proofs.Room.{height_of-least, height_of-room}
-use Rattle.pad_tree.proofs.Growth.{grown, lowest, no_leaves, past_root}
+use Rattle.pad_tree.proofs.Growth.{grown, lowest, past_root}
 
 -- the lowest level is the first one
 pub first_level : (levels : List KeptLevel) (d : KeptLevel) → 0 < length levels → leaves_in levels ≡ (get_or levels 0 d).nodes
@@ -48,7 +48,7 @@ same_leaves a b d same h =
 pub same_level : (leaves : List Hash32) (level : ℕ) (a b : KeptLevel) → a.nodes ≡ b.nodes → a.pad ≡ b.pad → IsLevel leaves level b → IsLevel leaves level a
 same_level leaves level a b nodes pad is = record { nodes = nodes ∙ is.nodes; pad = pad ∙ is.pad }
 
-no_level : KeptLevel
+pub no_level : KeptLevel
 no_level = record { nodes = []; pad = record { bytes = [] }; spare = 0 }
 
 pub leaves_stay : (a b : List KeptLevel) → SameNodes a b → 0 < length a → leaves_in a ≡ leaves_in b
@@ -109,7 +109,7 @@ pub record IsRaised (before : List KeptLevel) (leaf : Hash32) (at : ℕ) (levels
   pub others : (level : ℕ) (d : KeptLevel) → at < level → level < 33 → IsLevel (leaves_in before) level (get_or levels level d)
   pub room : (level : ℕ) (d : KeptLevel) → at < level → level < 33 → 1 ≤ (get_or levels level d).spare
 
-take_all : (xs : List Hash32) (n : ℕ) → n ≡ length xs → take n xs ≡ xs
+pub take_all : (xs : List Hash32) (n : ℕ) → n ≡ length xs → take n xs ≡ xs
 take_all [] zero e = refl
 take_all [] (suc n) e = refl
 take_all (x ∷ xs) zero e = absurd (omega arith)
@@ -221,32 +221,3 @@ raised_tower before levels leaf top r is few =
 -- what is written through the slice of a vector is all of it
 pub written_back : (xs ys : List KeptLevel) (n : ℕ) → length xs ≡ n → take n (xs ++ ys) ≡ xs
 written_back xs ys n long = ap (λ m. take m (xs ++ ys)) (sym long) ∙ take-append_seam xs ys
-
--- ---- levels without leaves
-
-pub empty_push : (levels more : List KeptLevel) (kept : KeptLevel) → more ≡ levels ++ kept ∷ [] → kept.nodes ≡ [] → kept.pad ≡ pad_of (length levels)
-    → ((level : ℕ) (d : KeptLevel) → level < length levels → IsLevel [] level (get_or levels level d))
-    → (level : ℕ) (d : KeptLevel) → level < length more → IsLevel [] level (get_or more level d)
-empty_push levels more kept is nodes pad before level d h =
-    let long : length more ≡ length levels + 1 = ap length is ∙ length-append levels (kept ∷ []) in
-    elim (leb_tells (suc level) (length levels)) [
-      | inl t ↦ rw is (subst (λ (k : KeptLevel). IsLevel [] level k) (sym (get_or_append_left levels (kept ∷ []) d level (omega (arith, t.1)))) (before level d t.1))
-      | inr f ↦
-          let last : level ≡ length levels = omega (arith, f.1, h, long) in
-          rw (is, last) (subst (λ (k : KeptLevel). IsLevel [] (length levels) k) (sym (get_or-append_seam levels kept [] d))
-          (record { nodes = nodes ∙ sym (no_leaves (length levels)); pad = pad }))
-    ]
-
-pub empty_leaves : (levels : List KeptLevel) → 0 < length levels → ((level : ℕ) (d : KeptLevel) → level < length levels → IsLevel [] level (get_or levels level d))
-    → leaves_in levels ≡ []
-empty_leaves levels some each = first_level levels no_level some ∙ (each 0 no_level some).nodes ∙ no_leaves 0
-
-pub empty_tower : (levels : List KeptLevel) → length levels ≡ 33 → ((level : ℕ) (d : KeptLevel) → level < length levels → IsLevel [] level (get_or levels level d))
-    → IsTower levels
-empty_tower levels long each =
-    let none = empty_leaves levels (omega (arith, long)) each in
-    record {
-      long = long;
-      few = subst (λ (xs : List Hash32). length xs ≤ 2 ^ 32) (sym none) (omega arith);
-      each = λ level d h. subst (λ (xs : List Hash32). IsLevel xs level (get_or levels level d)) (sym none) (each level d (omega (arith, h, long)));
-    }

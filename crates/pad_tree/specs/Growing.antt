@@ -28,6 +28,15 @@ unfoldable pub level_of : List Hash32 → ℕ → List Hash32
 level_of leaves zero = leaves
 level_of leaves (suc level) = level_over (pad_of level) (level_of leaves level)
 
+-- how many nodes with leaves below them stand above the leaves, up to a level
+unfoldable pub nodes_up_to : List Hash32 → ℕ → ℕ
+nodes_up_to leaves zero = 0
+nodes_up_to leaves (suc level) = nodes_up_to leaves level + length (level_of leaves (suc level))
+
+-- and in the whole tree, as high as 2^32 leaves make it
+abbrev pub nodes_above : List Hash32 → ℕ
+nodes_above leaves = nodes_up_to leaves 32
+
 -- ---- a counter of 64 bits
 
 -- the counter after so many steps; at its end it stands still

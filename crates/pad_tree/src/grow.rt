@@ -1,14 +1,13 @@
-//! A padded hash tree that grows a leaf at a time.
+//! A padded hash tree that is made of all its leaves at once, and grows a leaf at a time.
 ghost use Rattle.std.specs.Prelude.{◌≡◌, ◌+◌, ◌<◌, ◌≤◌, ◌^◌, [], ◌∷◌, ◌++◌, length, IfOk, OnOk, OnErr};
 ghost use Rattle.hash_forms.specs.Tree.{height_of, root_of};
-ghost use Rattle.pad_tree.specs.Growing.{after_steps, leaves_in, HasRoom, IsTower, SameNodes};
+ghost use Rattle.pad_tree.specs.Growing.{after_steps, leaves_in, nodes_above, HasRoom, IsTower, SameNodes};
 ghost use Rattle.pad_tree.specs.Paths.{path_of};
 
 use crate::levels::Level;
 use crate::paths::{Hashes, sibling};
 use crate::{height, pad};
 use lists::{OutOfMemory, Sequence};
-use pair_hash::dot_full;
 use ql_types::{Hash, Hash32, Steps};
 use std::alloc::Global;
 use std::marker::Model;
@@ -41,7 +40,22 @@ impl Grow {
         ensures leaves { IfOk result (λ grow. grow.leaves ≡ []) }
         ensures spare { IfOk result (λ grow. grow.spare ≡ 0) }
     {
-        let levels = empty_levels(alloc)?;
+        let grow = Grow::of(alloc, Sequence::new(alloc), &mut Steps { taken: 0 })?;
+        Ok(grow)
+    }
+
+    /// The tree over these leaves, made level by level. It hashes a pair for each node above the leaves, and beside them
+    /// the pads of the levels, which aren't counted.
+    #[tactic(auto, using(crate::proofs::AtOnce::few_nodes))]
+    pub fn of(alloc: Global, leaves: Hashes, steps: &mut Steps) -> Result<Grow, OutOfMemory>
+        requires { length leaves ≤ 2 ^ 32 }
+        ensures leaves { IfOk result (λ grow. grow.leaves ≡ leaves) }
+        ensures spare { IfOk result (λ grow. grow.spare ≡ 0) }
+        ensures counted { OnOk result (steps.new.taken ≡ after_steps (nodes_above leaves) steps.old.taken) }
+        ensures few_steps { OnOk result
+            (steps.new.taken ≤ steps.old.taken + (length leaves + height_of (length leaves))) }
+    {
+        let levels = levels_over(alloc, leaves, steps)?;
         Ok(Grow { levels, spare: 0 })
     }
 
@@ -101,17 +115,21 @@ impl Grow {
     }
 }
 
-/// The levels of the tree over no leaves.
-fn empty_levels(alloc: Global) -> Result<Vec<Level>, OutOfMemory>
+/// The levels of the tree over these leaves.
+fn levels_over(alloc: Global, leaves: Hashes, steps: &mut Steps) -> Result<Vec<Level>, OutOfMemory>
+    requires { length leaves ≤ 2 ^ 32 }
     ensures tower { IfOk result (λ levels. IsTower levels.items) }
-    ensures empty { IfOk result (λ levels. leaves_in levels.items ≡ []) }
+    ensures leaves { IfOk result (λ levels. leaves_in levels.items ≡ leaves) }
+    ensures counted { OnOk result (steps.new.taken ≡ after_steps (nodes_above leaves) steps.old.taken) }
 {
     let mut levels = Vec::with_capacity(alloc, LEVELS)?;
-    let mut pad = pad();
-    'levels: while levels.len() < LEVELS {
-        levels.push(Level::new(alloc, pad))?;
-        pad = dot_full(&pad, &pad);
+    let mut level = Level::new(leaves.into_vec(), pad());
+    'levels: while levels.len() < LEVELS - 1 {
+        let next = level.above(alloc, steps)?;
+        levels.push(level)?;
+        level = next;
     }
+    levels.push(level)?;
     Ok(levels)
 }
 

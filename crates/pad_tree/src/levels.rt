@@ -1,6 +1,7 @@
 //! One level of a padded hash tree that grows.
-ghost use Rattle.std.specs.Prelude.{◌≡◌, ◌+◌, ◌-◌, ◌*◌, ◌<◌, ◌≤◌, ◌^◌, min, [], ◌∷◌, ◌++◌, length, take, slice_index_or, OnOk};
+ghost use Rattle.std.specs.Prelude.{◌≡◌, ◌+◌, ◌-◌, ◌*◌, ◌<◌, ◌≤◌, ◌^◌, min, [], ◌∷◌, ◌++◌, length, take, slice_index_or, IfOk, OnOk};
 ghost use Rattle.hash_forms.specs.PairHash.{dot32};
+ghost use Rattle.pad_tree.specs.Growing.{after_steps, level_over};
 
 use lists::OutOfMemory;
 use pair_hash::dot_full;
@@ -46,16 +47,52 @@ fn counted_dot(a: &Hash32, b: &Hash32, steps: &mut Steps) -> Hash32
 }
 
 impl Level {
-    /// A level without nodes. It takes no memory.
-    pub(crate) fn new(alloc: Global, pad: Hash32) -> Level
-        ensures nodes { result.nodes ≡ [] }
+    /// A level of these nodes. It takes no memory.
+    pub(crate) fn new(nodes: Vec<Hash32>, pad: Hash32) -> Level
+        ensures nodes { result.nodes ≡ nodes.items }
         ensures pad { result.pad ≡ pad }
     {
         Level {
-            nodes: Vec::new(alloc),
+            nodes,
             pad,
             spare: 0,
         }
+    }
+
+    /// The level above.
+    pub(crate) fn above(&self, alloc: Global, steps: &mut Steps) -> Result<Level, OutOfMemory>
+        ensures nodes { IfOk result (λ above. above.nodes ≡ level_over self.now.pad self.now.nodes) }
+        ensures pad { IfOk result (λ above. above.pad ≡ dot32 self.now.pad self.now.pad) }
+        ensures counted { IfOk result (λ above. steps.new.taken ≡ after_steps (length above.nodes) steps.old.taken) }
+    {
+        let nodes = self.nodes_above(alloc, steps)?;
+        Ok(Level::new(nodes, dot_full(&self.pad, &self.pad)))
+    }
+
+    /// How many nodes the level above has: one over each two nodes, and none over a root.
+    #[tactic(auto, using(crate::proofs::AtOnce::count_over, crate::proofs::AtOnce::count_none))]
+    fn count_above(&self) -> usize
+        ensures count { result ≡ length (level_over self.now.pad self.now.nodes) }
+        ensures small { 2 * result ≤ 2 ^ 64 }
+    {
+        if self.nodes.len() > 1 {
+            self.nodes.len().div_ceil(2)
+        } else {
+            0
+        }
+    }
+
+    /// The nodes of the level above, each counted as one step.
+    fn nodes_above(&self, alloc: Global, steps: &mut Steps) -> Result<Vec<Hash32>, OutOfMemory>
+        ensures nodes { IfOk result (λ above. above.items ≡ level_over self.now.pad self.now.nodes) }
+        ensures counted { IfOk result (λ above. steps.new.taken ≡ after_steps (length above.items) steps.old.taken) }
+    {
+        let count = self.count_above();
+        let mut above = Vec::with_capacity(alloc, count)?;
+        'places: for place in 0..count {
+            above.push(self.over(place, steps))?;
+        }
+        Ok(above)
     }
 
     /// How many nodes there are.
