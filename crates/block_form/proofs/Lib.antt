@@ -1,10 +1,13 @@
 pub mod Documents
 pub mod Each
+pub mod Counted
 pub mod Tables
 pub mod Inverse
 pub mod SmallParts
 pub mod Fields
+pub mod Hashing
 pub mod OfRevisions
 pub mod OfInfo
 pub mod OfBlocks
 pub mod Wholes
+pub mod Front

@@ -1,5 +1,5 @@
 -- Reading a block is inverse to writing it.
-use Rattle.std.proofs.Common.{◌≡◌, ◌∙◌, ◌&&◌, ◌==◌, not, ℕ, ◌^◌, Bool, true, false, List, [], ◌∷◌, ◌++◌, take, drop, map, length, nat_lt, Some, None, refl, sym, ap, subst, codes, if◌then◌else◌, arith}
+use Rattle.std.proofs.Common.{◌≡◌, ◌∙◌, ◌&&◌, ◌==◌, not, ℕ, ◌^◌, Bool, true, false, List, [], ◌∷◌, ◌++◌, take, drop, map, length, nat_lt, Some, None, refl, sym, ap, subst, codes, if◌then◌else◌, arith, length-append}
 use Rattle.std.specs.List.{list_all}
 use Rattle.std.specs.Cmp.Derive.{both_true}
 use Rattle.std.proofs.lemmas.Bool.Decides.{nat_tests}
@@ -224,3 +224,27 @@ block-puts b r =
     subst (λ n. header_of n (front_fields b.header) ≡ Some b.header) r.count (header-puts b.header (left _ _ head-fits)) in
     let i = info-puts b.revisions b.info (right (header_fits b.header && hashes_fit b) _ (left _ _ fits)) (left (is_plain_info b.info) _ r.unredacted) r.tables revisions in
     rw (fields-puts _, h, list-puts (map revision_value b.revisions), rs, small, head, i) refl
+
+-- ---- the last two of nine fields, and the others
+
+parts_of_nine : (rest : List Field) (f g : Field) → length rest ≡ 7
+    → block_of ((rest ++ f ∷ []) ++ g ∷ []) ≡ parts_of (take 3 rest) (drop 3 rest) (f ∷ g ∷ [])
+parts_of_nine (a ∷ b ∷ c ∷ d ∷ e ∷ h ∷ i ∷ []) f g is = refl
+parts_of_nine [] f g is = absurd (omega arith)
+parts_of_nine (a ∷ []) f g is = absurd (omega arith)
+parts_of_nine (a ∷ b ∷ []) f g is = absurd (omega arith)
+parts_of_nine (a ∷ b ∷ c ∷ []) f g is = absurd (omega arith)
+parts_of_nine (a ∷ b ∷ c ∷ d ∷ []) f g is = absurd (omega arith)
+parts_of_nine (a ∷ b ∷ c ∷ d ∷ e ∷ []) f g is = absurd (omega arith)
+parts_of_nine (a ∷ b ∷ c ∷ d ∷ e ∷ h ∷ []) f g is = absurd (omega arith)
+parts_of_nine (a ∷ b ∷ c ∷ d ∷ e ∷ h ∷ i ∷ j ∷ rest) f g is = absurd (omega arith)
+
+seven : (rest : List Field) (f g : Field) → length ((rest ++ f ∷ []) ++ g ∷ []) ≡ 9 → length rest ≡ 7
+seven rest f g is = omega (arith, length-append (rest ++ f ∷ []) (g ∷ []), length-append rest (f ∷ []))
+
+pub nine_parts : (fields most rest : List Field) (f g : Field) → length fields ≡ 9 → fields ≡ most ++ g ∷ [] → most ≡ rest ++ f ∷ []
+    → block_of fields ≡ parts_of (take 3 rest) (drop 3 rest) (f ∷ g ∷ [])
+nine_parts fields most rest f g nine last before =
+    let whole : fields ≡ (rest ++ f ∷ []) ++ g ∷ [] = last ∙ ap (λ (fs : List Field). fs ++ g ∷ []) before in
+    let long : length ((rest ++ f ∷ []) ++ g ∷ []) ≡ 9 = sym (ap (λ (fs : List Field). length fs) whole) ∙ nine in
+    ap (λ (fs : List Field). block_of fs) whole ∙ parts_of_nine rest f g (seven rest f g long)

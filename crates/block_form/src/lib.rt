@@ -3,7 +3,9 @@
 //! and proofs are made, and `read_parts` reads them.
 #![tactic(auto)]
 
+mod checked;
 mod hash_checks;
+mod part_hashes;
 pub mod parts;
 mod read_blocks;
 mod read_info;
@@ -12,11 +14,12 @@ mod read_revisions;
 mod revisions;
 mod said;
 mod seals;
+mod takes;
 mod values;
 
-pub use hash_checks::has_hashes;
+pub use checked::{CheckedBlock, checked_from_ion};
 pub use read_blocks::{from_ion, values_tell_blocks};
 pub use read_revisions::revision_in;
 pub use revisions::revision_value;
-pub use seals::{header_hash, revision_hash, seal, strand_hash};
+pub use seals::{header_hash, revision_hash, seal, seal_revision, seal_with_value, strand_hash};
 pub use values::{header_value, to_ion};

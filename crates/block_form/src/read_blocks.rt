@@ -1,17 +1,16 @@
-//! Blocks that values spell.
-ghost use Rattle.std.specs.Prelude.{◌≡◌, codes, length, IfOk};
+//! Blocks that values spell. What they hold is moved out of the values.
+ghost use Rattle.std.specs.Prelude.{◌≡◌, [], ◌∷◌, codes, length, IfOk};
 ghost use Rattle.std.specs.List.{list_all};
 ghost use Rattle.ledger_model.specs.Script.{and_then};
 ghost use Rattle.ledger_model.specs.Values.{list_in};
 ghost use Rattle.ledger_model.specs.Whole.{is_shallow};
 ghost use Rattle.block_form.specs.ReadBack as spec;
 
-use crate::read_info::info_in;
-use crate::read_parts::{
-    address_in, entry_in, fields_in, hash_in, id_in, list_in, moment_in, named,
-};
-use crate::read_revisions::revisions_of;
-use ion_values::{Field, OutOfMemory, Value, depth};
+use crate::read_info::into_info;
+use crate::read_parts::{address_in, entry_in, hash_in, id_in, list_in, moment_in, named};
+use crate::read_revisions::into_revisions;
+use crate::takes::{into_fields, into_members, into_named};
+use ion_values::{Field, Fields, OutOfMemory, Value, copy, depth};
 use ledger_model::{Block, Content, Header, Info, Revision, Revisions};
 use ql_types::{Hash, Hash32, TxId};
 use std::alloc::Global;
@@ -87,17 +86,14 @@ fn hashes_of(fields: &[Field]) -> Option<Hashes>
     })
 }
 
-fn revisions_in(alloc: Global, field: &Field) -> Result<Option<Revisions>, OutOfMemory>
+fn revisions_in(alloc: Global, field: Field) -> Result<Option<Revisions>, OutOfMemory>
     ensures { IfOk result (λ revisions.
-        revisions ≡ and_then (spec.named (codes "revisions") field.now) spec.revisions_in) }
+        revisions ≡ and_then (spec.named (codes "revisions") field) spec.revisions_in) }
 {
-    let Some(value) = named(field, "revisions") else {
+    let Some(values) = into_members(field, "revisions") else {
         return Ok(None);
     };
-    let Some(values) = list_in(value) else {
-        return Ok(None);
-    };
-    let revisions = revisions_of(alloc, values.as_slice())?;
+    let revisions = into_revisions(alloc, values)?;
     Ok(revisions)
 }
 
@@ -107,14 +103,14 @@ fn count_of(revisions: &Revisions) -> Option<u32>
     u32::try_from(revisions.len()).ok()
 }
 
-fn info_of(alloc: Global, field: &Field, revisions: &Revisions) -> Result<Option<Info>, OutOfMemory>
-    ensures { IfOk result (λ info. info ≡ and_then (spec.named (codes "transactionInfo") field.now)
+fn info_of(alloc: Global, field: Field, revisions: &Revisions) -> Result<Option<Info>, OutOfMemory>
+    ensures { IfOk result (λ info. info ≡ and_then (spec.named (codes "transactionInfo") field)
         (spec.info_in revisions.now)) }
 {
-    let Some(value) = named(field, "transactionInfo") else {
+    let Some(value) = into_named(field, "transactionInfo") else {
         return Ok(None);
     };
-    let info = info_in(alloc, value, revisions.as_slice())?;
+    let info = into_info(alloc, value, revisions.as_slice())?;
     Ok(info)
 }
 
@@ -123,13 +119,11 @@ fn parts_of(
     alloc: Global,
     front: &[Field],
     hashes: &[Field],
-    entries: &[Field],
+    info: Field,
+    revisions: Field,
 ) -> Result<Option<Block>, OutOfMemory>
-    ensures { IfOk result (λ block. block ≡ spec.parts_of front.now hashes.now entries.now) }
+    ensures { IfOk result (λ block. block ≡ spec.parts_of front.now hashes.now (info ∷ revisions ∷ [])) }
 {
-    let [info, revisions] = entries else {
-        return Ok(None);
-    };
     let Some(hashes) = hashes_of(hashes) else {
         return Ok(None);
     };
@@ -162,26 +156,32 @@ fn parts_of(
     }))
 }
 
-fn block_of(alloc: Global, fields: &[Field]) -> Result<Option<Block>, OutOfMemory>
-    ensures { IfOk result (λ block. block ≡ spec.block_of fields.now) }
+fn block_of(alloc: Global, fields: Fields) -> Result<Option<Block>, OutOfMemory>
+    ensures { IfOk result (λ block. block ≡ spec.block_of fields) }
 {
     if fields.len() != 9 {
         return Ok(None);
     }
-    let (front, rest) = fields.split_at(3);
-    let (hashes, entries) = rest.split_at(4);
-    let block = parts_of(alloc, front, hashes, entries)?;
+    let mut fields = fields;
+    let Some(revisions) = fields.pop() else {
+        return Ok(None);
+    };
+    let Some(info) = fields.pop() else {
+        return Ok(None);
+    };
+    let (front, hashes) = fields.as_slice().split_at(3);
+    let block = parts_of(alloc, front, hashes, info, revisions)?;
     Ok(block)
 }
 
 /// The block whose value this is, whole or not.
-fn block_in(alloc: Global, v: &Value) -> Result<Option<Block>, OutOfMemory>
-    ensures { IfOk result (λ block. block ≡ spec.block_in v.now) }
+fn block_in(alloc: Global, v: Value) -> Result<Option<Block>, OutOfMemory>
+    ensures { IfOk result (λ block. block ≡ spec.block_in v) }
 {
-    let Some(fields) = fields_in(v) else {
+    let Some(fields) = into_fields(v) else {
         return Ok(None);
     };
-    let block = block_of(alloc, fields.as_slice())?;
+    let block = block_of(alloc, fields)?;
     Ok(block)
 }
 
@@ -204,17 +204,26 @@ fn is_shallow(content: &Content) -> bool
     }
 }
 
-fn whole_in(alloc: Global, v: &Value) -> Result<Option<Block>, OutOfMemory>
-    ensures { IfOk result (λ block. block ≡ spec.whole_in v.now) }
+fn whole_in(alloc: Global, v: Value) -> Result<Option<Block>, OutOfMemory>
+    ensures { IfOk result (λ block. block ≡ spec.whole_in v) }
 {
+    let deep = depth(&v);
     let Some(block) = block_in(alloc, v)? else {
         return Ok(None);
     };
-    if depth(v) <= 256 && are_shallow(block.revisions.as_slice()) {
+    if deep <= 256 && are_shallow(block.revisions.as_slice()) {
         Ok(Some(block))
     } else {
         Ok(None)
     }
+}
+
+/// The same as `from_ion` gives, of the parts of the value.
+pub fn into_block(alloc: Global, v: Value) -> Result<Option<Block>, OutOfMemory>
+    ensures { IfOk result (λ found. spec.IsReadAs v found) }
+{
+    let block = whole_in(alloc, v)?;
+    Ok(block)
 }
 
 /// The whole block whose value this is. None comes exactly where no whole block has this value: `to_ion` gives no
@@ -223,7 +232,7 @@ fn whole_in(alloc: Global, v: &Value) -> Result<Option<Block>, OutOfMemory>
 pub fn from_ion(alloc: Global, v: &Value) -> Result<Option<Block>, OutOfMemory>
     ensures { IfOk result (λ found. spec.IsReadAs v.now found) }
 {
-    let block = whole_in(alloc, v)?;
+    let block = whole_in(alloc, copy(alloc, v)?)?;
     Ok(block)
 }
 

@@ -1,12 +1,13 @@
-//! What a transaction said and did, as values spell it.
-ghost use Rattle.std.specs.Prelude.{◌≡◌, codes, IfOk};
+//! What a transaction said and did, as values spell it. Texts and values are moved out of them.
+ghost use Rattle.std.specs.Prelude.{◌≡◌, ◌≢◌, [], ◌∷◌, codes, length, IfOk, MatchOption};
 ghost use Rattle.std.specs.Option.{option_copied};
 ghost use Rattle.ledger_model.specs.Script.{and_then, each};
-ghost use Rattle.ledger_model.specs.Values.{string_in, list_in};
+ghost use Rattle.ledger_model.specs.Values.{list_in};
 ghost use Rattle.block_form.specs.ReadBack as spec;
 
-use crate::read_parts::{fields_in, id_in, list_in, named, small_number_in, string_in};
-use ion_values::{Field, OutOfMemory, Text, Value, Values, copy_values};
+use crate::read_parts::{fields_in, id_in, list_in, named, small_number_in};
+use crate::takes::{into_fields, into_members, into_string, into_text, with_room};
+use ion_values::{Field, Fields, OutOfMemory, Text, Value, Values};
 use ledger_model::{Answer, Info, Revision, Said, SaidList, Schema, SchemaList, TableIds, Told};
 use lists::Sequence;
 use ql_types::{Place, TableId};
@@ -26,13 +27,6 @@ fn place_in(v: &Value) -> Option<Place>
     })
 }
 
-/// The text of the string in a field of this name.
-fn text_in<'a>(field: &'a Field, name: &str) -> Option<&'a Text>
-    ensures { option_copied result ≡ and_then (spec.named name.now field.now) string_in }
-{
-    string_in(named(field, name)?)
-}
-
 /// The members of the list in a field of this name.
 fn members_in<'a>(field: &'a Field, name: &str) -> Option<&'a Values>
     ensures { option_copied result ≡ and_then (spec.named name.now field.now) list_in }
@@ -40,51 +34,43 @@ fn members_in<'a>(field: &'a Field, name: &str) -> Option<&'a Values>
     list_in(named(field, name)?)
 }
 
-fn said_of(alloc: Global, fields: &[Field]) -> Result<Option<Said>, OutOfMemory>
-    ensures { IfOk result (λ said. said ≡ spec.said_of fields.now) }
+fn said_of(fields: Fields) -> Option<Said>
+    ensures { result ≡ spec.said_of fields }
 {
-    let [text, params, answer] = fields else {
-        return Ok(None);
-    };
-    let Some(text) = text_in(text, "statement") else {
-        return Ok(None);
-    };
-    let Some(params) = members_in(params, "parameters") else {
-        return Ok(None);
-    };
-    let Some(rows) = members_in(answer, "answer") else {
-        return Ok(None);
-    };
-    Ok(Some(Said {
-        text: text.copy(alloc)?,
-        params: copy_values(alloc, params.as_slice())?,
-        answer: Answer {
-            rows: copy_values(alloc, rows.as_slice())?,
-        },
-    }))
+    if fields.len() != 3 {
+        return None;
+    }
+    let mut fields = fields;
+    let answer = fields.pop()?;
+    let params = fields.pop()?;
+    let text = fields.pop()?;
+    let text = into_text(text, "statement")?;
+    let params = into_members(params, "parameters")?;
+    let rows = into_members(answer, "answer")?;
+    Some(Said {
+        text,
+        params,
+        answer: Answer { rows },
+    })
 }
 
-fn said_in(alloc: Global, v: &Value) -> Result<Option<Said>, OutOfMemory>
-    ensures { IfOk result (λ said. said ≡ spec.said_in v.now) }
+fn into_said(v: Value) -> Option<Said>
+    ensures { result ≡ spec.said_in v }
 {
-    let Some(fields) = fields_in(v) else {
-        return Ok(None);
-    };
-    let said = said_of(alloc, fields.as_slice())?;
-    Ok(said)
+    said_of(into_fields(v)?)
 }
 
-fn all_said(alloc: Global, values: &[Value]) -> Result<Option<SaidList>, OutOfMemory>
-    ensures { IfOk result (λ said. said ≡ each spec.said_in values.now) }
+fn all_said(alloc: Global, values: Values) -> Result<Option<SaidList>, OutOfMemory>
+    ensures { IfOk result (λ said. said ≡ each spec.said_in values) }
 {
-    let mut said = Vec::with_capacity(alloc, values.len())?;
-    'statements: for value in values {
-        match said_in(alloc, value)? {
+    let mut said = with_room(alloc, values.len())?;
+    'statements: for value in values.into_vec() {
+        match into_said(value) {
             Some(one) => said.push(one)?,
             None => return Ok(None),
         }
     }
-    Ok(Some(Sequence::from_vec(said)))
+    Ok(Some(said))
 }
 
 /// The change of this kind.
@@ -103,21 +89,19 @@ fn change_of(kind: &str, name: Text, table: TableId) -> Option<Schema>
     None
 }
 
-fn schema_of(alloc: Global, fields: &[Field]) -> Result<Option<Schema>, OutOfMemory>
-    ensures { IfOk result (λ schema. schema ≡ spec.schema_of fields.now) }
+fn schema_of(fields: Fields) -> Option<Schema>
+    ensures { result ≡ spec.schema_of fields }
 {
-    let [name, table] = fields else {
-        return Ok(None);
-    };
-    let kind = name.name.as_str();
-    let Some(name) = string_in(&name.value) else {
-        return Ok(None);
-    };
-    let Some(table) = raw_in(table, "tableId") else {
-        return Ok(None);
-    };
-    let change = change_of(kind, name.copy(alloc)?, TableId { raw: table });
-    Ok(change)
+    if fields.len() != 2 {
+        return None;
+    }
+    let mut fields = fields;
+    let table = fields.pop()?;
+    let change = fields.pop()?;
+    let Field { name: kind, value } = change;
+    let name = into_string(value)?;
+    let table = raw_in(&table, "tableId")?;
+    change_of(kind.as_str(), name, TableId { raw: table })
 }
 
 /// The number of the id in a field of this name.
@@ -127,27 +111,23 @@ fn raw_in(field: &Field, name: &str) -> Option<u128>
     id_in(named(field, name)?)
 }
 
-fn schema_in(alloc: Global, v: &Value) -> Result<Option<Schema>, OutOfMemory>
-    ensures { IfOk result (λ schema. schema ≡ spec.schema_in v.now) }
+fn into_schema(v: Value) -> Option<Schema>
+    ensures { result ≡ spec.schema_in v }
 {
-    let Some(fields) = fields_in(v) else {
-        return Ok(None);
-    };
-    let schema = schema_of(alloc, fields.as_slice())?;
-    Ok(schema)
+    schema_of(into_fields(v)?)
 }
 
-fn all_schema(alloc: Global, values: &[Value]) -> Result<Option<SchemaList>, OutOfMemory>
-    ensures { IfOk result (λ schema. schema ≡ each spec.schema_in values.now) }
+fn all_schema(alloc: Global, values: Values) -> Result<Option<SchemaList>, OutOfMemory>
+    ensures { IfOk result (λ schema. schema ≡ each spec.schema_in values) }
 {
-    let mut schema = Vec::with_capacity(alloc, values.len())?;
-    'changes: for value in values {
-        match schema_in(alloc, value)? {
+    let mut schema = with_room(alloc, values.len())?;
+    'changes: for value in values.into_vec() {
+        match into_schema(value) {
             Some(change) => schema.push(change)?,
             None => return Ok(None),
         }
     }
-    Ok(Some(Sequence::from_vec(schema)))
+    Ok(Some(schema))
 }
 
 /// The table of a document, which is that of the revision.
@@ -187,16 +167,18 @@ fn tables_of(
     Ok(Some(Sequence::from_vec(tables)))
 }
 
-fn info_of(
+/// What is said in four fields.
+fn info_with(
     alloc: Global,
-    fields: &[Field],
+    place: &Field,
+    statements: Field,
+    schema: Field,
+    documents: &Field,
     revisions: &[Revision],
 ) -> Result<Option<Info>, OutOfMemory>
-    ensures { IfOk result (λ info. info ≡ spec.info_of revisions.now fields.now) }
+    ensures { IfOk result (λ info. info ≡ spec.info_of revisions.now
+        (place.now ∷ statements ∷ schema ∷ documents.now ∷ [])) }
 {
-    let [place, statements, schema, documents] = fields else {
-        return Ok(None);
-    };
     let Some(place) = placed(place) else {
         return Ok(None);
     };
@@ -217,31 +199,60 @@ fn info_of(
     }))
 }
 
+fn info_of(
+    alloc: Global,
+    fields: Fields,
+    revisions: &[Revision],
+) -> Result<Option<Info>, OutOfMemory>
+    ensures { IfOk result (λ info. info ≡ spec.info_of revisions.now fields) }
+{
+    let Some((place, statements, schema, documents)) = four_of(fields) else {
+        return Ok(None);
+    };
+    let info = info_with(alloc, &place, statements, schema, &documents, revisions)?;
+    Ok(info)
+}
+
+/// The fields, where there are four.
+fn four_of(fields: Fields) -> Option<(Field, Field, Field, Field)>
+    ensures { MatchOption result (length fields ≢ 4) (λ four. fields ≡ four.0 ∷ four.1 ∷ four.2 ∷ four.3 ∷ []) }
+{
+    if fields.len() != 4 {
+        return None;
+    }
+    let mut fields = fields;
+    let fourth = fields.pop()?;
+    let third = fields.pop()?;
+    let second = fields.pop()?;
+    let first = fields.pop()?;
+    Some((first, second, third, fourth))
+}
+
 fn placed(field: &Field) -> Option<Place>
     ensures { result ≡ and_then (spec.named (codes "place") field.now) spec.place_in }
 {
     place_in(named(field, "place")?)
 }
 
-fn statements_of(alloc: Global, field: &Field) -> Result<Option<SaidList>, OutOfMemory>
-    ensures { IfOk result (λ said. said ≡ and_then (and_then (spec.named (codes "statements") field.now) list_in)
+fn statements_of(alloc: Global, field: Field) -> Result<Option<SaidList>, OutOfMemory>
+    ensures { IfOk result (λ said. said ≡ and_then (and_then (spec.named (codes "statements") field) list_in)
         (each spec.said_in)) }
 {
-    let Some(values) = members_in(field, "statements") else {
+    let Some(values) = into_members(field, "statements") else {
         return Ok(None);
     };
-    let said = all_said(alloc, values.as_slice())?;
+    let said = all_said(alloc, values)?;
     Ok(said)
 }
 
-fn changes_of(alloc: Global, field: &Field) -> Result<Option<SchemaList>, OutOfMemory>
-    ensures { IfOk result (λ schema. schema ≡ and_then (and_then (spec.named (codes "schema") field.now) list_in)
+fn changes_of(alloc: Global, field: Field) -> Result<Option<SchemaList>, OutOfMemory>
+    ensures { IfOk result (λ schema. schema ≡ and_then (and_then (spec.named (codes "schema") field) list_in)
         (each spec.schema_in)) }
 {
-    let Some(values) = members_in(field, "schema") else {
+    let Some(values) = into_members(field, "schema") else {
         return Ok(None);
     };
-    let schema = all_schema(alloc, values.as_slice())?;
+    let schema = all_schema(alloc, values)?;
     Ok(schema)
 }
 
@@ -261,16 +272,16 @@ fn documents_of(
 }
 
 /// What a transaction of these revisions said and did.
-pub fn info_in(
+pub fn into_info(
     alloc: Global,
-    v: &Value,
+    v: Value,
     revisions: &[Revision],
 ) -> Result<Option<Info>, OutOfMemory>
-    ensures { IfOk result (λ info. info ≡ spec.info_in revisions.now v.now) }
+    ensures { IfOk result (λ info. info ≡ spec.info_in revisions.now v) }
 {
-    let Some(fields) = fields_in(v) else {
+    let Some(fields) = into_fields(v) else {
         return Ok(None);
     };
-    let info = info_of(alloc, fields.as_slice(), revisions)?;
+    let info = info_of(alloc, fields, revisions)?;
     Ok(info)
 }

@@ -1,12 +1,12 @@
-//! Revisions that values spell.
-ghost use Rattle.std.specs.Prelude.{◌≡◌, [], ◌∷◌, IfOk};
+//! Revisions that values spell. Their data are moved out of the values.
+ghost use Rattle.std.specs.Prelude.{◌≡◌, ◌≢◌, [], ◌∷◌, length, IfOk};
 ghost use Rattle.ledger_model.specs.Script.{each};
 ghost use Rattle.block_form.specs.ReadBack as spec;
 
 use crate::read_parts::{address_in, fields_in, hash_in, id_in, moment_in, named, number_in};
-use ion_values::{Field, OutOfMemory, Value, copy};
+use crate::takes::{into_fields, into_named, with_room};
+use ion_values::{Field, Fields, OutOfMemory, Value, Values, copy};
 use ledger_model::{Content, Metadata, Revision, Revisions};
-use lists::Sequence;
 use ql_types::{DocId, TxId};
 use std::alloc::Global;
 
@@ -49,59 +49,62 @@ fn with_content(
 }
 
 /// The revision that keeps the data of a field.
-fn with_data(
-    alloc: Global,
-    address: &Field,
-    hash: &Field,
-    kept: &Field,
-    metadata: &Field,
-) -> Result<Option<Revision>, OutOfMemory>
-    ensures { IfOk result (λ r. r ≡ spec.revision_of (address.now ∷ hash.now ∷ kept.now ∷ metadata.now ∷ [])) }
+fn with_data(address: &Field, hash: &Field, kept: Field, metadata: &Field) -> Option<Revision>
+    ensures { result ≡ spec.revision_of (address.now ∷ hash.now ∷ kept ∷ metadata.now ∷ []) }
 {
-    match named(kept, "data") {
-        Some(value) => Ok(with_content(
-            Content::Kept(copy(alloc, value)?),
-            address,
-            hash,
-            metadata,
-        )),
-        None => Ok(None),
-    }
+    let value = into_named(kept, "data")?;
+    with_content(Content::Kept(value), address, hash, metadata)
 }
 
-fn revision_of(alloc: Global, fields: &[Field]) -> Result<Option<Revision>, OutOfMemory>
-    ensures { IfOk result (λ r. r ≡ spec.revision_of fields.now) }
+/// The revision of four fields.
+fn kept_in(fields: Fields) -> Option<Revision>
+    requires { length fields ≢ 3 }
+    ensures { result ≡ spec.revision_of fields }
 {
-    match fields {
-        [address, hash, metadata] => Ok(with_content(Content::Deleted, address, hash, metadata)),
-        [address, hash, data, metadata] => {
-            let revision = with_data(alloc, address, hash, data, metadata)?;
-            Ok(revision)
-        }
-        _ => Ok(None),
+    if fields.len() != 4 {
+        return None;
     }
+    let mut fields = fields;
+    let metadata = fields.pop()?;
+    let kept = fields.pop()?;
+    let [address, hash] = fields.as_slice() else {
+        return None;
+    };
+    with_data(address, hash, kept, &metadata)
+}
+
+fn revision_of(fields: Fields) -> Option<Revision>
+    ensures { result ≡ spec.revision_of fields }
+{
+    if let [address, hash, metadata] = fields.as_slice() {
+        return with_content(Content::Deleted, address, hash, metadata);
+    }
+    kept_in(fields)
+}
+
+fn into_revision(v: Value) -> Option<Revision>
+    ensures { result ≡ spec.revision_in v }
+{
+    revision_of(into_fields(v)?)
 }
 
 /// The revision whose value this is, or None where it is no revision's that keeps its data or is a delete.
 pub fn revision_in(alloc: Global, v: &Value) -> Result<Option<Revision>, OutOfMemory>
     ensures { IfOk result (λ r. r ≡ spec.revision_in v.now) }
 {
-    let Some(fields) = fields_in(v) else {
-        return Ok(None);
-    };
-    let revision = revision_of(alloc, fields.as_slice())?;
-    Ok(revision)
+    let copied = copy(alloc, v)?;
+    Ok(into_revision(copied))
 }
 
-pub fn revisions_of(alloc: Global, values: &[Value]) -> Result<Option<Revisions>, OutOfMemory>
-    ensures { IfOk result (λ revisions. revisions ≡ each spec.revision_in values.now) }
+pub fn into_revisions(alloc: Global, values: Values) -> Result<Option<Revisions>, OutOfMemory>
+    ensures { IfOk result (λ revisions. revisions ≡ each spec.revision_in values) }
 {
-    let mut revisions = Vec::with_capacity(alloc, values.len())?;
-    'revisions: for value in values {
-        match revision_in(alloc, value)? {
+    let mut revisions = with_room(alloc, values.len())?;
+    'revisions: for value in values.into_vec() {
+        match into_revision(value) {
             Some(revision) => revisions.push(revision)?,
             None => return Ok(None),
         }
     }
-    Ok(Some(Sequence::from_vec(revisions)))
+    Ok(Some(revisions))
 }

@@ -45,6 +45,20 @@ fn put_data(alloc: Global, fields: &mut Fields, content: &Content) -> Result<(),
 pub fn revision_value(alloc: Global, revision: &Revision) -> Result<Value, OutOfMemory>
     ensures { IfOk result (λ v. v ≡ revision_value revision.now) }
 {
+    let metadata = metadata_value(alloc, &revision.metadata)?;
+    let value = revision_with(alloc, revision, metadata)?;
+    Ok(value)
+}
+
+/// The revision as a value, of the value of its metadata.
+pub(crate) fn revision_with(
+    alloc: Global,
+    revision: &Revision,
+    metadata: Value,
+) -> Result<Value, OutOfMemory>
+    requires { metadata ≡ metadata_value revision.now.metadata }
+    ensures { IfOk result (λ v. v ≡ revision_value revision.now) }
+{
     let mut fields = Sequence::new(alloc);
     put(
         alloc,
@@ -59,12 +73,7 @@ pub fn revision_value(alloc: Global, revision: &Revision) -> Result<Value, OutOf
         hash_value(alloc, &revision.hash)?,
     )?;
     put_data(alloc, &mut fields, &revision.content)?;
-    put(
-        alloc,
-        &mut fields,
-        "metadata",
-        metadata_value(alloc, &revision.metadata)?,
-    )?;
+    put(alloc, &mut fields, "metadata", metadata)?;
     Ok(structure(alloc, fields))
 }
 

@@ -1,20 +1,20 @@
 //! The hashes of revisions and blocks.
 ghost use Rattle.std.specs.Prelude.{◌≡◌, map, IfOk};
 ghost use Rattle.hash_forms.specs.Serialize.{hash_of};
-ghost use Rattle.ledger_model.specs.Journal.{header_value, info_value, metadata_value};
+ghost use Rattle.ledger_model.specs.Journal.{block_value, header_value, info_value, metadata_value, revision_value};
 ghost use Rattle.ledger_model.specs.Seals.{revision_hash, entries_hash, revisions_root, sealed, strand_hash};
 
 use crate::parts::id_value;
-use crate::revisions::metadata_value;
+use crate::revisions::{metadata_value, revision_with};
 use crate::said::info_value;
-use crate::values::header_value;
+use crate::values::{header_value, value_with};
 use ion_hash::hash;
-use ion_values::OutOfMemory;
+use ion_values::{OutOfMemory, Value, Values};
 use ledger_model::{Block, Content, Header, Info, Metadata, Revision, Revisions};
 use lists::Sequence;
 use pad_tree::root;
 use pair_hash::dot_full;
-use ql_types::{Hash, Hash32, StrandId};
+use ql_types::{BlockAddress, Hash, Hash32, StrandId};
 use std::alloc::Global;
 
 /// The hash of a revision: that of its metadata with that of its data, which may stand for the data, or of its metadata
@@ -26,12 +26,52 @@ pub fn revision_hash(
 ) -> Result<Hash32, OutOfMemory>
     ensures { IfOk result (λ h. h ≡ revision_hash content.now metadata.now) }
 {
-    let metadata = hash(alloc, &metadata_value(alloc, metadata)?)?;
+    let (hash, _value) = hash_and_value(alloc, content, metadata)?;
+    Ok(hash)
+}
+
+/// The same with the value of the metadata.
+fn hash_and_value(
+    alloc: Global,
+    content: &Content,
+    metadata: &Metadata,
+) -> Result<(Hash32, Value), OutOfMemory>
+    ensures hash { IfOk result (λ made. made.0 ≡ revision_hash content.now metadata.now) }
+    ensures value { IfOk result (λ made. made.1 ≡ metadata_value metadata.now) }
+{
+    let value = metadata_value(alloc, metadata)?;
+    let metadata = hash(alloc, &value)?;
     match content {
-        Content::Deleted => Ok(metadata),
-        Content::Kept(value) => Ok(dot_full(&metadata, &hash(alloc, value)?)),
-        Content::Redacted(data) => Ok(dot_full(&metadata, data)),
+        Content::Deleted => Ok((metadata, value)),
+        Content::Kept(data) => Ok((dot_full(&metadata, &hash(alloc, data)?), value)),
+        Content::Redacted(data) => Ok((dot_full(&metadata, data), value)),
     }
+}
+
+/// The revision of these parts, with its hash, and its value. The value of the metadata is built once for both.
+pub fn seal_revision(
+    alloc: Global,
+    address: BlockAddress,
+    content: Content,
+    metadata: Metadata,
+) -> Result<(Revision, Value), OutOfMemory>
+    ensures revision { IfOk result (λ made. made.0 ≡ record {
+      address = address;
+      hash = revision_hash content metadata;
+      content = content;
+      metadata = metadata;
+    }) }
+    ensures value { IfOk result (λ made. made.1 ≡ revision_value made.0) }
+{
+    let (hash, told) = hash_and_value(alloc, &content, &metadata)?;
+    let revision = Revision {
+        address,
+        hash,
+        content,
+        metadata,
+    };
+    let value = revision_with(alloc, &revision, told)?;
+    Ok((revision, value))
 }
 
 /// What stands as the previous hash of a strand's first block: the hash of the strand's id.
@@ -39,12 +79,6 @@ pub fn strand_hash(alloc: Global, strand: StrandId) -> Result<Hash32, OutOfMemor
     ensures { IfOk result (λ h. h ≡ strand_hash strand.raw) }
 {
     hash(alloc, &id_value(alloc, strand.raw)?)
-}
-
-pub fn info_hash(alloc: Global, info: &Info, revisions: &[Revision]) -> Result<Hash32, OutOfMemory>
-    ensures { IfOk result (λ h. h ≡ hash_of (info_value info.now revisions.now)) }
-{
-    hash(alloc, &info_value(alloc, info, revisions)?)
 }
 
 /// The hash of a block's header.
@@ -86,9 +120,50 @@ pub fn seal(
 ) -> Result<Block, OutOfMemory>
     ensures { IfOk result (λ block. block ≡ sealed previous header info revisions) }
 {
-    let said = info_hash(alloc, &info, revisions.as_slice())?;
+    let head = header_value(alloc, &header)?;
+    let told = info_value(alloc, &info, revisions.as_slice())?;
+    let block = seal_over(alloc, previous, header, info, revisions, &head, &told)?;
+    Ok(block)
+}
+
+/// The block that `seal` makes of these parts, and its value, from which its line in the journal is written; `values`
+/// are those of the revisions. What is built to be hashed becomes a part of the value.
+pub fn seal_with_value(
+    alloc: Global,
+    previous: Hash32,
+    header: Header,
+    info: Info,
+    revisions: Revisions,
+    values: Values,
+) -> Result<(Block, Value), OutOfMemory>
+    requires { values ≡ map revision_value revisions }
+    ensures block { IfOk result (λ made. made.0 ≡ sealed previous header info revisions) }
+    ensures value { IfOk result (λ made. made.1 ≡ block_value made.0) }
+{
+    let head = header_value(alloc, &header)?;
+    let told = info_value(alloc, &info, revisions.as_slice())?;
+    let block = seal_over(alloc, previous, header, info, revisions, &head, &told)?;
+    let value = value_with(alloc, &block, head, told, values)?;
+    Ok((block, value))
+}
+
+/// The block of these parts, with its hashes, of the values of its header and of what it says.
+fn seal_over(
+    alloc: Global,
+    previous: Hash32,
+    header: Header,
+    info: Info,
+    revisions: Revisions,
+    head: &Value,
+    told: &Value,
+) -> Result<Block, OutOfMemory>
+    requires head { head.now ≡ header_value header }
+    requires told { told.now ≡ info_value info revisions }
+    ensures { IfOk result (λ block. block ≡ sealed previous header info revisions) }
+{
+    let said = hash(alloc, told)?;
     let root = revisions_root(alloc, revisions.as_slice())?;
-    let head = header_hash(alloc, &header)?;
+    let head = hash(alloc, head)?;
     let entries = entries_hash(&said, &root, &head);
     Ok(Block {
         header,

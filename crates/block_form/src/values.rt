@@ -1,13 +1,15 @@
 //! Blocks as values.
-ghost use Rattle.std.specs.Prelude.{◌≡◌, ◌++◌, map, IfOk, OnOk};
+ghost use Rattle.std.specs.Prelude.{◌≡◌, ◌++◌, map, take, IfOk, OnOk};
+ghost use Rattle.ledger_model.specs.declared.block.Header.{Header};
 ghost use Rattle.ledger_model.specs.Values.{plain};
-ghost use Rattle.ledger_model.specs.Journal.{hash_bytes, header_value, front_fields, hash_fields, block_value};
+ghost use Rattle.ledger_model.specs.Journal.{block_value, front_fields, hash_bytes, hash_fields, header_value, info_value, revision_value};
 
 use crate::parts::{
     address_value, hash_value, id_value, list, moment, number, plain, put, structure,
 };
 use crate::revisions::revision_values;
 use crate::said::info_value;
+use crate::takes::into_fields;
 use ion_values::{Body, Fields, OutOfMemory, Value, Values};
 use ledger_model::{Block, Header};
 use lists::Sequence;
@@ -66,24 +68,23 @@ fn entry_hash_values(alloc: Global, hashes: &[Hash]) -> Result<Values, OutOfMemo
     Ok(values)
 }
 
-/// Puts what stands in front of a block's hashes.
-fn put_header(alloc: Global, fields: &mut Fields, header: &Header) -> Result<(), OutOfMemory>
-    ensures { OnOk result (fields.new ≡ fields.old ++ front_fields header.now) }
+/// The first three of the fields.
+fn first_three(fields: Fields) -> Fields
+    ensures { result ≡ take 3 fields }
 {
-    put(
-        alloc,
-        fields,
-        "blockAddress",
-        address_value(alloc, &header.address)?,
-    )?;
-    put(
-        alloc,
-        fields,
-        "transactionId",
-        id_value(alloc, header.tx.raw)?,
-    )?;
-    put(alloc, fields, "blockTimestamp", moment(alloc, &header.time))?;
-    Ok(())
+    let mut fields = fields.into_vec();
+    fields.truncate(3);
+    Sequence::from_vec(fields)
+}
+
+/// What stands in front of a block's hashes, taken out of the value of its header.
+fn front_of(alloc: Global, head: Value) -> Fields
+    ensures { (h : Header) → head ≡ header_value h → result ≡ front_fields h }
+{
+    let Some(fields) = into_fields(head) else {
+        return Sequence::new(alloc);
+    };
+    first_three(fields)
 }
 
 /// Puts a block's hashes.
@@ -112,12 +113,29 @@ fn put_hashes(alloc: Global, fields: &mut Fields, block: &Block) -> Result<(), O
 pub fn to_ion(alloc: Global, block: &Block) -> Result<Value, OutOfMemory>
     ensures { IfOk result (λ v. v ≡ block_value block.now) }
 {
-    let info = info_value(alloc, &block.info, block.revisions.as_slice())?;
+    let head = header_value(alloc, &block.header)?;
+    let told = info_value(alloc, &block.info, block.revisions.as_slice())?;
     let revisions = revision_values(alloc, block.revisions.as_slice())?;
-    let mut fields = Sequence::new(alloc);
-    put_header(alloc, &mut fields, &block.header)?;
+    let value = value_with(alloc, block, head, told, revisions)?;
+    Ok(value)
+}
+
+/// The block as an Ion value, of the values of its header, of what it says and of its revisions.
+pub(crate) fn value_with(
+    alloc: Global,
+    block: &Block,
+    head: Value,
+    told: Value,
+    revisions: Values,
+) -> Result<Value, OutOfMemory>
+    requires head { head ≡ header_value block.now.header }
+    requires told { told ≡ info_value block.now.info block.now.revisions }
+    requires revisions { revisions ≡ map revision_value block.now.revisions }
+    ensures { IfOk result (λ v. v ≡ block_value block.now) }
+{
+    let mut fields = front_of(alloc, head);
     put_hashes(alloc, &mut fields, block)?;
-    put(alloc, &mut fields, "transactionInfo", info)?;
+    put(alloc, &mut fields, "transactionInfo", told)?;
     put(alloc, &mut fields, "revisions", list(alloc, revisions))?;
     Ok(structure(alloc, fields))
 }

@@ -8,7 +8,7 @@ use Rattle.std.specs.Io.BufRead.{take_through}
 use Rattle.ledger_model.specs.declared.block.Block.{Block}
 use Rattle.ledger_model.specs.declared.damage.Damage.{Damage}
 use Rattle.ledger_model.specs.Journal.{line, journal_bytes}
-use Rattle.ledger_model.specs.Damages.{damage_behind, strand_of, UndamagedBehind, Undamaged}
+use Rattle.ledger_model.specs.Damages.{damage_behind, has_hashes, strand_of, UndamagedBehind, Undamaged}
 use Rattle.ledger_model.specs.Recovered.{Fails, IsLineOf, IsJournal, IsDamaged}
 use Rattle.journal_text.specs.declared.journal.JournalFault.{JournalFault}
 use Rattle.journal_text.specs.declared.journal.JournalFault.TheVariants as fault
@@ -17,7 +17,7 @@ use Rattle.journal_text.specs.Stands.{Stands}
 use Rattle.journal_text.specs.Reading.{IsFault, IsRefused, StandsBehind}
 use Rattle.journal_text.specs.Feeding.{IsOneMore, IsReader}
 use Rattle.journal_text.proofs.Feeds.{NoFeed}
-use Rattle.journal_text.proofs.Growing.{journal_more, stands_more, undamaged_more}
+use Rattle.journal_text.proofs.Growing.{hashes_behind, journal_more, stands_more, undamaged_more}
 use Rattle.journal_text.proofs.Pieces.{append_one_line}
 
 -- ---- what is taken of a piece
@@ -112,6 +112,10 @@ undamaged_behind before (b ∷ bs) (suc at) d u h =
 
 pub undamaged_at : (blocks : List Block) (at : ℕ) (d : Block) → Undamaged blocks → at < length blocks → damage_behind (take at blocks) (get_or blocks at d) ≡ None
 undamaged_at blocks at d u h = undamaged_behind [] blocks at d u h
+
+pub hashes_at : (blocks : List Block) (at : ℕ) (b : Block) → Undamaged blocks → at < length blocks → b ≡ get_or blocks at b → true ≡ has_hashes b
+hashes_at blocks at b u room is =
+    sym (hashes_behind (take at blocks) b (ap (λ (x : Block). damage_behind (take at blocks) x) is ∙ undamaged_at blocks at b u room))
 
 -- ---- the registry of blocks, admitted one by one
 

@@ -1,6 +1,6 @@
 -- A journal grows by a line.
 use Rattle.std.proofs.Common.{◌≡◌, ◌∙◌, ℕ, suc, ◌+◌, ◌≤◌, ◌-◌, List, [], ◌∷◌, ◌++◌, length, drop, Bool, true, false, not, Option, Some, None, if◌then◌else◌, refl, sym, ap, subst, arith, append_assoc, append-nil, length-append, length-drop, drop-drop}
-use Rattle.std.specs.List.{flat_map}
+use Rattle.std.proofs.lemmas.Bool.{not-false}
 use Rattle.std.proofs.lemmas.List.Concat.{flat_map-append}
 use Rattle.ledger_model.specs.declared.block.Block.{Block}
 use Rattle.ledger_model.specs.declared.damage.Damage.{Damage}
@@ -68,6 +68,21 @@ damaged bytes text rest at sequence blocks kind so_far next one_line u is f = (
     fails = f;
   },
 )
+
+passed : (b : Bool) (d : Damage) (o : Option Damage) → (if b then Some d else o) ≡ None → (b ≡ false) × (o ≡ None)
+passed true d o h = cc
+passed false d o h = (refl, h)
+
+-- a block that fails no check has its hashes
+pub hashes_behind : (before : List Block) (b : Block) → damage_behind before b ≡ None → has_hashes b ≡ true
+hashes_behind before b none =
+    let strand = strand_of before b in
+    let address = passed (not (has_address strand before b)) _ _ none in
+    let id = passed (not (has_id strand before b)) _ _ address.1 in
+    let time = passed (not (has_time before b)) _ _ id.1 in
+    let previous = passed (not (has_previous strand before b)) _ _ time.1 in
+    let hashes = passed (not (has_hashes b)) _ _ previous.1 in
+    not-false (has_hashes b) hashes.0
 
 -- the check that a whole block fails first isn't that of its bytes
 never_unread :

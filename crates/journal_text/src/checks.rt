@@ -8,7 +8,7 @@ ghost use Rattle.ledger_model.specs.Damages as spec;
 ghost use Rattle.journal_text.specs.Stands.{Stands};
 
 use crate::registry::Registry;
-use block_form::{has_hashes, strand_hash};
+use block_form::strand_hash;
 use ion_values::OutOfMemory;
 use ledger_model::{Block, Damage};
 use ql_types::{Hash32, IdMask, StrandId, TxId, id_parts};
@@ -96,15 +96,18 @@ fn has_previous(
     Ok(block.previous.bytes == last.bytes)
 }
 
-/// The first check that the block fails behind these blocks, of which the registry is. Where it fails none the registry
-/// has taken it in; else, and after want of memory, the registry is of no more use.
+/// The first check that the block fails behind these blocks, of which the registry is; whether its hashes hold was seen
+/// before. Where it fails none the registry has taken it in; else, and after want of memory, the registry is of no more
+/// use.
 pub(crate) fn damage_of(
     alloc: Global,
     registry: &mut Registry,
     before: &[Block],
     block: &Block,
+    hashes_hold: bool,
 ) -> Result<Option<Damage>, OutOfMemory>
-    requires { Stands (spec.strand_of before.now block.now) before.now registry.old }
+    requires stands { Stands (spec.strand_of before.now block.now) before.now registry.old }
+    requires hashes { hashes_hold ≡ spec.has_hashes block.now }
     ensures kind { IfOk result (λ kind. kind ≡ spec.damage_behind before.now block.now) }
     ensures stands { IfOk result (λ kind. kind ≡ None → Stands (spec.strand_of before.now block.now) (before.now
         ++ block.now ∷ []) registry.new) }
@@ -122,7 +125,7 @@ pub(crate) fn damage_of(
     if !has_previous(alloc, strand, before, block)? {
         return Ok(Some(Damage::WrongPrevious));
     }
-    if !has_hashes(alloc, block)? {
+    if !hashes_hold {
         return Ok(Some(Damage::WrongHash));
     }
     if !registry.admit(alloc, strand, block)? {

@@ -77,14 +77,14 @@ pub(crate) fn next_block(
     ensures fault { IfErr result (λ fault. IsRefused before.now (text.now ++ 10 ∷ []) fault) }
 {
     let sequence = before.len() as u64;
-    let Some(block) = block_of(alloc, text)? else {
+    let Some(checked) = block_of(alloc, text)? else {
         return Err(JournalFault::Damaged {
             sequence,
             kind: Damage::NotALine,
         });
     };
-    match damage_of(alloc, registry, before, &block)? {
-        None => Ok(block),
+    match damage_of(alloc, registry, before, &checked.block, checked.hashes_hold)? {
+        None => Ok(checked.block),
         Some(kind) => Err(JournalFault::Damaged { sequence, kind }),
     }
 }

@@ -1,7 +1,8 @@
 //! The text of a journal, a line a block.
 #![tactic(auto)]
 
-ghost use Rattle.std.specs.Prelude.{◌≡◌, IfOk};
+ghost use Rattle.std.specs.Prelude.{◌≡◌, ◌∷◌, ◌++◌, [], IfOk};
+ghost use Rattle.ion_forms.specs.Write.{value_text};
 ghost use Rattle.ledger_model.specs.Journal.{line};
 
 mod checks;
@@ -13,7 +14,7 @@ mod registry;
 
 use block_form::to_ion;
 use ion_text::write;
-use ion_values::{OutOfMemory, Text};
+use ion_values::{OutOfMemory, Text, Value};
 pub use journal::{JournalFault, read_journal};
 pub use laws::{journals_tell, written_on_one_line};
 use ledger_model::Block;
@@ -25,7 +26,15 @@ pub fn line(alloc: Global, block: &Block) -> Result<Text, OutOfMemory>
     ensures { IfOk result (λ text. text ≡ line block.now) }
 {
     let value = to_ion(alloc, block)?;
-    let mut text = write(alloc, &value)?;
+    let text = line_of_value(alloc, &value)?;
+    Ok(text)
+}
+
+/// The line of the block of this value.
+pub fn line_of_value(alloc: Global, value: &Value) -> Result<Text, OutOfMemory>
+    ensures { IfOk result (λ text. text ≡ value_text value.now ++ 10 ∷ []) }
+{
+    let mut text = write(alloc, value)?;
     text.push_str("\n")?;
     Ok(text)
 }

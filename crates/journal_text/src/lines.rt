@@ -4,10 +4,9 @@ ghost use Rattle.ion_values.specs.declared.value.Value.{Value};
 ghost use Rattle.ion_forms.specs.Write.{value_text};
 ghost use Rattle.journal_text.specs.Lines.{GivesOne, IsLineRead};
 
-use block_form::from_ion;
+use block_form::{CheckedBlock, checked_from_ion};
 use ion_text::{ReadFault, read_is_within, read_stream, write, written_is_read};
 use ion_values::{OutOfMemory, Value, Values};
-use ledger_model::Block;
 use std::alloc::Global;
 
 /// How deep a block nests at most.
@@ -43,9 +42,9 @@ fn is_written(alloc: Global, value: &Value, text: &[u8]) -> Result<bool, OutOfMe
     Ok(written.as_str().as_bytes() == text)
 }
 
-/// The whole block whose line this text is, with a line feed behind it. None comes exactly where it is that of no whole
-/// block.
-pub(crate) fn block_of(alloc: Global, text: &[u8]) -> Result<Option<Block>, OutOfMemory>
+/// The whole block whose line this text is, with a line feed behind it, and whether its hashes hold. None comes exactly
+/// where it is that of no whole block.
+pub(crate) fn block_of(alloc: Global, text: &[u8]) -> Result<Option<CheckedBlock>, OutOfMemory>
     ensures { IfOk result (λ found. IsLineRead (text.now ++ 10 ∷ []) found) }
 {
     written_is_read();
@@ -53,11 +52,9 @@ pub(crate) fn block_of(alloc: Global, text: &[u8]) -> Result<Option<Block>, OutO
     let Some(value) = only_value(alloc, text)? else {
         return Ok(None);
     };
-    let Some(block) = from_ion(alloc, &value)? else {
-        return Ok(None);
-    };
     if is_written(alloc, &value, text)? {
-        Ok(Some(block))
+        let found = checked_from_ion(alloc, value)?;
+        Ok(found)
     } else {
         Ok(None)
     }

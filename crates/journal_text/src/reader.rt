@@ -190,7 +190,7 @@ fn registry_of(alloc: Global, blocks: &[Block]) -> Result<Registry, OutOfMemory>
     let mut registry = Registry::new(alloc);
     'admitted: for at in 0..blocks.len() {
         let (before, _) = blocks.split_at(at);
-        let _ = damage_of(alloc, &mut registry, before, &blocks[at])?;
+        let _ = damage_of(alloc, &mut registry, before, &blocks[at], true)?;
     }
     Ok(registry)
 }

@@ -5,4 +5,4 @@ use Rattle.block_form.proofs.hash_checks.have_hashes.Given as goal
 
 -- what the rest passes all pass
 abbrev pub invariant-revisions : goal.invariant-revisions
-invariant-revisions l = list_all has_revision_hash (drop l.revision-index l.revisions) ≡ list_all has_revision_hash l.revisions
+invariant-revisions l = list_all has_revision_hash (drop l.at l.revisions) ≡ list_all has_revision_hash l.revisions

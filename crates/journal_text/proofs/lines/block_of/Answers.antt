@@ -1,9 +1,7 @@
 use Rattle.std.proofs.Common.{◌≡◌, Bool, true, false, Option, subst}
 use Rattle.ion_values.specs.declared.value.Value.{Value}
-use Rattle.ledger_model.specs.declared.block.Block.{Block}
-use Rattle.block_form.specs.ReadBack.{IsReadAs}
 use Rattle.journal_text.specs.Lines.{GivesOne}
-use Rattle.journal_text.proofs.LineReads.{no_value, no_block, not_written, line_is}
+use Rattle.journal_text.proofs.LineReads.{no_value, not_written, line_read}
 use Rattle.journal_text.proofs.lines.block_of.Goals as goal
 
 never : (b : Bool) → b ≡ true → b ≡ false → ⊥
@@ -12,17 +10,15 @@ never b t f = cc
 pub returns-in_default : goal.returns-in_default
 returns-in_default c = no_value c.written_is_read.ensures c.args.text.now (subst (λ (x : Option Value). GivesOne c.args.text.now x) c.in_default.is c.in_ok-value.ensures)
 
-pub returns-then-branch : goal.returns-then-branch
-returns-then-branch c =
+pub returns-in_ok-found : goal.returns-in_ok-found
+returns-in_ok-found c =
     let text = c.args.text.now in
-    let v = c.in-Some.value in
     let reads = subst (λ (x : Option Value). GivesOne text x) c.in-Some.is c.in_ok-value.ensures in
-    let found = subst (λ (x : Option Block). IsReadAs v x) c.in-Some-2.is c.in_ok-block.ensures in
-    line_is c.read_is_within.ensures text v c.in-Some-2.block reads found.0 found.1 (c.in_ok-is_written.ensures.0 c.if-branch.true)
+    line_read c.written_is_read.ensures c.read_is_within.ensures text c.in-Some.value c.in_ok-found.found reads
+    (c.in_ok-is_written.ensures.0 c.if-branch.true) c.in_ok-found.ensures
 
-pub returns : goal.returns
-returns c =
+pub returns-else-branch : goal.returns-else-branch
+returns-else-branch c =
     let text = c.args.text.now in
-    let v = c.in-Some.value in
     let reads = subst (λ (x : Option Value). GivesOne text x) c.in-Some.is c.in_ok-value.ensures in
-    not_written c.written_is_read.ensures text v reads (λ e. never c.in_ok-is_written.field-0 (c.in_ok-is_written.ensures.1 e) c.if-branch.false)
+    not_written c.written_is_read.ensures text c.in-Some.value reads (λ e. never c.in_ok-is_written.field-0 (c.in_ok-is_written.ensures.1 e) c.if-branch.false)

@@ -1,6 +1,0 @@
-use Rattle.std.proofs.Common.{◌∙◌, ap}
-use Rattle.ledger_model.specs.Journal.{structure}
-use Rattle.block_form.proofs.revisions.revision_value.Goals as goal
-
-pub returns : goal.returns
-returns c = c.structure.ensures ∙ ap structure (rw (c.in_ok-put-3.ensures, c.in_ok-put_data.ensures, c.in_ok-put-2.ensures, c.in_ok-put.ensures, c.in_ok-address_value.ensures, c.in_ok-hash_value.ensures, c.in_ok-metadata_value.ensures, c.new-fields.ensures))

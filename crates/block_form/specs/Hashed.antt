@@ -1,0 +1,58 @@
+-- The hashes of those parts of a block that stand in its value as they are hashed (Ion Hash 1.0): what it said and did, and each
+-- revision's metadata. And what is read of a value whose hashes are checked.
+use Rattle.std.specs.Prelude.{◌≡◌, ◌≢◌, List, [], ◌∷◌, map, slice_get, Option, Some, None, option_map}
+use Rattle.hash_forms.specs.Serialize.{hash_of}
+use Rattle.ion_values.specs.declared.value.Value.{Value}
+use Rattle.ion_values.specs.declared.value.Field.{Field}
+use Rattle.ql_types.specs.declared.Hash32.{Hash32}
+use Rattle.ledger_model.specs.declared.block.Revision.{Revision}
+use Rattle.ledger_model.specs.declared.block.Block.{Block}
+use Rattle.ledger_model.specs.Values.{list_in, fields_in}
+use Rattle.ledger_model.specs.Script.{and_then, each}
+use Rattle.ledger_model.specs.Journal.{metadata_value, info_value, block_value}
+use Rattle.ledger_model.specs.Damages as damages
+use Rattle.block_form.specs.declared.part_hashes.PartHashes.{PartHashes}
+use Rattle.block_form.specs.declared.checked.CheckedBlock.{CheckedBlock}
+use Rattle.block_form.specs.ReadBack.{IsReadAs}
+
+-- ---- of a block
+
+abbrev pub metadata_hash : Revision → Hash32
+metadata_hash r = hash_of (metadata_value r.metadata)
+
+abbrev pub part_hashes : Block → PartHashes
+part_hashes b = record { said = hash_of (info_value b.info b.revisions); metadata = map metadata_hash b.revisions }
+
+-- ---- of the block whose value this is
+
+-- the last field of a revision has its metadata
+abbrev pub last_field : List Field → Option Field
+last_field (f ∷ g ∷ h ∷ []) = Some h
+last_field (f ∷ g ∷ d ∷ h ∷ []) = Some h
+last_field _ = None
+
+abbrev pub metadata_hash_in : Value → Option Hash32
+metadata_hash_in v = option_map (λ (f : Field). hash_of f.value) (and_then (fields_in v) last_field)
+
+-- the last two of a block's nine fields have what it said and did, and its revisions
+abbrev pub part_hashes_of : List Field → Option PartHashes
+part_hashes_of fields =
+    and_then (slice_get fields 7) (λ (info : Field).
+    and_then (slice_get fields 8) (λ (revisions : Field).
+    and_then (and_then (list_in revisions.value) (each metadata_hash_in)) (λ (metadata : List Hash32).
+    Some (record { said = hash_of info.value; metadata = metadata }))))
+
+abbrev pub part_hashes_in : Value → Option PartHashes
+part_hashes_in v = and_then (fields_in v) part_hashes_of
+
+-- these are the hashes of the parts of the block whose value this is, or it is the value of no block
+abbrev pub TellParts : Value → Option PartHashes → Type 0
+TellParts v (Some p) = (b : Block) → v ≡ block_value b → p ≡ part_hashes b
+TellParts v None = (b : Block) → v ≢ block_value b
+
+-- ---- blocks whose hashes are checked
+
+-- a value is read as its block, with whether its hashes are those of what they stand for
+abbrev pub IsCheckedAs : Value → Option CheckedBlock → Type 0
+IsCheckedAs v (Some c) = IsReadAs v (Some c.block) × (c.hashes_hold ≡ damages.has_hashes c.block)
+IsCheckedAs v None = IsReadAs v None
