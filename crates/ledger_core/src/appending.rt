@@ -80,9 +80,9 @@ impl<S: JournalStore, C> Tail<S, C> {
         ensures fine { OnOk result ((S.told self.new.store).faults ≡ (S.told self.old.store).faults) }
         ensures fault { IfErr result (λ e. IsSettleFault e.fault (S.told self.old.store) (S.told self.new.store)) }
     {
-        let block = into_block(alloc, txn, time, self.blocks().as_slice())?;
-        let receipt = receipt_of(&block);
-        self.append_block(alloc, block)?;
+        let made = into_block(alloc, txn, time, self.blocks().as_slice())?;
+        let receipt = receipt_of(&made.block);
+        self.append_block(made.block, made.text)?;
         Ok(receipt)
     }
 }

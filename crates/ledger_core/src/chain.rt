@@ -5,7 +5,8 @@ ghost use Rattle.proof_forms.specs.Issued.{block_hashes, IsDigest};
 
 use ion_values::OutOfMemory;
 use ledger_model::{Block, Blocks};
-use pad_tree::Grow;
+use lists::Sequence;
+use pad_tree::{Grow, Hashes};
 use proof_forms::Digest;
 use ql_types::{Hash, Steps};
 use std::alloc::Global;
@@ -112,14 +113,23 @@ impl Chain {
     }
 }
 
-/// The tree over the blocks' hashes.
+/// The hashes of the blocks, in order.
+fn hashes_of(alloc: Global, blocks: &[Block]) -> Result<Hashes, OutOfMemory>
+    ensures { IfOk result (λ hashes. hashes ≡ block_hashes blocks.now) }
+{
+    let mut hashes = Vec::with_capacity(alloc, blocks.len())?;
+    'each: for block in blocks {
+        hashes.push(block.hash)?;
+    }
+    Ok(Sequence::from_vec(hashes))
+}
+
+/// The tree over the blocks' hashes, made of all of them at once.
 fn tree_of(alloc: Global, blocks: &[Block]) -> Result<Grow, OutOfMemory>
     requires { length blocks.now < 2 ^ 32 }
     ensures { IfOk result (λ tree. tree.leaves ≡ block_hashes blocks.now) }
 {
-    let mut tree = Grow::new(alloc)?;
-    'leaves: for block in blocks {
-        tree.append(block.hash)?;
-    }
+    let hashes = hashes_of(alloc, blocks)?;
+    let tree = Grow::of(alloc, hashes, &mut Steps { taken: 0 })?;
     Ok(tree)
 }

@@ -1,12 +1,14 @@
-//! The block that a transaction becomes.
+//! The block that a transaction becomes, with its line.
 ghost use Rattle.std.specs.Prelude.{◌≡◌, int_le, map, IfOk, if◌then◌else◌};
 ghost use Rattle.ion_values.specs.Time.{instant_of};
+ghost use Rattle.ledger_model.specs.Journal.{line, revision_value};
 ghost use Rattle.ledger_model.specs.Legal.{last_hash};
 ghost use Rattle.ledger_model.specs.Making.{revision_of, time_behind};
 ghost use Rattle.ledger_core.specs.Attempting.{next_block};
 
-use block_form::{revision_hash, seal, strand_hash};
-use ion_values::{IonTime, OutOfMemory};
+use block_form::{seal_revision, seal_with_value, strand_hash};
+use ion_values::{IonTime, OutOfMemory, Text, Value, Values};
+use journal_text::line_of_value;
 use ledger_model::{
     Block, Draft, Drafts, Header, Info, Metadata, Revision, Revisions, TableIds, Told,
 };
@@ -15,14 +17,22 @@ use ql_types::{BlockAddress, Hash32, IdMask, StrandId, TxId, id_raw};
 use std::alloc::Global;
 use txn_core::{Finished, Txn};
 
+/// A block that is made, with its line in the journal.
+#[derive(Drop)]
+pub(crate) struct Made {
+    pub(crate) block: Block,
+    pub(crate) text: Text,
+}
+
 /// The transaction as the next block behind these: made at this time, or at that of the last block where it is later.
 pub(crate) fn into_block(
     alloc: Global,
     txn: Txn,
     time: IonTime,
     before: &[Block],
-) -> Result<Block, OutOfMemory>
-    ensures { IfOk result (λ block. block ≡ next_block txn before.now time) }
+) -> Result<Made, OutOfMemory>
+    ensures block { IfOk result (λ made. made.block ≡ next_block txn before.now time) }
+    ensures text { IfOk result (λ made. made.text ≡ line made.block) }
 {
     let Finished {
         mask,
@@ -49,7 +59,7 @@ pub(crate) fn into_block(
         revisions: count,
     };
     let tables = tables_of(alloc, drafts.as_slice())?;
-    let revisions = revisions_of(alloc, &header, drafts)?;
+    let Valued { revisions, values } = revisions_of(alloc, &header, drafts)?;
     let previous = last_hash(alloc, mask, before)?;
     let info = Info {
         place,
@@ -57,8 +67,9 @@ pub(crate) fn into_block(
         schema,
         tables,
     };
-    let block = seal(alloc, previous, header, info, revisions)?;
-    Ok(block)
+    let (block, value) = seal_with_value(alloc, previous, header, info, revisions, values)?;
+    let text = line_of_value(alloc, &value)?;
+    Ok(Made { block, text })
 }
 
 /// This time, or that of the last block where it isn't before this one.
@@ -104,20 +115,36 @@ fn tables_of(alloc: Global, drafts: &[Draft]) -> Result<TableIds, OutOfMemory>
     Ok(tables)
 }
 
-/// The revisions that the drafts become in the block of this header, in order.
-fn revisions_of(alloc: Global, header: &Header, drafts: Drafts) -> Result<Revisions, OutOfMemory>
-    ensures { IfOk result (λ revisions. revisions ≡ map (revision_of header.now) drafts) }
-{
-    let mut revisions = Sequence::new(alloc);
-    'drafts: for draft in drafts.into_vec() {
-        revisions.push(revision_of(alloc, header, draft)?)?;
-    }
-    Ok(revisions)
+/// Revisions, with the value of each.
+#[derive(Drop)]
+struct Valued {
+    revisions: Revisions,
+    values: Values,
 }
 
-/// The revision that a draft becomes in the block of this header.
-fn revision_of(alloc: Global, header: &Header, draft: Draft) -> Result<Revision, OutOfMemory>
-    ensures { IfOk result (λ revision. revision ≡ revision_of header.now draft) }
+/// The revisions that the drafts become in the block of this header, in order.
+fn revisions_of(alloc: Global, header: &Header, drafts: Drafts) -> Result<Valued, OutOfMemory>
+    ensures revisions { IfOk result (λ all. all.revisions ≡ map (revision_of header.now) drafts) }
+    ensures values { IfOk result (λ all. all.values ≡ map revision_value all.revisions) }
+{
+    let mut revisions = Sequence::new(alloc);
+    let mut values = Sequence::new(alloc);
+    'drafts: for draft in drafts.into_vec() {
+        let (revision, value) = revision_of(alloc, header, draft)?;
+        revisions.push(revision)?;
+        values.push(value)?;
+    }
+    Ok(Valued { revisions, values })
+}
+
+/// The revision that a draft becomes in the block of this header, with its value.
+fn revision_of(
+    alloc: Global,
+    header: &Header,
+    draft: Draft,
+) -> Result<(Revision, Value), OutOfMemory>
+    ensures revision { IfOk result (λ made. made.0 ≡ revision_of header.now draft) }
+    ensures value { IfOk result (λ made. made.1 ≡ revision_value made.0) }
 {
     let metadata = Metadata {
         id: draft.id,
@@ -125,10 +152,6 @@ fn revision_of(alloc: Global, header: &Header, draft: Draft) -> Result<Revision,
         time: header.time,
         tx: header.tx,
     };
-    Ok(Revision {
-        address: header.address,
-        hash: revision_hash(alloc, &draft.content, &metadata)?,
-        content: draft.content,
-        metadata,
-    })
+    let made = seal_revision(alloc, header.address, draft.content, metadata)?;
+    Ok(made)
 }

@@ -1,5 +1,6 @@
 //! The tail of a journal over its store.
 ghost use Rattle.std.specs.Prelude.{◌≡◌, ◌-◌, [], length, IfOk, OnErr, OnOk, IfErr, MatchOption, ◌<◌, ◌^◌, ◌≤◌, ◌⊎◌, true, false, option_map};
+ghost use Rattle.ledger_model.specs.Journal.{line};
 ghost use Rattle.ledger_model.specs.State.{state};
 ghost use Rattle.ledger_claims.specs.Attempts.{IsStanding};
 ghost use Rattle.ledger_claims.specs.Stores.{Holding, IsSynced};
@@ -11,8 +12,7 @@ ghost use Rattle.ledger_core.specs.Tails.{Leaves, MayHoldPart, joined};
 use crate::appending::Unkept;
 use crate::chain::Chain;
 use crate::keeping::{Keeper, SettleFault};
-use ion_values::OutOfMemory;
-use journal_text::line;
+use ion_values::{OutOfMemory, Text};
 use ledger_model::{Block, Blocks};
 use outside::JournalStore;
 use pad_tree::Grow;
@@ -98,9 +98,10 @@ impl<S: JournalStore, C> Tail<S, C> {
         let _mask = self.mask.bits;
     }
 
-    /// Puts a block behind the others, in the store first. After a fault the blocks are as before.
-    pub(crate) fn append_block(&mut self, alloc: Global, block: Block) -> Result<(), Unkept>
-        requires { IsStanding (joined self.old.standing block) }
+    /// Puts a block behind the others, its line in the store first. After a fault the blocks are as before.
+    pub(crate) fn append_block(&mut self, block: Block, text: Text) -> Result<(), Unkept>
+        requires stands { IsStanding (joined self.old.standing block) }
+        requires written { text ≡ line block }
         ensures standing { OnOk result (self.new.standing ≡ joined self.old.standing block) }
         ensures same { OnErr result (self.new.standing ≡ self.old.standing) }
         ensures clock { self.new.clock ≡ self.old.clock }
@@ -120,7 +121,6 @@ impl<S: JournalStore, C> Tail<S, C> {
     {
         let version = self.version.after(&block)?;
         self.blocks.make_room()?;
-        let text = line(alloc, &block)?;
         match self.keeper.keep_line(text.as_str().as_bytes()) {
             Ok(()) => {}
             Err(fault) => {

@@ -1,6 +1,7 @@
 use Rattle.std.proofs.Common.{◌≡◌, map}
+use Rattle.ledger_model.specs.Journal.{revision_value}
 use Rattle.ledger_model.specs.Making.{revision_of}
 use Rattle.ledger_core.proofs.sealing.revisions_of.Given as goal
 
 abbrev pub invariant-drafts : goal.invariant-drafts
-invariant-drafts l = l.revisions ≡ map (revision_of l.header) l.yielded
+invariant-drafts l = (l.revisions ≡ map (revision_of l.header) l.yielded) × (l.values ≡ map revision_value l.revisions)

@@ -17,7 +17,7 @@ invariant_of-self-in-Err g c =
 
 pub returns-in-Err-clause-part : goal.returns-in-Err-clause-part
 returns-in-Err-clause-part g c =
-    let is : c.as_bytes.result.now ≡ line c.args.block = c.as_bytes.ensures.value ∙ c.as_str.ensures ∙ c.in_ok-text.ensures in
+    let is : c.as_bytes.result.now ≡ line c.args.block = c.as_bytes.ensures.value ∙ c.as_str.ensures ∙ c.requires.written in
     rw (← c.self.view_is) (may-hold _ _ _ c.args.block _ _ _ _ c.as_bytes.result.now _ c.self.invariant is c.in-Err.ensures.part)
 
 pub returns-in-Err-clause-tried : goal.returns-in-Err-clause-tried
@@ -25,7 +25,7 @@ returns-in-Err-clause-tried g c = tried_with c.args.block c.of.result.value c.in
 
 pub returns-in-Err-clause-left : goal.returns-in-Err-clause-left
 returns-in-Err-clause-left g c =
-    let is : c.as_bytes.result.now ≡ line c.args.block = c.as_bytes.ensures.value ∙ c.as_str.ensures ∙ c.in_ok-text.ensures in
+    let is : c.as_bytes.result.now ≡ line c.args.block = c.as_bytes.ensures.value ∙ c.as_str.ensures ∙ c.requires.written in
     rw (← c.self.view_is)
     (left_with _ c.args.block c.of.result.value _ _ c.of.ensures
     (may-hold _ _ _ c.args.block _ _ _ _ c.as_bytes.result.now _ c.self.invariant is c.in-Err.ensures.part))
@@ -38,14 +38,14 @@ push-requires-clause-few g c =
 
 pub invariant_of-self-2 : goal.invariant_of-self-2
 invariant_of-self-2 g c =
-    let is : c.as_bytes.result.now ≡ line c.args.block = c.as_bytes.ensures.value ∙ c.as_str.ensures ∙ c.in_ok-text.ensures in
+    let is : c.as_bytes.result.now ≡ line c.args.block = c.as_bytes.ensures.value ∙ c.as_str.ensures ∙ c.requires.written in
     let more = c.push.ensures ∙ ap (λ bs. bs ++ c.args.block ∷ []) c.make_room.ensures.list in
-    let stands = subst (λ (t : TailHeld _ _). IsStanding (joined t.standing c.args.block)) (sym c.self.view_is) c.requires in
+    let stands = subst (λ (t : TailHeld _ _). IsStanding (joined t.standing c.args.block)) (sym c.self.view_is) c.requires.stands in
     appended _ _ _ _ c.args.block _ _ _ _ _ _ c.as_bytes.result.now _ _ stands c.self.invariant is more
     c.in-Ok.ensures.size c.in-Ok.ensures.bytes c.in_ok-version.ensures
 
 pub returns-clause-holds : goal.returns-clause-holds
 returns-clause-holds g c =
-    let is : c.as_bytes.result.now ≡ line c.args.block = c.as_bytes.ensures.value ∙ c.as_str.ensures ∙ c.in_ok-text.ensures in
+    let is : c.as_bytes.result.now ≡ line c.args.block = c.as_bytes.ensures.value ∙ c.as_str.ensures ∙ c.requires.written in
     let more = c.push.ensures ∙ ap (λ bs. bs ++ c.args.block ∷ []) c.make_room.ensures.list in
     holds-more _ _ _ _ c.args.block _ _ _ _ c.as_bytes.result.now _ c.self.invariant is more c.in-Ok.ensures.bytes

@@ -14,16 +14,16 @@ pub returns-in_err-append_block-clause-part : goal.returns-in_err-append_block-c
 returns-in_err-append_block-clause-part g c =
     let before = held (g.S.JournalStore.told c.args.self.now.store) in
     let after = held (g.S.JournalStore.told c.append_block.new.self.store) in
-    let is : c.in_ok-block.block ≡ next_block c.args.txn c.args.self.now.standing.blocks c.args.time =
-    c.in_ok-block.ensures ∙ ap (λ (bs : List Block). next_block c.args.txn bs c.args.time) (c.as_slice.ensures ∙ c.blocks-2.ensures.blocks) in
+    let is : c.in_ok-made.made.block ≡ next_block c.args.txn c.args.self.now.standing.blocks c.args.time =
+    c.in_ok-made.ensures.block ∙ ap (λ (bs : List Block). next_block c.args.txn bs c.args.time) (c.as_slice.ensures ∙ c.blocks-2.ensures.blocks) in
     on-err _ (subst (λ (b : Block). MayHoldPart c.args.self.now.standing.blocks b before after) is c.in_err-append_block.ensures.part)
 
 pub returns-in_err-append_block-clause-tried : goal.returns-in_err-append_block-clause-tried
 returns-in_err-append_block-clause-tried g c =
     let e = c.in_err-append_block.field-0.0 in
     let next = next_block c.args.txn c.args.self.now.standing.blocks c.args.time in
-    let is : c.in_ok-block.block ≡ next =
-    c.in_ok-block.ensures ∙ ap (λ (bs : List Block). next_block c.args.txn bs c.args.time) (c.as_slice.ensures ∙ c.blocks-2.ensures.blocks) in
+    let is : c.in_ok-made.made.block ≡ next =
+    c.in_ok-made.ensures.block ∙ ap (λ (bs : List Block). next_block c.args.txn bs c.args.time) (c.as_slice.ensures ∙ c.blocks-2.ensures.blocks) in
     let out : c.from_residual-in_err-append_block.result ≡ Err e = search rules in
     subst (λ (r : Result Receipt Unkept). IfErr r (λ x. IsTriedWith next x.fault (option_map (λ b. b.value) x.tried))) (sym out)
     (subst (λ (b : Block). IsTriedWith b e.fault (option_map (λ x. x.value) e.tried)) is c.in_err-append_block.ensures.tried)
