@@ -71,7 +71,8 @@ def watched(top):
         if top not in found:
             break
         for pid, (parent, start, seconds) in found.items():
-            if (pid, start) not in provers and is_below(pid, top, found):
+            # (what isn't a prover yet may become one)
+            if not provers.get((pid, start)) and is_below(pid, top, found):
                 words = words_of(pid)
                 # a prover's own copies are among its children
                 provers[pid, start] = [part_of(words), 0.0] if words and not words_of(parent) else None
