@@ -50,6 +50,15 @@ impl<T> Sequence<T> {
         items
     }
 
+    /// The same list without room to spare, where the allocator takes that back. It takes no memory.
+    pub fn fitted(self) -> Sequence<T>
+        ensures { result ≡ self }
+    {
+        let mut items = self.into_vec();
+        items.shrink_to_fit();
+        Sequence { items }
+    }
+
     /// The items in order, lent.
     pub fn as_slice(&self) -> &[T]
         ensures { result.now ≡ self.now }

@@ -206,7 +206,7 @@ impl Reader {
     {
         match self.leave() {
             Some(Members::List(values)) => {
-                put(alloc, &mut self.inner, Body::List(values))?;
+                put(alloc, &mut self.inner, Body::List(values.fitted()))?;
                 Ok(())
             }
             _ => Err(Refused::Kind(IonKind::BadToken)),
@@ -220,7 +220,7 @@ impl Reader {
     {
         match self.leave() {
             Some(Members::Sexp(values)) => {
-                put(alloc, &mut self.inner, Body::Sexp(values))?;
+                put(alloc, &mut self.inner, Body::Sexp(values.fitted()))?;
                 Ok(())
             }
             _ => Err(Refused::Kind(IonKind::BadToken)),
@@ -234,7 +234,7 @@ impl Reader {
     {
         match self.leave() {
             Some(Members::Struct(fields)) => {
-                put(alloc, &mut self.inner, Body::Struct(fields))?;
+                put(alloc, &mut self.inner, Body::Struct(fields.fitted()))?;
                 Ok(())
             }
             _ => Err(Refused::Kind(IonKind::BadToken)),
