@@ -1,8 +1,6 @@
 //! Statements that write, in one transaction and over committed documents.
-use crate::rows::failing;
-use std::test::Fail;
 
-const ROWS: &str = r#"# a new table
+pub(crate) const CHANGES: &str = r#"# a new table
 on none
 CREATE TABLE t;INSERT INTO t {'a': 1, 'b': 2};UPDATE t SET a = b, b = a;SELECT * FROM t = {a:2,b:1}
 CREATE TABLE t;INSERT INTO t {'a': 1};UPDATE t SET z = 5, y = 6;SELECT * FROM t = {a:1,z:5,y:6}
@@ -68,9 +66,3 @@ DELETE FROM t1;UPDATE t1 SET a = 2 = drafts 2.1- 3.1- 4.1-
 INSERT INTO t1 {'b': 1};DELETE FROM t1 WHERE b = 1 = drafts
 INSERT INTO t1 {'b': 1};UPDATE t1 SET b = 2 WHERE b = 1;DELETE FROM t1 WHERE b = 2 = drafts
 SELECT * FROM t1 = drafts"#;
-
-#[test]
-fn each_change_is_told(rt: HostRuntime) -> Result<(), Fail> {
-    assert_eq!(rt; failing(rt.alloc(), ROWS), None);
-    Ok(())
-}

@@ -1,9 +1,7 @@
 //! Committed views, histories and document ids. Of the table `t1` document 2 is changed on the second day and twice on the
 //! fourth, 3 is deleted on the third, 4 is made on the fifth, and 5 is made and deleted on the fifth.
-use crate::rows::failing;
-use std::test::Fail;
 
-const ROWS: &str =
+pub(crate) const HISTORIES: &str =
     r#"on tables 2 / put 1 2 0 1 {n:"A0"} / put 1 3 0 1 {n:"B0"} / put 1 2 1 2 {n:"A1"} / put 1 3 1 3 - / put 1 2 2 4 {n:"A2"} / put 1 2 3 4 {n:"A3"} / put 1 4 0 5 {n:"C0"} / put 1 5 0 5 {n:"D0"} / put 1 5 1 5 -
 # what was active between two bounds
 history = {n:"A0",v:0}{n:"B0",v:0}{n:"A1",v:1}{v:1}{n:"A2",v:2}{n:"A3",v:3}{n:"C0",v:0}{n:"D0",v:0}{v:1}
@@ -60,9 +58,3 @@ SELECT * FROM _ql_committed_u = 1: code:2,name:"u"
 SELECT * FROM history(t1) AS h, history(x) AS g, y = 1: code:2,name:"x"
 SELECT * FROM history(_ql_committed_t1) AS h = 1: code:2,name:"_ql_committed_t1"
 SELECT * FROM t1 AS r, r.n AS e BY i = 1: code:1,at:32,kind:BadTarget"#;
-
-#[test]
-fn committed_revisions_are_told(rt: HostRuntime) -> Result<(), Fail> {
-    assert_eq!(rt; failing(rt.alloc(), ROWS), None);
-    Ok(())
-}

@@ -2,9 +2,9 @@
 #![tactic(auto)]
 
 #[cfg(test)]
-mod changes;
+mod blocks;
 #[cfg(test)]
-mod ended;
+mod changes;
 #[cfg(test)]
 mod histories;
 #[cfg(test)]
@@ -22,6 +22,8 @@ mod registration;
 #[cfg(test)]
 mod rows;
 #[cfg(test)]
-mod shared;
-#[cfg(test)]
 mod statements;
+#[cfg(test)]
+mod tables;
+#[cfg(test)]
+mod transactions;

@@ -1,39 +1,37 @@
 //! The rows of a transaction's views that meet a probe.
-use crate::journals::{value_in, version_of};
-use crate::rows::finished;
+use crate::blocks::value_in;
+use crate::journals::Version;
+use crate::lookups::view_of;
+use crate::transactions::Work;
 use ion_order::key;
 use ion_values::Value;
-use ledger_model::Draft;
 use lists::Text;
 use pql_model::{Probe, Row, Tables, View};
 use ql_types::DocId;
 use std::alloc::Global;
-use std::test::Fail;
 use txn_core::TableViews;
-use versions::{Versions, copy_tables};
-
-/// The table `t1` with the committed documents 2 to 5, and `t0` without one.
-const FOUR: &str =
-    "tables 2 / put 1 2 0 1 {a:1}, put 1 3 0 1 {a:x,a:1}, put 1 4 0 1 {a:y::10d-1}, put 1 5 0 1 [1]";
-
-/// A document is new, as 16777217, 3 has a later revision, `{a:"x",b:true}`, and 2 is deleted.
-const LATER: &str =
-    r#"INSERT INTO t1 ?|{b:{},a:1.0};FROM t1 AS x BY d WHERE d = '0000000000000000000003' REMOVE x.a;FROM t1 AS x BY d WHERE d = '0000000000000000000003' SET x.a = 'x', x.b = TRUE;DELETE FROM t1 AS x BY d WHERE d = '0000000000000000000002'"#;
+use versions::copy_tables;
 
 /// A view, a table and a probe, and behind ` = ` the ids of the rows.
-const ROWS: &str = "user t1 all = 3 4 5 16777217
-user t1 3 = 3
-user t1 a:1 = 4 16777217
-user t1 a:x = 3
-user t1 b:true = 3
-user t1 b:x = none
-user t1 c:1 = none
-user t0 all = none
-user t0 3 = none
-user t2 all = none
-committed t1 all = 2 3 4 5
-committed t1 3 = 3
-committed t2 all = none";
+///
+/// The table `t1` has the committed documents 2 to 5, and `t0` has none. A document is new, as 16777217, 3 has a later
+/// revision, `{a:"x",b:true}`, and 2 is deleted.
+pub(crate) const PROBES: &str =
+    r#"on tables 2 / put 1 2 0 1 {a:1}, put 1 3 0 1 {a:x,a:1}, put 1 4 0 1 {a:y::10d-1}, put 1 5 0 1 [1]
+does INSERT INTO t1 ?|{b:{},a:1.0};FROM t1 AS x BY d WHERE d = '0000000000000000000003' REMOVE x.a;FROM t1 AS x BY d WHERE d = '0000000000000000000003' SET x.a = 'x', x.b = TRUE;DELETE FROM t1 AS x BY d WHERE d = '0000000000000000000002'
+sees user t1 all = 3 4 5 16777217
+sees user t1 3 = 3
+sees user t1 a:1 = 4 16777217
+sees user t1 a:x = 3
+sees user t1 b:true = 3
+sees user t1 b:x = none
+sees user t1 c:1 = none
+sees user t0 all = none
+sees user t0 3 = none
+sees user t2 all = none
+sees committed t1 all = 2 3 4 5
+sees committed t1 3 = 3
+sees committed t2 all = none"#;
 
 fn key_probe(alloc: Global, field: &str, value: &Value) -> Option<Probe> {
     let key = key(alloc, value).ok()??;
@@ -85,75 +83,37 @@ fn meet<T: Tables>(
     are_ids(alloc, rows.as_slice(), ids)
 }
 
-/// The same of the user's view or the committed one.
-fn seen<T: Tables>(
-    alloc: Global,
-    tables: &T,
-    view: &str,
-    table: &Text,
-    probe: &Probe,
-    ids: &str,
-) -> Option<bool> {
-    match view {
-        "user" => meet(alloc, tables, &View::User, table, probe, ids),
-        _ => meet(alloc, tables, &View::Committed, table, probe, ids),
-    }
-}
-
 fn shown<T: Tables>(
     alloc: Global,
     tables: &T,
     view: &str,
     table: &str,
-    probe: &Probe,
+    probe: &str,
     ids: &str,
 ) -> Option<bool> {
+    let probe = probe_of(alloc, probe)?;
     let table = Text::from_text(alloc, table).ok()?;
-    seen(alloc, tables, view, &table, probe, ids)
+    let view = view_of(alloc, view);
+    meet(alloc, tables, &view, &table, &probe, ids)
 }
 
 /// Whether the rows that meet the probe are those of these ids.
-fn holds<T: Tables>(alloc: Global, tables: &T, row: &str) -> Option<bool> {
-    let (told, ids) = row.split_once(" = ")?;
+fn holds<T: Tables>(alloc: Global, tables: &T, told: &str, ids: &str) -> Option<bool> {
     let (view, told) = told.split_once(' ')?;
     let (table, probe) = told.split_once(' ')?;
-    let probe = probe_of(alloc, probe)?;
-    shown(alloc, tables, view, table, &probe, ids)
+    shown(alloc, tables, view, table, probe, ids)
 }
 
-/// The first row that doesn't come out as it says.
-fn failing<T: Tables>(alloc: Global, tables: &T) -> Option<&'static str> {
-    for row in ROWS.lines() {
-        if holds(alloc, tables, row) != Some(true) {
-            return Some(row);
-        }
-    }
-    None
-}
-
-/// The first row that doesn't over the version and these pending revisions, if any.
-fn failing_over(
+/// Whether a transaction on the version that did so much sees these rows.
+pub(crate) fn are_seen(
     alloc: Global,
-    version: &Versions,
-    pending: &[Draft],
-) -> Option<Option<&'static str>> {
+    version: &Version,
+    work: &Work,
+    told: &str,
+    ids: &str,
+) -> Option<bool> {
+    let version = version.get();
     let tables = copy_tables(alloc, version.tables()).ok()?;
-    let views = TableViews::new(alloc, tables, version, pending).ok()?;
-    Some(failing(alloc, &views))
-}
-
-fn failing_on(alloc: Global, version: &Versions) -> Option<Option<&'static str>> {
-    let later = finished(alloc, version, 1, LATER)?;
-    failing_over(alloc, version, later.drafts.as_slice())
-}
-
-fn first_failing(alloc: Global) -> Option<Option<&'static str>> {
-    let version = version_of(alloc, FOUR)?;
-    failing_on(alloc, &version)
-}
-
-#[test]
-fn rows_meet_a_probe(rt: HostRuntime) -> Result<(), Fail> {
-    assert_eq!(rt; first_failing(rt.alloc()), Some(None));
-    Ok(())
+    let views = TableViews::new(alloc, tables, version, work.drafts()).ok()?;
+    holds(alloc, &views, told, ids)
 }

@@ -1,14 +1,13 @@
-//! What transactions read, statement by statement, also behind one that is refused. The first thing that the transaction makes
-//! has the id 16777217.
-use crate::rows::{failing, started};
+//! What transactions read and how their statements end, one by one, also behind one that is refused. The first thing that the
+//! transaction makes has the id 16777217.
+use crate::journals::Version;
+use crate::probes::put_number;
+use crate::transactions::{Open, Reply};
 use ion_values::Key;
 use ledger_model::{Item, Request};
 use std::alloc::Global;
-use std::test::Fail;
-use txn_core::Txn;
-use versions::Versions;
 
-const ROWS: &str = r#"on tables 2 / index a 1 / put 1 2 0 1 {a:5}, put 1 3 0 1 {a:6}
+pub(crate) const READS: &str = r#"on tables 2 / index a 1 / put 1 2 0 1 {a:5}, put 1 3 0 1 {a:6}
 CREATE TABLE u = read name u, list
 CREATE INDEX ON t1 (b) = read name t1
 DROP TABLE t0 = read name t0
@@ -38,19 +37,30 @@ SELECT * FROM t1 WHERE a = ? = read none
 CREATE TABLE t1 = read none
 INSERT INTO t1 5 = read none
 INSERT INTO t1 {};INSERT INTO t1 5;SELECT * FROM t1 = read name t1
-CREATE TABLE u;UPDATE t2 SET a = 5;CREATE TABLE v = read name u, list"#;
+CREATE TABLE u;UPDATE t2 SET a = 5;CREATE TABLE v = read name u, list
+# how each statement ends, those behind a bar in a transaction that was ended before; its id, and on how many blocks it runs
+on none
+CREATE TABLE t;INSERT INTO t [{}, {}];SELECT * FROM t;SELECT * FROM u;SELECT * FROM t = each 1 2 2 refused | ended as 16777216 on 0"#;
 
-#[test]
-fn what_was_read_is_told(rt: HostRuntime) -> Result<(), Fail> {
-    assert_eq!(rt; failing(rt.alloc(), ROWS), None);
-    Ok(())
+/// Puts at the end how the statement ends.
+fn put_end(alloc: Global, told: &mut String, open: &mut Open, request: &Request) -> Option<()> {
+    if open.is_ended() {
+        told.push_str("| ").ok()?;
+    }
+    match open.ask(alloc, request) {
+        Reply::Rows(count) => put_number(alloc, told, count as u128),
+        Reply::Refused => told.push_str("refused ").ok(),
+        Reply::Ended => told.push_str("ended ").ok(),
+    }
 }
 
-/// Does the statements, one after another.
-fn ask_all(alloc: Global, txn: &mut Txn, asked: &[Request]) {
+/// Does the statements, one after another, and tells how they end.
+fn ask_all(alloc: Global, open: &mut Open, asked: &[Request]) -> Option<String> {
+    let mut told = String::new(alloc);
     for request in asked {
-        drop(txn.execute(alloc, request.text.as_str(), request.params.as_slice()));
+        put_end(alloc, &mut told, open, request)?;
     }
+    Some(told)
 }
 
 /// The item as it is told here, a key by its number.
@@ -86,14 +96,42 @@ fn are_items(alloc: Global, items: &[Item], read: &str) -> Option<bool> {
     Some(told.as_str() == if read == "none" { "" } else { read })
 }
 
+/// Whether each statement ends as is told.
+fn end_so(alloc: Global, open: &mut Open, asked: &[Request], ends: &str) -> Option<bool> {
+    let told = ask_all(alloc, open, asked)?;
+    let (since, tx) = open.numbers();
+    let told = format!(in alloc; "{}as {tx} on {since}", told.as_str()).ok()?;
+    Some(told.as_str() == ends)
+}
+
 /// Whether the statements, also those behind one that is refused, read these items.
-pub(crate) fn have_read(
+fn have_read(alloc: Global, open: &mut Open, asked: &[Request], read: &str) -> Option<bool> {
+    ask_all(alloc, open, asked)?;
+    are_items(alloc, open.items(), read)
+}
+
+/// Whether the statements of the first transaction on this version have read these items.
+pub(crate) fn read_so(
     alloc: Global,
-    version: &Versions,
+    version: &Version,
     asked: &[Request],
     read: &str,
 ) -> Option<bool> {
-    let mut txn = started(alloc, version, 1)?;
-    ask_all(alloc, &mut txn, asked);
-    are_items(alloc, txn.footprint(), read)
+    let mut open = Open::first(alloc, version)?;
+    let is_so = have_read(alloc, &mut open, asked, read);
+    open.finish(alloc)?;
+    is_so
+}
+
+/// Whether each statement of the first transaction on this version ends so.
+pub(crate) fn end_each(
+    alloc: Global,
+    version: &Version,
+    asked: &[Request],
+    ends: &str,
+) -> Option<bool> {
+    let mut open = Open::first(alloc, version)?;
+    let is_so = end_so(alloc, &mut open, asked, ends);
+    open.finish(alloc)?;
+    is_so
 }

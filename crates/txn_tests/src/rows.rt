@@ -1,84 +1,27 @@
-//! Rows of statements, with `;` between them: each is a text, and behind a bar its parameters. Between two signs `^` stand a count
-//! and a text that is repeated. `history` and bounds stand for a select of the history of `t1`.
+//! Rows, one behind another, of what is asked on a journal's version and what transactions on it do:
 //!
-//! Behind ` = ` stands how they end on the journal of the last row `on JOURNAL`: the last one's rows, `none`, or how many; the
-//! number of the one that is refused and the cause; `drafts` and what is left to commit; or `read` and what they read. Behind a
-//! row's `? ` stands a question to the version of that journal.
-ghost use Rattle.std.specs.Prelude.{◌≡◌, IfSome};
-ghost use Rattle.ledger_model.specs.Run.{start};
-
-use crate::journals::version_of;
+//! - `on JOURNAL` goes over to the version of a journal, and `then BLOCKS` makes a later one of more blocks,
+//! - `does STATEMENTS` takes what the first transaction did for what pends, and `commits NUMBER STATEMENTS => ANSWERS` goes on
+//!   to the version behind the transaction of this number,
+//! - `? QUESTION = ANSWER` asks the version and a share of it, also once there is a later one, and `then? QUESTION = ANSWER`
+//!   asks that one,
+//! - `sees VIEW TABLE PROBE = ROWS` asks what a transaction with what pends sees,
+//! - the other rows are statements, with `;` between them.
+//!
+//! A statement is a text, and behind a bar its parameters. Between two signs `^` stand a count and a text that is repeated.
+//! `history` and bounds stand for a select of the history of `t1`. Behind ` = ` stands how they end: the last one's rows,
+//! `none`, or how many; the number of the one that is refused and the cause; `drafts` and what is left to commit; `read` and
+//! what they read; or `each` and how each of them ends.
+use crate::journals::{Version, continued, version_of};
 use crate::lookups::answers_so;
-use crate::reads::have_read;
-use ion_text::{read_stream, write};
+use crate::probes::are_seen;
+use crate::reads::{end_each, read_so};
+use crate::registration::behind;
+use crate::transactions::{End, Work, ended, requests, work_of};
+use ion_text::write;
 use ion_values::Value;
-use ledger_model::{Asked, Content, Draft, Refusal, Request, Said};
-use lists::{Sequence, Text};
-use ql_types::{IdMask, Place};
-use script_form::put_cause;
+use ledger_model::{Content, Draft, Request, Said};
 use std::alloc::Global;
-use txn_core::{Finished, Ran, Txn, run_statements, start_txn};
-use versions::Versions;
-
-const PLACE: Place = Place {
-    session: 1,
-    transaction: 1,
-};
-
-fn request(alloc: Global, statement: &str) -> Option<Request> {
-    let (text, params) = statement.split_once('|').unwrap_or((statement, ""));
-    let params = read_stream(alloc, params.as_bytes(), 80).ok()?;
-    let text = Text::from_text(alloc, text).ok()?;
-    Some(Request { text, params })
-}
-
-fn put_request(alloc: Global, asked: &mut Asked, statement: &str) -> Option<()> {
-    asked.push(request(alloc, statement)?).ok()
-}
-
-/// The statements.
-fn requests(alloc: Global, statements: &str) -> Option<Asked> {
-    let mut asked = Sequence::new(alloc);
-    for statement in statements.split(';') {
-        put_request(alloc, &mut asked, statement)?;
-    }
-    Some(asked)
-}
-
-/// The transaction of this number on this version.
-pub(crate) fn started(alloc: Global, version: &Versions, number: u64) -> Option<Txn>
-    ensures { IfSome result (λ txn. txn.done ≡ start) }
-{
-    let mask = IdMask { bits: 0 };
-    Some(start_txn(alloc, version.share().ok()?, 0, mask, number, PLACE))
-}
-
-/// How the transaction of this number on this version ends.
-fn ran(alloc: Global, version: &Versions, number: u64, asked: &[Request]) -> Option<Ran> {
-    let txn = started(alloc, version, number)?;
-    run_statements(alloc, txn, asked).ok()
-}
-
-fn finish(alloc: Global, ran: Ran) -> Option<Finished> {
-    match ran {
-        Ran::Done(txn) => txn.finish(alloc).ok(),
-        Ran::Refused { .. } => None,
-    }
-}
-
-/// What the transaction of this number on this version becomes a block of.
-pub(crate) fn finished(
-    alloc: Global,
-    version: &Versions,
-    number: u64,
-    statements: &str,
-) -> Option<Finished> {
-    let asked = requests(alloc, statements)?;
-    match ran(alloc, version, number, asked.as_slice()) {
-        Some(ran) => finish(alloc, ran),
-        None => None,
-    }
-}
 
 fn put_value(alloc: Global, told: &mut String, value: &Value) -> Option<()> {
     let text = write(alloc, value).ok()?;
@@ -126,36 +69,30 @@ fn are_drafts(alloc: Global, drafts: &[Draft], end: &str) -> Option<bool> {
     Some(told.as_str() == end)
 }
 
-fn is_done(alloc: Global, txn: Txn, end: &str) -> Option<bool> {
-    let finished = txn.finish(alloc).ok()?;
+fn is_done(alloc: Global, work: &Work, end: &str) -> Option<bool> {
     match end.strip_prefix("drafts") {
-        Some(drafts) => are_drafts(alloc, finished.drafts.as_slice(), drafts),
-        None => answer_so(alloc, finished.said.as_slice(), end),
+        Some(drafts) => are_drafts(alloc, work.drafts(), drafts),
+        None => answer_so(alloc, work.said(), end),
     }
 }
 
-fn is_refused(alloc: Global, statement: u32, cause: &Refusal, end: &str) -> Option<bool> {
-    let (number, told) = end.split_once(": ")?;
-    let number = number.parse::<u32>().ok()?;
-    let mut text = Text::new(alloc);
-    put_cause(alloc, &mut text, cause).ok()?;
-    Some(number == statement && text.as_str() == told)
-}
-
 /// Whether the first transaction on this version ends so.
-fn ends_so(alloc: Global, version: &Versions, asked: &[Request], end: &str) -> Option<bool> {
-    match ran(alloc, version, 1, asked)? {
-        Ran::Done(txn) => is_done(alloc, txn, end),
-        Ran::Refused { statement, cause } => is_refused(alloc, statement, &cause, end),
+fn ends_so(alloc: Global, version: &Version, asked: &[Request], end: &str) -> Option<bool> {
+    match ended(alloc, version, 1, asked)? {
+        End::Done(work) => is_done(alloc, &work, end),
+        End::Refused(told) => Some(told.as_str() == end),
     }
 }
 
 /// Whether the statements end so.
-fn end_so(alloc: Global, version: &Versions, statements: &str, end: &str) -> Option<bool> {
+fn end_so(alloc: Global, version: &Version, statements: &str, end: &str) -> Option<bool> {
     let asked = requests(alloc, statements)?;
-    match end.strip_prefix("read ") {
-        Some(read) => have_read(alloc, version, asked.as_slice(), read),
-        None => ends_so(alloc, version, asked.as_slice(), end),
+    let asked = asked.as_slice();
+    let (kind, told) = end.split_once(' ').unwrap_or((end, ""));
+    match kind {
+        "read" => read_so(alloc, version, asked, told),
+        "each" => end_each(alloc, version, asked, told),
+        _ => ends_so(alloc, version, asked, end),
     }
 }
 
@@ -190,36 +127,109 @@ fn spelled(alloc: Global, told: &str) -> Option<String> {
     }
 }
 
-fn holds(alloc: Global, version: &Versions, row: &str) -> Option<bool> {
-    let (told, end) = row.rsplit_once(" = ")?;
-    if let Some(question) = told.strip_prefix("? ") {
-        return answers_so(alloc, version, question, end);
-    }
+/// Whether the statements that a row tells end so.
+fn spelled_end_so(alloc: Global, version: &Version, told: &str, end: &str) -> Option<bool> {
     let statements = spelled(alloc, told)?;
     end_so(alloc, version, statements.as_str(), end)
 }
 
+/// A version with a share of it, a later one, and what a transaction did that pends.
+#[derive(Drop)]
+struct Scene {
+    version: Version,
+    share: Version,
+    later: Version,
+    work: Option<Work>,
+}
+
 /// Goes over to the version of the journal.
-fn go_over(alloc: Global, version: &mut Versions, journal: &str) -> Option<()> {
-    *version = version_of(alloc, journal)?;
+fn go_over(alloc: Global, scene: &mut Scene, journal: &str) -> Option<()> {
+    scene.version = version_of(alloc, journal)?;
+    scene.share = scene.version.share(alloc)?;
     Some(())
 }
 
-/// Whether the row comes out as it says.
-fn passes(alloc: Global, version: &mut Versions, row: &str) -> bool {
-    match row.strip_prefix("on ") {
-        Some(journal) => go_over(alloc, version, journal).is_some(),
-        None => row.starts_with("#") || holds(alloc, version, row) == Some(true),
+fn go_on(alloc: Global, scene: &mut Scene, blocks: &str) -> Option<()> {
+    scene.later = continued(alloc, &scene.version, blocks)?;
+    Some(())
+}
+
+fn take_work(alloc: Global, scene: &mut Scene, statements: &str) -> Option<()> {
+    scene.work = Some(work_of(alloc, &scene.version, 1, statements)?);
+    Some(())
+}
+
+fn commit(alloc: Global, scene: &mut Scene, told: &str) -> Option<()> {
+    scene.version = behind(alloc, &scene.version, told)?;
+    Some(())
+}
+
+/// Whether the version and the share of it answer the question so.
+fn both_answer_so(alloc: Global, scene: &Scene, question: &str, end: &str) -> Option<bool> {
+    let answers = answers_so(alloc, &scene.version, question, end)?;
+    Some(answers && answers_so(alloc, &scene.share, question, end)?)
+}
+
+/// Whether a transaction with what pends sees these rows.
+fn sees_so(alloc: Global, scene: &Scene, asked: &str, ids: &str) -> Option<bool> {
+    match &scene.work {
+        Some(work) => are_seen(alloc, &scene.version, work, asked, ids),
+        None => None,
     }
 }
 
+/// Whether the row's question or its statements come out as it says.
+fn holds(alloc: Global, scene: &Scene, row: &str) -> Option<bool> {
+    let (told, end) = row.rsplit_once(" = ")?;
+    let (word, asked) = told.split_once(' ').unwrap_or((told, ""));
+    match word {
+        "?" => both_answer_so(alloc, scene, asked, end),
+        "then?" => answers_so(alloc, &scene.later, asked, end),
+        "sees" => sees_so(alloc, scene, asked, end),
+        _ => spelled_end_so(alloc, &scene.version, told, end),
+    }
+}
+
+/// Whether the row comes out as it says.
+fn passes(alloc: Global, scene: &mut Scene, row: &str) -> bool {
+    let (word, told) = row.split_once(' ').unwrap_or((row, ""));
+    match word {
+        "#" => true,
+        "on" => go_over(alloc, scene, told).is_some(),
+        "then" => go_on(alloc, scene, told).is_some(),
+        "does" => take_work(alloc, scene, told).is_some(),
+        "commits" => commit(alloc, scene, told).is_some(),
+        _ => holds(alloc, scene, row) == Some(true),
+    }
+}
+
+/// The scene of no block.
+fn empty(alloc: Global) -> Option<Scene> {
+    let version = Version::empty(alloc)?;
+    let share = version.share(alloc)?;
+    let later = version.share(alloc)?;
+    Some(Scene {
+        version,
+        share,
+        later,
+        work: None,
+    })
+}
+
 /// The first row that doesn't come out as it says.
-pub(crate) fn failing(alloc: Global, rows: &str) -> Option<&str> {
-    let mut version = Versions::empty(alloc);
+fn first_failing<'a>(alloc: Global, scene: &mut Scene, rows: &'a str) -> Option<&'a str> {
     for row in rows.lines() {
-        if !passes(alloc, &mut version, row) {
+        if !passes(alloc, scene, row) {
             return Some(row);
         }
     }
     None
+}
+
+/// The same, on the version of no block.
+pub(crate) fn failing(alloc: Global, rows: &str) -> Option<&str> {
+    match empty(alloc) {
+        Some(mut scene) => first_failing(alloc, &mut scene, rows),
+        None => Some("no memory"),
+    }
 }

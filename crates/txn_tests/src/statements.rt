@@ -1,9 +1,7 @@
 //! Statements on an empty journal, and on journals that are small or full.
-use crate::rows::failing;
-use std::test::Fail;
 
 /// What statements answer, and why they are refused.
-const ROWS: &str = r#"on none
+pub(crate) const STATEMENTS: &str = r#"on none
 CREATE TABLE t = 1 rows
 CREATE TABLE t;INSERT INTO t ?|{a:1};INSERT INTO t ?|{};SELECT * FROM t = 2 rows
 create table t;insert into t {'a': 1};select * from t as x = 1 rows
@@ -63,7 +61,7 @@ SELECT * FROM t1 AS "a b" = {a:y::1}{'a b':x::5}{'a b':null.struct}
 SELECT * FROM t0 = none"#;
 
 /// Limits that are met and passed.
-const LIMITS: &str = r#"# tables
+pub(crate) const LIMITS: &str = r#"# tables
 on none
 CREATE TABLE t;CREATE TABLE t0;CREATE TABLE t1;CREATE TABLE t2;CREATE TABLE t3;CREATE TABLE t4;CREATE TABLE t5;CREATE TABLE t6;CREATE TABLE t7;CREATE TABLE t8;CREATE TABLE t9;CREATE TABLE t10;CREATE TABLE t11;CREATE TABLE t12;CREATE TABLE t13;CREATE TABLE t14;CREATE TABLE t15;CREATE TABLE t16;CREATE TABLE t17;CREATE TABLE t18 = 1 rows
 CREATE TABLE t;CREATE TABLE t0;CREATE TABLE t1;CREATE TABLE t2;CREATE TABLE t3;CREATE TABLE t4;CREATE TABLE t5;CREATE TABLE t6;CREATE TABLE t7;CREATE TABLE t8;CREATE TABLE t9;CREATE TABLE t10;CREATE TABLE t11;CREATE TABLE t12;CREATE TABLE t13;CREATE TABLE t14;CREATE TABLE t15;CREATE TABLE t16;CREATE TABLE t17;CREATE TABLE t18;CREATE TABLE t19 = 21: code:6,count:20
@@ -103,15 +101,3 @@ CREATE TABLE t;INSERT INTO t {'a': [?]}|^62 [^^62 ]^ = 1 rows
 CREATE TABLE t;INSERT INTO t {'a': [?]}|^63 [^^63 ]^ = 2: code:12,depth:65
 CREATE TABLE t;INSERT INTO t [{'a': 1}, {'a': ?}]|^64 [^^64 ]^ = 2: code:12,depth:65
 CREATE TABLE t;INSERT INTO t [[?]]|^64 [^^64 ]^ = 2: code:10,kind:List"#;
-
-#[test]
-fn each_end_is_told(rt: HostRuntime) -> Result<(), Fail> {
-    assert_eq!(rt; failing(rt.alloc(), ROWS), None);
-    Ok(())
-}
-
-#[test]
-fn each_limit_is_told(rt: HostRuntime) -> Result<(), Fail> {
-    assert_eq!(rt; failing(rt.alloc(), LIMITS), None);
-    Ok(())
-}
