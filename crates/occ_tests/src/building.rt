@@ -5,17 +5,27 @@
 //!
 //! The blocks are of the transactions 1, 2 and so on of the strand 0, all made when 2020 began in UTC. An id is the number
 //! of its transaction, and a digit, the number of the thing in it.
+ghost use Rattle.std.specs.Prelude.{⊤};
+
 use block_form::{revision_hash, seal, strand_hash};
 use ion_text::read_stream;
-use ion_values::{IonTime, Precision, TimeParts};
+use ion_values::{Body, IonTime, Value};
 use journal_text::line;
-use ledger_model::{Content, Header, Info, Metadata, Revision, Revisions, Schema, Told};
-use lists::{Sequence, Text};
+use ledger_model::{
+    Block, Content, Header, Info, Metadata, Revision, Revisions, Schema, SchemaList, TableIds, Told,
+};
+use lists::{Boxed, Sequence, Text};
 use ql_types::{BlockAddress, DocId, Hash32, Place, StrandId, TableId, TxId};
 use std::alloc::Global;
+use std::marker::Model;
 
 /// The strand of the journals.
 const STRAND: StrandId = StrandId { raw: 0 };
+
+const PLACE: Place = Place {
+    session: 1,
+    transaction: 1,
+};
 
 /// The id that a number tells.
 pub(crate) fn id(text: &str) -> Option<u128> {
@@ -24,131 +34,183 @@ pub(crate) fn id(text: &str) -> Option<u128> {
     Some(begin | (number % 10))
 }
 
+/// The one value of a text.
+fn value_in(alloc: Global, text: &str) -> Option<Value> {
+    read_stream(alloc, text.as_bytes(), 80).ok()?.pop()
+}
+
 /// The beginning of 2020 in UTC.
-fn new_year() -> Option<IonTime> {
-    IonTime::new(TimeParts {
-        precision: Precision::Second,
-        year: 2020,
-        month: 1,
-        day: 1,
-        hour: 0,
-        minute: 0,
-        second: 0,
-        digits: 3,
-        nanos: 0,
-        offset: Some(0),
+fn new_year(alloc: Global) -> Option<IonTime> {
+    let value = value_in(alloc, "2020-01-01T00:00:00.000Z")?;
+    match &value.body {
+        Body::Timestamp(time) => Some(*time),
+        _ => None,
+    }
+}
+
+/// The header of the block of this number, without revisions.
+fn header_of(alloc: Global, number: u64) -> Option<Header> {
+    let time = new_year(alloc)?;
+    Some(Header {
+        address: BlockAddress {
+            strand: STRAND,
+            sequence: number,
+        },
+        tx: TxId {
+            raw: u128::from(number.checked_add(1)?) << 24,
+        },
+        time,
+        revisions: 0,
     })
-    .ok()
 }
 
 fn content(alloc: Global, text: &str) -> Option<Content> {
     if text == "-" {
         return Some(Content::Deleted);
     }
-    let value = read_stream(alloc, text.as_bytes(), 80).ok()?.pop()?;
-    Some(Content::Kept(value))
+    Some(Content::Kept(value_in(alloc, text)?))
 }
 
-/// What a block is made of but for its hashes.
+fn metadata(header: &Header, document: &str, version: &str) -> Option<Metadata> {
+    Some(Metadata {
+        id: DocId { raw: id(document)? },
+        version: version.parse::<u64>().ok()?,
+        time: header.time,
+        tx: header.tx,
+    })
+}
+
+fn revision(alloc: Global, header: &Header, metadata: Metadata, text: &str) -> Option<Revision> {
+    let content = content(alloc, text)?;
+    let hash = revision_hash(alloc, &content, &metadata).ok()?;
+    Some(Revision {
+        address: header.address,
+        hash,
+        content,
+        metadata,
+    })
+}
+
+fn change(alloc: Global, verb: &str, name: &str, table: &str) -> Option<Schema> {
+    let table = TableId { raw: id(table)? };
+    let name = Text::from_text(alloc, name).ok()?;
+    match verb {
+        "create" => Some(Schema::Create { name, table }),
+        "index" => Some(Schema::Index { field: name, table }),
+        "drop" => Some(Schema::Drop { name, table }),
+        _ => None,
+    }
+}
+
+/// A block. Clauses see nothing of it, and it is dropped by a call, which keeps the proofs of the tables small.
 #[derive(Drop)]
-struct Parts {
-    header: Header,
-    info: Info,
+struct Page {
+    block: Boxed<Block>,
+}
+
+impl Model for Page {
+    ghost Value = { ⊤ };
+
+    ghost view = { λ _. tt };
+}
+
+/// What the steps of a block make. Clauses see nothing of it.
+#[derive(Drop)]
+struct Steps {
+    schema: SchemaList,
+    tables: TableIds,
     revisions: Revisions,
 }
 
-impl Parts {
-    /// The parts of the block of this number, in which nothing is done.
-    fn new(alloc: Global, number: u64) -> Option<Parts> {
-        Some(Parts {
-            header: Header {
-                address: BlockAddress {
-                    strand: STRAND,
-                    sequence: number,
-                },
-                tx: TxId {
-                    raw: u128::from(number.checked_add(1)?) << 24,
-                },
-                time: new_year()?,
-                revisions: 0,
-            },
-            info: Info {
-                place: Place {
-                    session: 1,
-                    transaction: 1,
-                },
-                said: Told::Said(Sequence::new(alloc)),
-                schema: Sequence::new(alloc),
-                tables: Sequence::new(alloc),
-            },
-            revisions: Sequence::new(alloc),
-        })
-    }
+impl Model for Steps {
+    ghost Value = { ⊤ };
 
-    fn take(&mut self, alloc: Global, step: &str) -> Option<()> {
-        let (verb, rest) = step.split_once(' ')?;
-        let (what, ids) = rest.split_once(' ')?;
-        match verb {
-            "put" => self.put(alloc, what, ids),
-            _ => self.change(alloc, verb, what, ids),
+    ghost view = { λ _. tt };
+}
+
+impl Steps {
+    fn new(alloc: Global) -> Steps {
+        Steps {
+            schema: Sequence::new(alloc),
+            tables: Sequence::new(alloc),
+            revisions: Sequence::new(alloc),
         }
     }
 
-    fn change(&mut self, alloc: Global, verb: &str, name: &str, table: &str) -> Option<()> {
-        let table = TableId { raw: id(table)? };
-        let name = Text::from_text(alloc, name).ok()?;
-        let change = match verb {
-            "create" => Schema::Create { name, table },
-            "index" => Schema::Index { field: name, table },
-            "drop" => Schema::Drop { name, table },
-            _ => return None,
-        };
-        self.info.schema.push(change).ok()
+    fn change(&mut self, change: Schema) -> Option<()> {
+        self.schema.push(change).ok()
     }
 
-    fn put(&mut self, alloc: Global, text: &str, ids: &str) -> Option<()> {
-        let (table, ids) = ids.split_once(' ')?;
-        let (document, version) = ids.split_once(' ')?;
-        let metadata = Metadata {
-            id: DocId { raw: id(document)? },
-            version: version.parse::<u64>().ok()?,
-            time: self.header.time,
-            tx: self.header.tx,
-        };
-        let content = content(alloc, text)?;
-        let hash = revision_hash(alloc, &content, &metadata).ok()?;
-        let revision = Revision {
-            address: self.header.address,
-            hash,
-            content,
-            metadata,
-        };
-        self.revisions.push(revision).ok()?;
-        self.info.tables.push(TableId { raw: id(table)? }).ok()
+    fn put(&mut self, table: TableId, revision: Revision) -> Option<()> {
+        self.tables.push(table).ok()?;
+        self.revisions.push(revision).ok()
     }
 
-    /// Puts the line of the block behind the lines, and tells the block's hash.
-    fn put_line(self, alloc: Global, previous: Hash32, lines: &mut Text) -> Option<Hash32> {
-        let Parts {
-            mut header,
-            info,
+    /// The block behind that of the hash.
+    fn sealed(self, alloc: Global, previous: Hash32, header: &Header) -> Option<Page> {
+        let Steps {
+            schema,
+            tables,
             revisions,
         } = self;
-        header.revisions = u32::try_from(revisions.len()).ok()?;
-        let block = seal(alloc, previous, header, info, revisions).ok()?;
-        let text = line(alloc, &block).ok()?;
-        lines.push_str(text.as_str()).ok()?;
-        Some(block.hash)
+        let header = Header {
+            address: header.address,
+            tx: header.tx,
+            time: header.time,
+            revisions: u32::try_from(revisions.len()).ok()?,
+        };
+        let info = Info {
+            place: PLACE,
+            said: Told::Said(Sequence::new(alloc)),
+            schema,
+            tables,
+        };
+        match seal(alloc, previous, header, info, revisions) {
+            Ok(block) => page_with(alloc, block),
+            Err(_) => None,
+        }
     }
 }
 
-/// The parts of the block of these steps.
-fn made_by(alloc: Global, number: u64, steps: &str) -> Option<Parts> {
-    let mut parts = Parts::new(alloc, number)?;
-    for step in steps.split(", ") {
-        parts.take(alloc, step)?;
+/// The block, on the heap.
+fn page_with(alloc: Global, block: Block) -> Option<Page> {
+    match Boxed::new(alloc, block) {
+        Ok(block) => Some(Page { block }),
+        Err(_) => None,
     }
-    Some(parts)
+}
+
+fn put(alloc: Global, made: &mut Steps, header: &Header, text: &str, ids: &str) -> Option<()> {
+    let (table, ids) = ids.split_once(' ')?;
+    let (document, version) = ids.split_once(' ')?;
+    let table = TableId { raw: id(table)? };
+    let metadata = metadata(header, document, version)?;
+    made.put(table, revision(alloc, header, metadata, text)?)
+}
+
+fn take(alloc: Global, made: &mut Steps, header: &Header, step: &str) -> Option<()> {
+    let (verb, rest) = step.split_once(' ')?;
+    let (what, ids) = rest.split_once(' ')?;
+    match verb {
+        "put" => put(alloc, made, header, what, ids),
+        _ => made.change(change(alloc, verb, what, ids)?),
+    }
+}
+
+/// What these steps make.
+fn made_by(alloc: Global, header: &Header, steps: &str) -> Option<Steps> {
+    let mut made = Steps::new(alloc);
+    for step in steps.split(", ") {
+        take(alloc, &mut made, header, step)?;
+    }
+    Some(made)
+}
+
+/// The block of this number, behind that of the hash.
+fn page_of(alloc: Global, number: u64, previous: Hash32, steps: &str) -> Option<Page> {
+    let header = header_of(alloc, number)?;
+    let made = made_by(alloc, &header, steps)?;
+    made.sealed(alloc, previous, &header)
 }
 
 /// Lines so far, and what the next block stands behind.
@@ -159,25 +221,38 @@ struct Lines {
     hash: Hash32,
 }
 
-impl Lines {
-    /// Puts the lines of the blocks that are told behind those so far.
-    fn put_all(mut self, alloc: Global, told: &str) -> Option<Lines> {
-        for steps in told.split(" / ") {
-            let parts = made_by(alloc, self.blocks, steps)?;
-            self.hash = parts.put_line(alloc, self.hash, &mut self.text)?;
-            self.blocks = self.blocks.checked_add(1)?;
-        }
-        Some(self)
+/// Puts the line of the block at the end, and tells the block's hash.
+fn put_line(alloc: Global, text: &mut Text, page: &Page) -> Option<Hash32> {
+    let line = line(alloc, page.block.get()).ok()?;
+    text.push_str(line.as_str()).ok()?;
+    Some(page.block.get().hash)
+}
+
+/// Puts the line of the block of these steps at the end.
+fn put_block(alloc: Global, lines: &mut Lines, steps: &str) -> Option<()> {
+    let page = page_of(alloc, lines.blocks, lines.hash, steps)?;
+    lines.hash = put_line(alloc, &mut lines.text, &page)?;
+    lines.blocks = lines.blocks.checked_add(1)?;
+    Some(())
+}
+
+/// Puts the lines of the blocks that are told at the end.
+fn put_blocks(alloc: Global, lines: &mut Lines, told: &str) -> Option<()> {
+    for steps in told.split(" / ") {
+        put_block(alloc, lines, steps)?;
     }
+    Some(())
 }
 
 /// The lines of the journal that is told, in two parts.
 pub(crate) fn journal(alloc: Global, before: &str, behind: &str) -> Option<Text> {
-    let lines = Lines {
+    let hash = strand_hash(alloc, STRAND).ok()?;
+    let mut lines = Lines {
         text: Text::new(alloc),
         blocks: 0,
-        hash: strand_hash(alloc, STRAND).ok()?,
+        hash,
     };
-    let lines = lines.put_all(alloc, before)?.put_all(alloc, behind)?;
+    put_blocks(alloc, &mut lines, before)?;
+    put_blocks(alloc, &mut lines, behind)?;
     Some(lines.text)
 }

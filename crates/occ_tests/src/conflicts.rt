@@ -1,15 +1,15 @@
 //! Rows of journals with the first block that touches something of a footprint.
 ghost use Rattle.std.specs.Prelude.{◌≡◌, IfOk};
-ghost use Rattle.ledger_model.specs.State.{state};
+ghost use Rattle.ledger_model.specs.State.{after, state};
 
 use crate::building::journal;
 use crate::items::{is_told, items};
 use ion_values::OutOfMemory;
 use journal_text::read_journal;
-use ledger_model::{Block, Blocks, Named};
+use ledger_model::{Block, Item, Named};
+use lists::Boxed;
 use occ_check::first_conflict;
 use std::alloc::Global;
-use std::test::Fail;
 use versions::Versions;
 
 /// Four blocks: the table `t` with an index on `a`, `u`, two documents in `t` and one in `u`.
@@ -48,28 +48,46 @@ create v 51 > list > 4 list
 drop u 12 > list > 4 list
 index b 11 > list > none";
 
+/// The state after one block more. A version on the heap is dropped by a call, in place of its parts one by one.
+fn state_behind(
+    alloc: Global,
+    now: &Boxed<Versions>,
+    block: &Block,
+) -> Result<Boxed<Versions>, OutOfMemory>
+    ensures { IfOk result (λ next. next ≡ after now.now block.now) }
+{
+    let next = now.get().after(block)?;
+    let boxed = Boxed::new(alloc, next)?;
+    Ok(boxed)
+}
+
 /// The state after the blocks.
-pub(crate) fn state_of(alloc: Global, blocks: &[Block]) -> Result<Versions, OutOfMemory>
+pub(crate) fn state_of(alloc: Global, blocks: &[Block]) -> Result<Boxed<Versions>, OutOfMemory>
     ensures { IfOk result (λ now. now ≡ state blocks.now) }
 {
-    let mut now = Versions::empty(alloc);
+    let mut now = Boxed::new(alloc, Versions::empty(alloc))?;
     'followed: for block in blocks {
-        let next = now.after(block)?;
+        let next = state_behind(alloc, &now, block)?;
         now = next;
     }
     Ok(now)
 }
 
-/// The first conflict of a transaction that began behind the four blocks and read these items.
-fn found(alloc: Global, later: &str, read: &str) -> Option<Option<Named>> {
-    let lines = journal(alloc, INDEXED, later)?;
-    let (blocks, _) = read_journal(alloc, lines.as_str().as_bytes()).ok()?;
+/// The first conflict of a transaction that began behind four blocks of the journal and read these items.
+fn conflict_in(alloc: Global, lines: &str, items: &[Item]) -> Option<Option<Named>> {
+    let (blocks, _) = read_journal(alloc, lines.as_bytes()).ok()?;
     let now = state_of(alloc, blocks.as_slice()).ok()?;
     if blocks.len() < 4 {
         return None;
     }
+    first_conflict(alloc, items, &blocks, 4, now.get()).ok()
+}
+
+/// The first conflict of a transaction that began behind the four blocks and read the items that are told.
+fn found(alloc: Global, later: &str, read: &str) -> Option<Option<Named>> {
+    let lines = journal(alloc, INDEXED, later)?;
     let items = items(alloc, read)?;
-    first_conflict(alloc, items.as_slice(), &blocks, 4, &now).ok()
+    conflict_in(alloc, lines.as_str(), items.as_slice())
 }
 
 /// Whether it is the conflict that is told.
@@ -90,18 +108,12 @@ fn holds(alloc: Global, row: &str) -> Option<bool> {
     is_named(alloc, found, told)
 }
 
-/// Whether each row does.
-fn all_hold(alloc: Global, rows: &str) -> bool {
-    for row in rows.lines() {
+/// The first row that doesn't come out as it says.
+pub(crate) fn failing(alloc: Global) -> Option<&'static str> {
+    for row in ROWS.lines() {
         if !row.starts_with("#") && holds(alloc, row) != Some(true) {
-            return false;
+            return Some(row);
         }
     }
-    true
-}
-
-#[test]
-fn the_first_conflict_is_told(rt: HostRuntime) -> Result<(), Fail> {
-    assert!(rt; all_hold(rt.alloc(), ROWS));
-    Ok(())
+    None
 }

@@ -25,11 +25,10 @@ fn document(ids: &str) -> Option<Item> {
 fn index_value(alloc: Global, words: &str) -> Option<Item> {
     let (table, words) = words.split_once(' ')?;
     let (field, key) = words.split_once(' ')?;
-    Some(Item::IndexValue {
-        table: TableId { raw: id(table)? },
-        field: Text::from_text(alloc, field).ok()?,
-        key: number_of(key)?,
-    })
+    let table = TableId { raw: id(table)? };
+    let key = number_of(key)?;
+    let field = Text::from_text(alloc, field).ok()?;
+    Some(Item::IndexValue { table, field, key })
 }
 
 /// The item that is told.
@@ -51,11 +50,15 @@ fn item(alloc: Global, told: &str) -> Option<Item> {
     }
 }
 
+fn put_item(alloc: Global, items: &mut Sequence<Item>, told: &str) -> Option<()> {
+    items.push(item(alloc, told)?).ok()
+}
+
 /// The items that are told, with `, ` between them.
 pub(crate) fn items(alloc: Global, told: &str) -> Option<Sequence<Item>> {
     let mut items = Sequence::new(alloc);
     for told in told.split(", ") {
-        items.push(item(alloc, told)?).ok()?;
+        put_item(alloc, &mut items, told)?;
     }
     Some(items)
 }

@@ -9,3 +9,5 @@ mod conflicts;
 mod items;
 #[cfg(test)]
 mod statements;
+#[cfg(test)]
+mod tables;
