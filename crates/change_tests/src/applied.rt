@@ -5,14 +5,12 @@ use crate::reading::{change_of, put_written, statement, values};
 use ion_values::{Value, copy};
 use lists::{Sequence, Text};
 use pql_change::apply;
-use pql_model::{Bound, Scope};
+use pql_model::{Bound, Change, Scope};
 use ql_types::DocId;
 use std::alloc::Global;
-use std::process::Abort;
-use std::test::Fail;
 
 /// SET of one path.
-const SETS: &str = r#"SET a = 5 of {k:1,a:1,b:2} is {k:1,a:5,b:2}
+pub(crate) const SETS: &str = r#"SET a = 5 of {k:1,a:1,b:2} is {k:1,a:5,b:2}
 SET zz = 5 of {a:1,b:2} is {a:1,b:2,zz:5}
 SET rep = 5 of {rep:1,rep:2} is {rep:5,rep:2}
 SET box.a = box.b + 1 of {a:1,b:2} is {a:3,b:2}
@@ -40,7 +38,7 @@ SET an[0] = 9, ao.a = 8 of {an:k::[1],ao:m::{a:1}} is {an:k::[9],ao:m::{a:8}}
 SET a = 2, b = 3 of m::n::{a:1} is m::n::{a:2,b:3}"#;
 
 /// SET of several paths.
-const SEVERAL: &str = r#"SET a = 5, b = 6 of {k:1,a:1,b:2} is {k:1,a:5,b:6}
+pub(crate) const SEVERAL: &str = r#"SET a = 5, b = 6 of {k:1,a:1,b:2} is {k:1,a:5,b:6}
 SET a = b, b = a of {a:1,b:2} is {a:2,b:1}
 SET o = {}, o.z = 1 of {o:{a:1,b:{c:2},a:3}} is {o:{z:1}}
 SET o = 1, o.z = 2 of {o:{a:1,b:{c:2},a:3}} is {o:1}
@@ -59,7 +57,7 @@ SET deep[0].v[1] = 9, deep[1].w = 8 of {deep:[{v:[1,2]},{v:[3]}]} is {deep:[{v:[
 SET a = b, c = a of {a:1,b:2} {a:7,b:8} is {a:2,b:8,c:1}"#;
 
 /// INSERT.
-const INSERTS: &str = r#"INSERT INTO l VALUE 40 of {l:[10,20,30]} is {l:[10,20,30,40]}
+pub(crate) const INSERTS: &str = r#"INSERT INTO l VALUE 40 of {l:[10,20,30]} is {l:[10,20,30,40]}
 INSERT INTO l VALUE 5 AT 0 of {l:[10,20,30]} is {l:[5,10,20,30]}
 INSERT INTO l VALUE 15 AT 1 of {l:[10,20,30]} is {l:[10,15,20,30]}
 INSERT INTO l VALUE 40 AT 3 of {l:[10,20,30]} is {l:[10,20,30,40]}
@@ -89,7 +87,7 @@ INSERT INTO box.l VALUE SIZE(box.l) of {l:[10,20,30]} is {l:[10,20,30,3]}
 INSERT INTO l VALUE ({'p': a + b}) AT (a) of {a:1,b:2,l:[10,20,30]} is {a:1,b:2,l:[10,{p:3},20,30]}"#;
 
 /// REMOVE.
-const REMOVES: &str = r#"REMOVE a of {k:1,a:1,b:2} is {k:1,b:2}
+pub(crate) const REMOVES: &str = r#"REMOVE a of {k:1,a:1,b:2} is {k:1,b:2}
 REMOVE rep of {s:"ab",rep:1,rep:2,an:k::[1]} is {s:"ab",an:k::[1]}
 REMOVE o.a of {o:{a:1,b:{c:2},a:3}} is {o:{b:{c:2}}}
 REMOVE o.b.c of {o:{a:1,b:{c:2},a:3}} is {o:{a:1,b:{},a:3}}
@@ -110,63 +108,47 @@ REMOVE ao.a of {ao:m::{a:1}} is {ao:m::{}}
 REMOVE n of {b:2,n:null,ni:null.int} is {b:2,ni:null.int}
 REMOVE o[0] of {o:{a:1,b:{c:2},a:3}} is {o:{a:1,b:{c:2},a:3}}"#;
 
-/// The row of one source, whose document has that content.
-fn scope(alloc: Global, document: &Value) -> Option<Scope> {
-    let mut scope = Sequence::new(alloc);
-    let bound = Bound {
-        variable: Text::from_text(alloc, "box").ok()?,
-        value: copy(alloc, document).ok()?,
+fn bound(alloc: Global, document: &Value) -> Option<Bound> {
+    let variable = Text::from_text(alloc, "box").ok()?;
+    let value = copy(alloc, document).ok()?;
+    Some(Bound {
+        variable,
+        value,
         id_name: None,
         id: Some(DocId { raw: 1 }),
-    };
+    })
+}
+
+/// The row of one source, whose document has that content.
+fn scope(alloc: Global, document: &Value) -> Option<Scope> {
+    let bound = bound(alloc, document)?;
+    let mut scope = Sequence::new(alloc);
     scope.push(bound).ok()?;
     Some(scope)
 }
 
-/// What the change leaves of the document, as it is written.
-fn left(alloc: Global, given: &str) -> Option<String> {
-    let (change, given) = given.split_once(" of ")?;
-    let text = format!(in alloc; "UPDATE box {change}").ok()?;
-    let statement = statement(alloc, text.as_str())?;
-    let change = change_of(&statement)?;
-    let given = values(alloc, given)?;
-    let given = given.as_slice();
+/// What the change makes of what a row gives.
+fn made_of(alloc: Global, change: &Change, given: &[Value]) -> Option<Value> {
     let in_row = given.first()?;
     let document = given.get(1).unwrap_or(in_row);
     let params = given.get(2..).unwrap_or(&[]);
     let scope = scope(alloc, in_row)?;
-    let document = apply(alloc, change, document, &scope, params).ok()?;
+    apply(alloc, change, document, &scope, params).ok()
+}
+
+/// What the statement leaves of the document that is given.
+fn left_by(alloc: Global, text: &str, given: &str) -> Option<Value> {
+    let statement = statement(alloc, text)?;
+    let given = values(alloc, given)?;
+    made_of(alloc, change_of(&statement)?, given.as_slice())
+}
+
+/// What the change leaves of the document, as it is written.
+pub(crate) fn left(alloc: Global, told: &str) -> Option<String> {
+    let (change, given) = told.split_once(" of ")?;
+    let text = format!(in alloc; "UPDATE box {change}").ok()?;
+    let document = left_by(alloc, text.as_str(), given)?;
     let mut out = String::new(alloc);
     put_written(alloc, &mut out, &document)?;
     Some(out)
-}
-
-/// Tests each row of a table.
-fn test_rows(rt: &impl Abort, alloc: Global, rows: &str) -> Result<(), Fail> {
-    for row in rows.lines() {
-        let (given, wanted) = row.split_once(" is ").ok_or("no row")?;
-        let found = left(alloc, given).ok_or("a row that is not read, or no memory")?;
-        assert_eq!(rt; found.as_str(), wanted, "{row}");
-    }
-    Ok(())
-}
-
-#[test]
-fn one_path_is_set(rt: HostRuntime) -> Result<(), Fail> {
-    test_rows(&rt, rt.alloc(), SETS)
-}
-
-#[test]
-fn several_paths_are_set(rt: HostRuntime) -> Result<(), Fail> {
-    test_rows(&rt, rt.alloc(), SEVERAL)
-}
-
-#[test]
-fn values_are_inserted(rt: HostRuntime) -> Result<(), Fail> {
-    test_rows(&rt, rt.alloc(), INSERTS)
-}
-
-#[test]
-fn members_are_removed(rt: HostRuntime) -> Result<(), Fail> {
-    test_rows(&rt, rt.alloc(), REMOVES)
 }

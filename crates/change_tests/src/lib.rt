@@ -7,3 +7,5 @@ mod applied;
 mod named;
 #[cfg(test)]
 mod reading;
+#[cfg(test)]
+mod rows;
