@@ -1,15 +1,20 @@
 //! The documents of made workloads, against amounts that a separate program computed.
 use ion_text::write;
+use ion_values::Value;
 use ledger_model::{Job, Session};
 use made_workload::made_sessions;
 use std::alloc::Global;
-use std::test::Fail;
+
+/// The document that the transaction inserts.
+fn document(job: &Job) -> Option<&Value> {
+    let insert = job.statements.as_slice().first()?;
+    insert.params.as_slice().first()
+}
 
 /// Puts the text of the document that the transaction inserts.
 fn put_document(alloc: Global, text: &mut String, job: &Job) -> Option<()> {
-    let insert = job.statements.as_slice().first()?;
-    let document = insert.params.as_slice().first()?;
-    text.push_str(write(alloc, document).ok()?.as_str()).ok()
+    let document = write(alloc, document(job)?).ok()?;
+    text.push_str(document.as_str()).ok()
 }
 
 /// Puts the documents of a session as a line.
@@ -30,14 +35,22 @@ fn documents_of(alloc: Global, seed: u64, sessions: u32, transactions: u32) -> O
     Some(text)
 }
 
+/// A seed, a number of sessions and one of transactions.
+fn numbers(told: &str) -> Option<(u64, u32, u32)> {
+    let (seed, told) = told.split_once(' ')?;
+    let (sessions, transactions) = told.split_once(' ')?;
+    Some((
+        seed.parse::<u64>().ok()?,
+        sessions.parse::<u32>().ok()?,
+        transactions.parse::<u32>().ok()?,
+    ))
+}
+
 fn holds(alloc: Global, row: &str) -> Option<bool> {
     let (told, documents) = row.split_once('\n')?;
-    let (seed, numbers) = told.split_once(' ')?;
-    let (sessions, transactions) = numbers.split_once(' ')?;
-    let seed = seed.parse::<u64>().ok()?;
-    let sessions = sessions.parse::<u32>().ok()?;
-    let transactions = transactions.parse::<u32>().ok()?;
-    Some(documents_of(alloc, seed, sessions, transactions)?.as_str() == documents)
+    let (seed, sessions, transactions) = numbers(told)?;
+    let found = documents_of(alloc, seed, sessions, transactions)?;
+    Some(found.as_str() == documents)
 }
 
 /// A seed, how many sessions and how many transactions of each, and the documents of each session.
@@ -57,18 +70,12 @@ const ROWS: &str = "0 1 3
 {s:2,t:1,amount:752}{s:2,t:2,amount:806}
 ";
 
-/// The first row that doesn't come out as it says.
-fn failing(alloc: Global) -> Option<&'static str> {
+/// The first row that doesn't come out as it says. Amounts are words of the session's stream.
+pub(crate) fn failing_row(alloc: Global) -> Option<&'static str> {
     for row in ROWS.split('/') {
         if holds(alloc, row) != Some(true) {
             return Some(row);
         }
     }
     None
-}
-
-#[test]
-fn amounts_are_words_of_the_sessions_stream(rt: HostRuntime) -> Result<(), Fail> {
-    assert_eq!(rt; failing(rt.alloc()), None);
-    Ok(())
 }

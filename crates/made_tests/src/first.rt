@@ -1,23 +1,23 @@
 //! The transaction of a made workload that runs before the others.
+use ledger_model::Request;
 use made_workload::made_first;
 use std::alloc::Global;
-use std::test::Fail;
 
 const STATEMENTS: &str = "CREATE TABLE made\nCREATE INDEX ON made (s)\n";
 
-/// Whether its statements are these, a line each.
-fn are_told(alloc: Global) -> Option<bool> {
-    let job = made_first(alloc).ok()?;
+/// The statements, a line each.
+fn told(alloc: Global, statements: &[Request]) -> Option<String> {
     let mut text = String::new(alloc);
-    for statement in job.statements.as_slice() {
+    for statement in statements {
         text.push_str(statement.text.as_str()).ok()?;
         text.push_str("\n").ok()?;
     }
-    Some(text.as_str() == STATEMENTS)
+    Some(text)
 }
 
-#[test]
-fn a_table_and_its_index_are_made_first(rt: HostRuntime) -> Result<(), Fail> {
-    assert_eq!(rt; are_told(rt.alloc()), Some(true));
-    Ok(())
+/// Whether its statements are these, a line each.
+pub(crate) fn are_told(alloc: Global) -> Option<bool> {
+    let job = made_first(alloc).ok()?;
+    let text = told(alloc, job.statements.as_slice())?;
+    Some(text.as_str() == STATEMENTS)
 }

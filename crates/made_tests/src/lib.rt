@@ -7,3 +7,5 @@ mod amounts;
 mod first;
 #[cfg(test)]
 mod histories;
+#[cfg(test)]
+mod tables;
