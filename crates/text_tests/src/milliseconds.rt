@@ -47,9 +47,9 @@ fn is_told(alloc: Global, row: &str, inside: bool) -> Option<bool> {
 #[test]
 fn milliseconds_name_timestamps(rt: HostRuntime) {
     for row in INSIDE.trim().lines() {
-        assert_eq!(rt; is_told(rt.alloc(), row, true), Some(true), "{row}");
+        assert!(rt; is_told(rt.alloc(), row, true) == Some(true), "{row}");
     }
     for row in OUTSIDE.trim().lines() {
-        assert_eq!(rt; is_told(rt.alloc(), row, false), Some(true), "{row}");
+        assert!(rt; is_told(rt.alloc(), row, false) == Some(true), "{row}");
     }
 }
