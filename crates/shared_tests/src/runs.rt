@@ -5,12 +5,11 @@ ghost use Rattle.ledger_shared.specs.Sessions.{AreNumbered};
 use crate::tails::{memory_store, sure_store, tail_of};
 use ion_values::Text;
 use ledger_model::{Job, Outcome, Outcomes, Request, Session};
-use ledger_shared::run_all;
+use ledger_shared::{AllRan, run_all};
 use lists::Sequence;
-use outside::{FreeGate, JournalStore};
+use outside::{FreeGate, JournalStore, SetClock};
 use std::alloc::Global;
 use std::sync::Wait;
-use std::test::Fail;
 use std::thread::Threads;
 
 /// A session of one job with this one statement.
@@ -58,7 +57,12 @@ fn committed(outcomes: &Outcomes) -> Option<u64> {
     Some(count)
 }
 
-/// How many jobs are committed, and how many blocks are left, where so many workers run the script on an empty store.
+/// How many jobs are committed, and how many blocks are left.
+fn counts<S: JournalStore>(ran: &AllRan<S, SetClock>) -> Option<(u64, u64)> {
+    Some((committed(&ran.outcomes)?, ran.tail.blocks().len()))
+}
+
+/// The same where so many workers run the script on an empty store.
 fn ends<S: JournalStore + Send + Drop, R: Threads + Wait + Sync>(
     rt: &R,
     alloc: Global,
@@ -70,27 +74,14 @@ fn ends<S: JournalStore + Send + Drop, R: Threads + Wait + Sync>(
     let script = script_of(alloc)?;
     let tail = tail_of(alloc, store)?;
     let ran = run_all(rt, alloc, script.as_slice(), workers, &FreeGate, tail).ok()?;
-    Some((committed(&ran.outcomes)?, ran.tail.blocks().len()))
+    counts(&ran)
 }
 
 #[test]
-fn two_workers_run_three_sessions(rt: HostRuntime) -> Result<(), Fail> {
-    assert_eq!(&rt;
-        ends(&rt, rt.alloc(), sure_store(rt.alloc()), 2),
-        Some((3, 3))
-    );
-    assert_eq!(&rt;
-        ends(&rt, rt.alloc(), memory_store(rt.alloc()), 2),
-        Some((3, 3))
-    );
-    Ok(())
-}
-
-#[test]
-fn a_worker_without_a_session_does_nothing(rt: HostRuntime) -> Result<(), Fail> {
-    assert_eq!(&rt;
-        ends(&rt, rt.alloc(), sure_store(rt.alloc()), 5),
-        Some((3, 3))
-    );
-    Ok(())
+fn workers_run_three_sessions(rt: HostRuntime) {
+    let alloc = rt.alloc();
+    assert!(&rt; ends(&rt, alloc, sure_store(alloc), 2) == Some((3, 3)));
+    assert!(&rt; ends(&rt, alloc, memory_store(alloc), 2) == Some((3, 3)));
+    // a worker without a session does nothing
+    assert!(&rt; ends(&rt, alloc, sure_store(alloc), 5) == Some((3, 3)));
 }
