@@ -1,48 +1,37 @@
 //! Journals that are damaged, or cut inside their last line.
-use crate::commands::{run, unfailing};
-use crate::rows::is_told;
+use crate::commands::{Left, run, unfailing};
 use crate::runs::RUN;
 use sample_journals::THREE_BLOCKS;
 use std::alloc::Global;
 use std::sync::Wait;
 use std::thread::Threads;
 
-/// What stands in the journal of three blocks and what takes its place, the words, and what is told.
-const DAMAGED: &str = "fOBbdB7n>gOBbdB7n|audit|3 {status:3,fault:{sequence:2,kind:WrongHash}}
-fOBbdB7n>gOBbdB7n|run --plain-ids|3 {status:3,fault:{sequence:2,kind:WrongHash}}
-sequenceNo:1>sequenceNo: 1|digest --tip 99|3 {status:3,fault:{sequence:1,kind:NotALine}}
-sequenceNo:1>sequenceNo:7|prove 0 0|3 {status:3,fault:{sequence:1,kind:WrongAddress}}
-sequenceNo:1>sequenceNo:7|verify|7 {status:7,fault:{code:1,field:\"count\"}}";
+/// Journals of three blocks with a change. They are left as they are.
+pub const DAMAGED: &str =
+    r#"audit||@THREE_BLOCKS~fOBbdB7n>gOBbdB7n@||3 {status:3,fault:{sequence:2,kind:WrongHash}}|=
+run --plain-ids||@THREE_BLOCKS~fOBbdB7n>gOBbdB7n@||3 {status:3,fault:{sequence:2,kind:WrongHash}}|=
+digest --tip 99||@THREE_BLOCKS~sequenceNo:1>sequenceNo: 1@||3 {status:3,fault:{sequence:1,kind:NotALine}}|=
+prove 0 0||@THREE_BLOCKS~sequenceNo:1>sequenceNo:7@||3 {status:3,fault:{sequence:1,kind:WrongAddress}}|=
+verify||@THREE_BLOCKS~sequenceNo:1>sequenceNo:7@||7 {status:7,fault:{code:1,field:"count"}}|="#;
 
-/// Whether the row's command on the journal that the row changes tells what the row says. The store is left as it is.
-fn is_damage<R: Threads + Wait + Sync>(rt: &R, alloc: Global, row: &str) -> Option<bool> {
-    let (change, rest) = row.split_once('|')?;
-    let (line, wanted) = rest.split_once('|')?;
-    let (old, new) = change.split_once('>')?;
-    let (front, back) = THREE_BLOCKS.split_once(old)?;
-    let held = format!(in alloc; "{front}{new}{back}").ok()?;
-    let left = run(rt, alloc, &unfailing(line, "", held.as_str().as_bytes()))?;
-    Some(is_told(left.told.as_str(), wanted) && left.held.as_slice() == held.as_str().as_bytes())
+/// Whether a question to the cut journal finds two blocks, and leaves it.
+fn is_counted<R: Threads + Wait + Sync>(rt: &R, alloc: Global, cut: &[u8]) -> Option<bool> {
+    let left = run(rt, alloc, &unfailing("audit", "", cut))?;
+    Some(is_kept(&left, cut))
 }
 
-#[test]
-fn damaged_journals(rt: HostRuntime) {
-    for row in DAMAGED.lines() {
-        assert!(rt; is_damage(&rt, rt.alloc(), row) == Some(true), "{row}");
-    }
+fn is_kept(left: &Left, cut: &[u8]) -> bool {
+    left.told.as_str() == "0 {blocks:2,revisions:0}\n" && left.held.as_slice() == cut
 }
 
-/// Whether the journal, cut at this byte inside its last line, is two blocks for a question and for a run, which cuts it.
-fn is_cut<R: Threads + Wait + Sync>(rt: &R, alloc: Global, end: usize) -> Option<bool> {
-    let cut = THREE_BLOCKS.as_bytes().get(..end)?;
-    let counted = run(rt, alloc, &unfailing("audit", "", cut))?;
-    let two = counted.told.as_str() == "0 {blocks:2,revisions:0}\n"
-        && counted.held.as_slice() == cut;
-    let ran = run(rt, alloc, &unfailing(RUN, "", cut))?;
-    Some(
-        two && ran.told.as_str() == "0 "
-            && THREE_BLOCKS.as_bytes().starts_with(ran.held.as_slice()),
-    )
+/// Whether a run on the cut journal cuts it to whole lines.
+fn is_mended<R: Threads + Wait + Sync>(rt: &R, alloc: Global, cut: &[u8]) -> Option<bool> {
+    let left = run(rt, alloc, &unfailing(RUN, "", cut))?;
+    Some(is_front(&left))
+}
+
+fn is_front(left: &Left) -> bool {
+    left.told.as_str() == "0 " && THREE_BLOCKS.as_bytes().starts_with(left.held.as_slice())
 }
 
 /// Where the last line of the three begins, and how long the three are.
@@ -56,8 +45,10 @@ fn a_journal_cut_at_each_byte_of_its_last_line(rt: HostRuntime) {
     let (start, end) = last_line().unwrap_or((0, 0));
     assert!(rt; start < end);
     for at in start..end {
+        let cut = THREE_BLOCKS.as_bytes().get(..at).unwrap_or(b"");
         if at > start {
-            assert!(rt; is_cut(&rt, rt.alloc(), at) == Some(true), "{at}");
+            assert!(rt; is_counted(&rt, rt.alloc(), cut) == Some(true), "{at}");
+            assert!(rt; is_mended(&rt, rt.alloc(), cut) == Some(true), "{at}");
         }
     }
 }

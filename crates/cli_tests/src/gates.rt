@@ -88,44 +88,49 @@ const COMMITTED: &str = "0 {session:1,transaction:1,outcome:committed,tx:\"";
 
 const READ: &str = "answers:[[{a:5}]]}\n";
 
-/// The sessions' run behind the four blocks, by two workers that cross.
-fn crossed<R: Threads + Wait + Sync>(rt: &R, alloc: Global, sessions: &str) -> Option<Left> {
+/// What the sessions' run behind the four blocks tells, by two workers that cross.
+fn crossed<R: Threads + Wait + Sync>(rt: &R, alloc: Global, sessions: &str) -> Option<String> {
     let line = "run --workers 2 --plain-ids --at 2020-01-01T00:00:00.000Z";
     let before = run(rt, alloc, &unfailing(line, FOUR_BLOCKS, b""))?;
     let gate = Crossing {
         first_commits: Flag::new(),
         second_goes_on: Flag::new(),
     };
-    run_gated(
-        rt,
-        alloc,
-        &unfailing(line, sessions, before.held.as_slice()),
-        &gate,
-    )
+    let given = unfailing(line, sessions, before.held.as_slice());
+    let Left { told, held: _ } = run_gated(rt, alloc, &given, &gate)?;
+    Some(told)
 }
 
 /// Whether the reader meets the block of the other session.
-fn meets_conflict<R: Threads + Wait + Sync>(rt: &R, alloc: Global) -> Option<bool> {
-    let left = crossed(rt, alloc, READS_ONCE)?;
-    Some(left.told.as_str().starts_with(CONFLICT))
+fn meets_conflict(told: Option<String>) -> bool {
+    match told {
+        Some(told) => told.as_str().starts_with(CONFLICT),
+        None => false,
+    }
 }
 
 /// Whether the reader is run again, and reads what the other session wrote.
-fn reads_again<R: Threads + Wait + Sync>(rt: &R, alloc: Global) -> Option<bool> {
-    let left = crossed(rt, alloc, READS_AGAIN)?;
-    let first = left.told.as_str().strip_prefix(COMMITTED)?;
+fn reads_again(told: &str) -> Option<bool> {
+    let first = told.strip_prefix(COMMITTED)?;
     let (first, _others) = first.split_once("{session:2,transaction:1,")?;
     let (_tx, first) = first.split_once("\",block:")?;
     let (block, answers) = first.split_once(',')?;
     Some((block == "5" || block == "6") && answers == READ)
 }
 
+fn has_read_again(told: Option<String>) -> bool {
+    match told {
+        Some(told) => reads_again(told.as_str()) == Some(true),
+        None => false,
+    }
+}
+
 #[test]
 fn gate_two(rt: HostRuntime) {
-    assert!(rt; meets_conflict(&rt, rt.alloc()) == Some(true));
+    assert!(rt; meets_conflict(crossed(&rt, rt.alloc(), READS_ONCE)));
 }
 
 #[test]
 fn gate_retry(rt: HostRuntime) {
-    assert!(rt; reads_again(&rt, rt.alloc()) == Some(true));
+    assert!(rt; has_read_again(crossed(&rt, rt.alloc(), READS_AGAIN)));
 }

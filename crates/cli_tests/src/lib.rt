@@ -14,8 +14,6 @@ mod faults;
 #[cfg(test)]
 mod gates;
 #[cfg(test)]
-mod journals;
-#[cfg(test)]
 mod limits;
 #[cfg(test)]
 mod makes;
@@ -29,6 +27,8 @@ mod rows;
 mod runs;
 #[cfg(test)]
 mod selects;
+#[cfg(test)]
+mod texts;
 #[cfg(test)]
 mod verdicts;
 #[cfg(test)]

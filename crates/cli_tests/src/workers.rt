@@ -1,9 +1,12 @@
 //! Runs by several workers: whatever order their transactions take, each has one line, in the script's order, and the blocks
 //! that are told are those of the journal.
-use crate::commands::{run, unfailing};
+use crate::commands::{Left, run, unfailing};
 use std::alloc::Global;
 use std::sync::Wait;
 use std::thread::Threads;
+
+/// A script that makes the table.
+const MAKE: &str = "[{statements:[\"CREATE TABLE t\"]}]";
 
 /// Nine sessions on one table, of two transactions each. All of them read what all others write, and may try again.
 fn contended(alloc: Global) -> Option<String> {
@@ -43,22 +46,27 @@ fn committed(report: &str) -> usize {
         .count()
 }
 
-/// Whether a run by these words tells each transaction once, and each block of its journal but the first.
-fn is_told<R: Threads + Wait + Sync>(rt: &R, alloc: Global, line: &str) -> Option<bool> {
-    let made = run(
-        rt,
-        alloc,
-        &unfailing(line, "[{statements:[\"CREATE TABLE t\"]}]", b""),
-    )?;
-    let script = contended(alloc)?;
-    let left = run(
-        rt,
-        alloc,
-        &unfailing(line, script.as_str(), made.held.as_slice()),
-    )?;
+/// Whether each transaction is told once, and each block of the journal but the first.
+fn are_told(alloc: Global, left: &Left) -> Option<bool> {
     let report = left.told.as_str().strip_prefix("0 ")?;
-    let lines = str::from_utf8(left.held.as_slice()).ok()?.lines().count();
-    Some(places(alloc, report)?.as_str() == PLACES && committed(report) == 18 && lines == 19)
+    let blocks = str::from_utf8(left.held.as_slice()).ok()?.lines().count();
+    if committed(report) != 18 || blocks != 19 {
+        return Some(false);
+    }
+    Some(places(alloc, report)?.as_str() == PLACES)
+}
+
+/// What a run by these words leaves behind one that makes the table.
+fn contend<R: Threads + Wait + Sync>(rt: &R, alloc: Global, line: &str) -> Option<Left> {
+    let made = run(rt, alloc, &unfailing(line, MAKE, b""))?;
+    let script = contended(alloc)?;
+    let held = made.held.as_slice();
+    run(rt, alloc, &unfailing(line, script.as_str(), held))
+}
+
+fn is_told<R: Threads + Wait + Sync>(rt: &R, alloc: Global, line: &str) -> Option<bool> {
+    let left = contend(rt, alloc, line)?;
+    are_told(alloc, &left)
 }
 
 #[test]

@@ -1,9 +1,9 @@
 //! Transactions that are begun, and committed by their digests.
 use crate::bench::{Bench, NO_HASH, empty_bench, make};
 use crate::statements::asked_of;
-use crate::stores::LINE;
 use ledger_core::{CommitFault, Receipt};
 use outside::MemoryStore;
+use sample_journals::THREE_STATEMENTS;
 use std::alloc::Global;
 use std::test::Fail;
 
@@ -20,7 +20,7 @@ fn store_behind_commit(alloc: Global) -> Option<MemoryStore> {
 /// Whether it holds the line.
 fn is_line(alloc: Global) -> Option<bool> {
     let store = store_behind_commit(alloc)?;
-    Some(store.held() == LINE.as_bytes())
+    Some(store.held() == THREE_STATEMENTS.as_bytes())
 }
 
 /// A word for how a commit ends.

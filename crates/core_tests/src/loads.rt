@@ -1,9 +1,10 @@
 //! What a reload finds in a store, or why it finds no journal.
 use crate::bench::{Bench, clock_at};
-use crate::stores::{LINE, store_behind, store_of, store_of_bytes};
+use crate::stores::{store_behind, store_of, store_of_bytes};
 use ledger_core::{LoadCause, LoadFault};
 use ledger_model::Damage;
 use outside::{Clock, MemoryStore, SetClock};
+use sample_journals::THREE_STATEMENTS;
 use std::alloc::Global;
 use std::test::Fail;
 
@@ -35,7 +36,7 @@ fn found_in(alloc: Global, bytes: &[u8]) -> Option<Result<(u64, usize), LoadCaus
 
 /// Whether one block of the line is found.
 fn is_line(found: Option<Result<(u64, usize), LoadCause>>) -> bool {
-    matches!(found, Some(Ok((1, length))) if length == LINE.len())
+    matches!(found, Some(Ok((1, length))) if length == THREE_STATEMENTS.len())
 }
 
 /// Whether nothing is found.
@@ -45,7 +46,7 @@ fn is_nothing(found: Option<Result<(u64, usize), LoadCause>>) -> bool {
 
 /// Where the line is cut so that something is found.
 fn bad_cut(alloc: Global) -> Option<usize> {
-    let bytes = LINE.as_bytes();
+    let bytes = THREE_STATEMENTS.as_bytes();
     for end in 0..bytes.len() {
         if !is_nothing(found_in(alloc, &bytes[..end])) {
             return Some(end);
@@ -69,7 +70,13 @@ fn a_journal_is_loaded(rt: HostRuntime) -> Result<(), Fail> {
     assert!(rt; is_line(found_behind(alloc, "{blockAddress:")));
     assert_eq!(rt; bad_cut(alloc), None);
     assert!(rt; is_damaged(found_in(alloc, b"\n"), 0, Damage::NotALine));
-    assert!(rt; is_damaged(found_behind(alloc, LINE), 1, Damage::WrongAddress));
+    assert!(rt;
+        is_damaged(
+            found_behind(alloc, THREE_STATEMENTS),
+            1,
+            Damage::WrongAddress
+        )
+    );
     Ok(())
 }
 
@@ -81,14 +88,14 @@ fn is_given_back(fault: LoadFault<MemoryStore, SetClock>) -> bool {
         mut clock,
     } = fault;
     cause == LoadCause::StoreFault { count: 1 }
-        && store.held().len() == LINE.len()
+        && store.held().len() == THREE_STATEMENTS.len()
         && clock.now() == 7
 }
 
 /// Whether the load of a line fails by its store, whose call after so many fails, and gives the store and the clock
 /// back.
 fn fails(alloc: Global, passes: u64) -> Option<bool> {
-    let store = store_of(alloc, LINE, passes, 0)?;
+    let store = store_of(alloc, THREE_STATEMENTS, passes, 0)?;
     match Bench::load(alloc, store, clock_at(alloc, 7)?)? {
         Ok(_) => None,
         Err(fault) => Some(is_given_back(fault)),

@@ -1,8 +1,9 @@
 //! What a settling cuts.
 use crate::bench::bench_of;
-use crate::stores::{LINE, store_told};
+use crate::stores::store_told;
 use ledger_core::SettleFault;
 use outside::{JournalStore, MemoryStore};
+use sample_journals::THREE_STATEMENTS;
 use std::alloc::Global;
 use std::test::Fail;
 
@@ -43,7 +44,7 @@ fn holds(alloc: Global, row: &str) -> Option<bool> {
     let (times, held) = (times.parse::<u32>().ok()?, held.parse::<usize>().ok()?);
     let faults = faults.parse::<u64>().ok()?;
     let store = settled(alloc, store_told(alloc, told)?, times, word == "done")?;
-    let behind = store.held().len().checked_sub(LINE.len())?;
+    let behind = store.held().len().checked_sub(THREE_STATEMENTS.len())?;
     Some(behind == held && store.faults() == faults)
 }
 

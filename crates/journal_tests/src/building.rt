@@ -6,35 +6,34 @@
 //! - `put CONTENT TABLE DOCUMENT VERSION` adds a revision of the address, the time and the transaction so far, and a
 //!   content of `-` is a deletion's,
 //! - `strand`, `sequence`, `tx`, `second` and `microsecond` set a part of the header: the last two set the second of the
-//!   year 2020 in UTC, with three and with six digits behind it,
+//!   year 2020 in UTC, of two digits, with three and with six digits behind it,
 //! - `table TABLE` adds a table of no revision, `forget table` takes the last table away, and `forget hash` makes the last
 //!   revision's hash zeros.
 //!
-//! An id is the number of its transaction, and a digit, the number of the thing in it.
+//! An id is the number of its transaction, and a digit, the number of the thing in it. Each part of a block is what the steps
+//! make of it by themselves.
 use block_form::{revision_hash, seal, strand_hash};
 use ion_text::read_stream;
-use ion_values::{IonTime, Precision, TimeParts, Values};
+use ion_values::{Body, IonTime, Values};
 use journal_text::line;
-use ledger_model::{Block, Content, Header, Info, Metadata, Revision, Revisions, Schema, Told};
+use ledger_model::{
+    Answer, Block, Content, Header, Info, Metadata, Revision, Revisions, Said, SaidList, Schema,
+    SchemaList, TableIds, Told,
+};
 use lists::{Sequence, Text};
 use ql_types::{BlockAddress, DocId, Hash32, Place, StrandId, TableId, TxId};
 use std::alloc::Global;
-use std::test::Fail;
 
-pub const STRAND: StrandId = StrandId { raw: 0 };
+const STRAND: StrandId = StrandId { raw: 0 };
 
-pub const ZEROS: Hash32 = Hash32 { bytes: [0; 32] };
+const ZEROS: Hash32 = Hash32 { bytes: [0; 32] };
 
 /// The steps of the first transaction: where it stands, whose it is and when it was made, and what it did.
-const FIRST: [&str; 2] = [
-    "tx 10, sequence 0, second 10",
-    "create t 11, create w 12, put {a:1} 11 13 0, put {a:2} 11 14 0",
-];
+pub const FIRST: &str = "tx 10, sequence 0, second 10, \
+    create t 11, create w 12, put {a:1} 11 13 0, put {a:2} 11 14 0";
 
-const SECOND: [&str; 2] = [
-    "tx 20, sequence 1, second 20",
-    "index a 11, drop w 12, put {a:3} 11 13 1, put - 11 14 1, put {a:4} 11 21 0",
-];
+const SECOND: &str = "tx 20, sequence 1, second 20, \
+    index a 11, drop w 12, put {a:3} 11 13 1, put - 11 14 1, put {a:4} 11 21 0";
 
 /// The first steps of the last transaction.
 pub const THIRD: &str = "tx 30, sequence 2, second 30";
@@ -44,229 +43,302 @@ pub const THIRD: &str = "tx 30, sequence 2, second 30";
 pub const RIGHT: &str =
     "create w 31, index b 11, put {a:5} 31 32 0, put {a:6} 11 13 2, put - 11 21 1";
 
-fn id(text: &str) -> Result<u128, Fail> {
-    let number = text.parse::<u128>()?;
-    let begin = (number / 10).checked_mul(1 << 24).ok_or("a great id")?;
-    Ok(begin | (number % 10))
-}
-
-/// A second of the first minute of 2020 in UTC, with so many digits behind it.
-fn time(second: &str, digits: u8) -> Result<IonTime, Fail> {
-    let second = second.parse::<u8>()?;
-    let time = IonTime::new(TimeParts {
-        precision: Precision::Second,
-        year: 2020,
-        month: 1,
-        day: 1,
-        hour: 0,
-        minute: 0,
-        second,
-        digits,
-        nanos: 0,
-        offset: Some(0),
-    })?;
-    Ok(time)
+fn id(text: &str) -> Option<u128> {
+    let number = text.parse::<u128>().ok()?;
+    let begin = (number / 10).checked_mul(1 << 24)?;
+    Some(begin | (number % 10))
 }
 
 /// The values of an Ion text.
-pub fn values(alloc: Global, text: &str) -> Result<Values, Fail> {
-    match read_stream(alloc, text.as_bytes(), 80) {
-        Ok(values) => Ok(values),
-        Err(_) => Err("no Ion".into()),
+fn values(alloc: Global, text: &str) -> Option<Values> {
+    read_stream(alloc, text.as_bytes(), 80).ok()
+}
+
+/// A second of the first minute of 2020 in UTC, with these digits behind it.
+fn time(alloc: Global, second: &str, digits: &str) -> Option<IonTime> {
+    let text = format!(in alloc; "2020-01-01T00:00:{second}.{digits}Z").ok()?;
+    let value = values(alloc, text.as_str())?.pop()?;
+    match &value.body {
+        Body::Timestamp(time) => Some(*time),
+        _ => None,
     }
 }
 
-fn content(alloc: Global, text: &str) -> Result<Content, Fail> {
+// ---- the header
+
+/// The header of the strand's first block, of no transaction.
+fn first_header(alloc: Global) -> Option<Header> {
+    let time = time(alloc, "00", "000")?;
+    Some(Header {
+        address: BlockAddress {
+            strand: STRAND,
+            sequence: 0,
+        },
+        tx: TxId { raw: 0 },
+        time,
+        revisions: 0,
+    })
+}
+
+/// What a step makes of the header.
+fn set(alloc: Global, header: &mut Header, step: &str) -> Option<()> {
+    let (verb, to) = step.split_once(' ')?;
+    match verb {
+        "strand" => {
+            header.address.strand.raw = to.parse::<u128>().ok()?;
+            Some(())
+        }
+        "sequence" => {
+            header.address.sequence = to.parse::<u64>().ok()?;
+            Some(())
+        }
+        "tx" => {
+            header.tx.raw = id(to)?;
+            Some(())
+        }
+        "second" => {
+            header.time = time(alloc, to, "000")?;
+            Some(())
+        }
+        "microsecond" => {
+            header.time = time(alloc, to, "000000")?;
+            Some(())
+        }
+        _ => other(verb),
+    }
+}
+
+/// A verb that sets no part of the header.
+fn other(verb: &str) -> Option<()> {
+    if is_change(verb) || verb == "put" || verb == "table" || verb == "forget" {
+        return Some(());
+    }
+    None
+}
+
+fn header_of(alloc: Global, steps: &str, revisions: usize) -> Option<Header> {
+    let mut header = first_header(alloc)?;
+    for step in steps.split(", ") {
+        set(alloc, &mut header, step)?;
+    }
+    header.revisions = u32::try_from(revisions).ok()?;
+    Some(header)
+}
+
+// ---- what the transaction said and did
+
+/// A row has a statement, its parameters and its answer, with bars between them.
+fn said_of(alloc: Global, row: &str) -> Option<Said> {
+    let (text, row) = row.split_once('|')?;
+    let (params, rows) = row.split_once('|')?;
+    let text = Text::from_text(alloc, text).ok()?;
+    let params = values(alloc, params)?;
+    let rows = values(alloc, rows)?;
+    Some(Said {
+        text,
+        params,
+        answer: Answer { rows },
+    })
+}
+
+fn all_said(alloc: Global, rows: &str) -> Option<SaidList> {
+    let mut said = Sequence::new(alloc);
+    for row in rows.lines() {
+        said.push(said_of(alloc, row)?).ok()?;
+    }
+    Some(said)
+}
+
+fn change(alloc: Global, verb: &str, rest: &str) -> Option<Schema> {
+    let (name, table) = rest.split_once(' ')?;
+    let table = TableId { raw: id(table)? };
+    let name = Text::from_text(alloc, name).ok()?;
+    match verb {
+        "create" => Some(Schema::Create { name, table }),
+        "index" => Some(Schema::Index { field: name, table }),
+        _ => Some(Schema::Drop { name, table }),
+    }
+}
+
+fn is_change(verb: &str) -> bool {
+    verb == "create" || verb == "index" || verb == "drop"
+}
+
+fn put_change(alloc: Global, schema: &mut SchemaList, step: &str) -> Option<()> {
+    let (verb, rest) = step.split_once(' ')?;
+    if !is_change(verb) {
+        return Some(());
+    }
+    schema.push(change(alloc, verb, rest)?).ok()
+}
+
+fn schema_of(alloc: Global, steps: &str) -> Option<SchemaList> {
+    let mut schema = Sequence::new(alloc);
+    for step in steps.split(", ") {
+        put_change(alloc, &mut schema, step)?;
+    }
+    Some(schema)
+}
+
+fn put_table(tables: &mut TableIds, step: &str) -> Option<()> {
+    let (verb, rest) = step.split_once(' ')?;
+    match verb {
+        "put" => {
+            let (_content, ids) = rest.split_once(' ')?;
+            let (table, _ids) = ids.split_once(' ')?;
+            tables.push(TableId { raw: id(table)? }).ok()
+        }
+        "table" => tables.push(TableId { raw: id(rest)? }).ok(),
+        "forget" => {
+            if rest == "table" {
+                tables.pop()?;
+            }
+            Some(())
+        }
+        _ => Some(()),
+    }
+}
+
+fn tables_of(alloc: Global, steps: &str) -> Option<TableIds> {
+    let mut tables = Sequence::new(alloc);
+    for step in steps.split(", ") {
+        put_table(&mut tables, step)?;
+    }
+    Some(tables)
+}
+
+fn info_of(alloc: Global, steps: &str, said: &str) -> Option<Info> {
+    let said = all_said(alloc, said)?;
+    let schema = schema_of(alloc, steps)?;
+    let tables = tables_of(alloc, steps)?;
+    Some(Info {
+        place: Place {
+            session: 1,
+            transaction: 1,
+        },
+        said: Told::Said(said),
+        schema,
+        tables,
+    })
+}
+
+// ---- the revisions
+
+fn content(alloc: Global, text: &str) -> Option<Content> {
     if text == "-" {
-        return Ok(Content::Deleted);
+        return Some(Content::Deleted);
     }
-    let value = values(alloc, text)?.pop().ok_or("no value")?;
-    Ok(Content::Kept(value))
+    Some(Content::Kept(values(alloc, text)?.pop()?))
 }
 
-/// What a block is made of but for its hashes.
-#[derive(Drop)]
-pub struct Parts {
-    pub header: Header,
-    pub info: Info,
-    pub revisions: Revisions,
+fn metadata(header: &Header, ids: &str) -> Option<Metadata> {
+    let (document, version) = ids.split_once(' ')?;
+    let id = DocId { raw: id(document)? };
+    let version = version.parse::<u64>().ok()?;
+    Some(Metadata {
+        id,
+        version,
+        time: header.time,
+        tx: header.tx,
+    })
 }
 
-impl Parts {
-    /// The first parts of the strand, of nothing and of no transaction.
-    fn new(alloc: Global) -> Result<Parts, Fail> {
-        let time = time("0", 3)?;
-        Ok(Parts {
-            header: Header {
-                address: BlockAddress {
-                    strand: STRAND,
-                    sequence: 0,
-                },
-                tx: TxId { raw: 0 },
-                time,
-                revisions: 0,
-            },
-            info: Info {
-                place: Place {
-                    session: 1,
-                    transaction: 1,
-                },
-                said: Told::Said(Sequence::new(alloc)),
-                schema: Sequence::new(alloc),
-                tables: Sequence::new(alloc),
-            },
-            revisions: Sequence::new(alloc),
-        })
-    }
-
-    /// The parts that steps make, the ones that begin and the others.
-    pub fn of(alloc: Global, begin: &str, steps: &str) -> Result<Parts, Fail> {
-        let mut parts = Parts::new(alloc)?;
-        parts.take_all(alloc, begin)?;
-        parts.take_all(alloc, steps)?;
-        Ok(parts)
-    }
-
-    fn take_all(&mut self, alloc: Global, steps: &str) -> Result<(), Fail> {
-        for step in steps.split(", ") {
-            self.take(alloc, step)?;
-        }
-        Ok(())
-    }
-
-    fn take(&mut self, alloc: Global, step: &str) -> Result<(), Fail> {
-        let (verb, rest) = step.split_once(' ').ok_or("no step")?;
-        match rest.split_once(' ') {
-            None => self.set(verb, rest),
-            Some((content, ids)) if verb == "put" => self.put(alloc, content, ids),
-            Some((name, table)) => self.change(alloc, verb, name, table),
-        }
-    }
-
-    fn set(&mut self, verb: &str, to: &str) -> Result<(), Fail> {
-        match verb {
-            "strand" => self.header.address.strand.raw = to.parse::<u128>()?,
-            "sequence" => self.header.address.sequence = to.parse::<u64>()?,
-            "tx" => self.header.tx.raw = id(to)?,
-            "second" => self.header.time = time(to, 3)?,
-            "microsecond" => self.header.time = time(to, 6)?,
-            "table" => self.info.tables.push(TableId { raw: id(to)? })?,
-            "forget" => self.forget(to)?,
-            _ => return Err("no step".into()),
-        }
-        Ok(())
-    }
-
-    fn forget(&mut self, what: &str) -> Result<(), Fail> {
-        if what == "table" {
-            self.info.tables.pop();
-            return Ok(());
-        }
-        let mut revision = self.revisions.pop().ok_or("no revision")?;
-        revision.hash = ZEROS;
-        self.revisions.push(revision)?;
-        Ok(())
-    }
-
-    fn change(&mut self, alloc: Global, verb: &str, name: &str, table: &str) -> Result<(), Fail> {
-        let table = TableId { raw: id(table)? };
-        let name = Text::from_text(alloc, name)?;
-        self.info.schema.push(match verb {
-            "create" => Schema::Create { name, table },
-            "index" => Schema::Index { field: name, table },
-            "drop" => Schema::Drop { name, table },
-            _ => return Err("no step".into()),
-        })?;
-        Ok(())
-    }
-
-    fn metadata(&self, ids: &str) -> Result<Metadata, Fail> {
-        let (document, version) = ids.split_once(' ').ok_or("no version")?;
-        Ok(Metadata {
-            id: DocId { raw: id(document)? },
-            version: version.parse::<u64>()?,
-            time: self.header.time,
-            tx: self.header.tx,
-        })
-    }
-
-    fn revision(&self, alloc: Global, text: &str, metadata: Metadata) -> Result<Revision, Fail> {
-        let content = content(alloc, text)?;
-        let hash = revision_hash(alloc, &content, &metadata)?;
-        Ok(Revision {
-            address: self.header.address,
-            hash,
-            content,
-            metadata,
-        })
-    }
-
-    fn put(&mut self, alloc: Global, text: &str, ids: &str) -> Result<(), Fail> {
-        let (table, ids) = ids.split_once(' ').ok_or("no document")?;
-        let table = TableId { raw: id(table)? };
-        let metadata = self.metadata(ids)?;
-        let revision = self.revision(alloc, text, metadata)?;
-        self.revisions.push(revision)?;
-        self.info.tables.push(table)?;
-        Ok(())
-    }
-
-    /// The block, sealed behind the block of this hash.
-    pub fn sealed(self, alloc: Global, previous: Hash32) -> Result<Block, Fail> {
-        let Parts {
-            mut header,
-            info,
-            revisions,
-        } = self;
-        header.revisions = u32::try_from(revisions.len())?;
-        Ok(seal(alloc, previous, header, info, revisions)?)
-    }
-}
-
-/// The block of these steps behind the block of this hash.
-pub fn block(alloc: Global, previous: Hash32, steps: [&str; 2]) -> Result<Block, Fail> {
-    let [begin, steps] = steps;
-    Parts::of(alloc, begin, steps)?.sealed(alloc, previous)
-}
-
-/// Puts the line of this block behind the lines, and tells the block's hash.
-fn put_line(
+fn hashed(
     alloc: Global,
-    lines: &mut Text,
-    previous: Hash32,
-    steps: [&str; 2],
-) -> Result<Hash32, Fail> {
-    let block = block(alloc, previous, steps)?;
-    let text = line(alloc, &block)?;
-    lines.push_str(text.as_str())?;
-    Ok(block.hash)
+    address: BlockAddress,
+    content: Content,
+    metadata: Metadata,
+) -> Option<Revision> {
+    let hash = revision_hash(alloc, &content, &metadata).ok()?;
+    Some(Revision {
+        address,
+        hash,
+        content,
+        metadata,
+    })
 }
 
-/// The first line, and its block's hash.
-pub fn first(alloc: Global) -> Result<(Text, Hash32), Fail> {
-    let previous = strand_hash(alloc, STRAND)?;
+fn revision(alloc: Global, header: &Header, put: &str) -> Option<Revision> {
+    let (text, ids) = put.split_once(' ')?;
+    let (_table, ids) = ids.split_once(' ')?;
+    let metadata = metadata(header, ids)?;
+    hashed(alloc, header.address, content(alloc, text)?, metadata)
+}
+
+fn forget(revisions: &mut Revisions) -> Option<()> {
+    let mut revision = revisions.pop()?;
+    revision.hash = ZEROS;
+    revisions.push(revision).ok()
+}
+
+fn put_revision(
+    alloc: Global,
+    revisions: &mut Revisions,
+    header: &Header,
+    step: &str,
+) -> Option<()> {
+    match step.strip_prefix("put ") {
+        Some(put) => revisions.push(revision(alloc, header, put)?).ok(),
+        None if step == "forget hash" => forget(revisions),
+        None => Some(()),
+    }
+}
+
+fn revisions_of(alloc: Global, steps: &str) -> Option<Revisions> {
+    let mut header = first_header(alloc)?;
+    let mut revisions = Sequence::new(alloc);
+    for step in steps.split(", ") {
+        set(alloc, &mut header, step)?;
+        put_revision(alloc, &mut revisions, &header, step)?;
+    }
+    Some(revisions)
+}
+
+// ---- blocks and journals
+
+/// The block of these steps behind the block of this hash. It said what the rows say.
+pub fn block(alloc: Global, previous: Hash32, steps: &str, said: &str) -> Option<Block> {
+    let revisions = revisions_of(alloc, steps)?;
+    let info = info_of(alloc, steps, said)?;
+    let header = header_of(alloc, steps, revisions.len())?;
+    seal(alloc, previous, header, info, revisions).ok()
+}
+
+/// The first block of the strand, of these steps. It said what the rows say.
+pub fn first_block(alloc: Global, steps: &str, said: &str) -> Option<Block> {
+    let previous = strand_hash(alloc, STRAND).ok()?;
+    block(alloc, previous, steps, said)
+}
+
+/// Puts the line of the block behind the lines, and tells the block's hash.
+fn put_block(alloc: Global, lines: &mut Text, block: &Block) -> Option<Hash32> {
+    let text = line(alloc, block).ok()?;
+    lines.push_str(text.as_str()).ok()?;
+    Some(block.hash)
+}
+
+fn put_line(alloc: Global, lines: &mut Text, previous: Hash32, steps: &str) -> Option<Hash32> {
+    let block = block(alloc, previous, steps, "")?;
+    put_block(alloc, lines, &block)
+}
+
+/// The journal of blocks of these steps, a block a line.
+pub fn journal_of(alloc: Global, blocks: &str) -> Option<Text> {
     let mut lines = Text::new(alloc);
-    let hash = put_line(alloc, &mut lines, previous, FIRST)?;
-    Ok((lines, hash))
-}
-
-/// The first two lines, and the second block's hash.
-pub fn beginning(alloc: Global) -> Result<(Text, Hash32), Fail> {
-    let (mut lines, hash) = first(alloc)?;
-    let hash = put_line(alloc, &mut lines, hash, SECOND)?;
-    Ok((lines, hash))
-}
-
-/// The line of the last block behind the block of this hash.
-pub fn last_line(alloc: Global, previous: Hash32, steps: &str) -> Result<Text, Fail> {
-    let mut lines = Text::new(alloc);
-    put_line(alloc, &mut lines, previous, [THIRD, steps])?;
-    Ok(lines)
+    let mut hash = strand_hash(alloc, STRAND).ok()?;
+    for steps in blocks.lines() {
+        hash = put_line(alloc, &mut lines, hash, steps)?;
+    }
+    Some(lines)
 }
 
 /// The journal whose last block is that of these steps.
-pub fn journal(alloc: Global, steps: &str) -> Result<Text, Fail> {
-    let (mut lines, hash) = beginning(alloc)?;
-    put_line(alloc, &mut lines, hash, [THIRD, steps])?;
-    Ok(lines)
+pub fn journal(alloc: Global, steps: &str) -> Option<Text> {
+    let blocks = format!(in alloc; "{FIRST}\n{SECOND}\n{THIRD}, {steps}").ok()?;
+    journal_of(alloc, blocks.as_str())
+}
+
+/// The lines of a journal in front of its last one, and the last one, each without its line feed.
+pub fn last_line(journal: &str) -> Option<(&str, &str)> {
+    journal.trim_end().rsplit_once('\n')
 }

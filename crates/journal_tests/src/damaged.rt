@@ -1,11 +1,10 @@
 //! Journals whose last line fails one of the checks on its form, its place, its transaction, its time and its hashes.
-use crate::building::{RIGHT, THIRD, ZEROS, beginning, block, first, journal, last_line};
-use journal_text::{JournalFault, line, read_journal};
-use ledger_model::{Block, Damage};
+use crate::building::{FIRST, RIGHT, THIRD, journal, journal_of, last_line};
+use crate::states::CONDITIONS;
+use journal_text::{JournalFault, read_journal};
+use ledger_model::Damage;
 use lists::Text;
-use ql_types::{Hash, Hash32};
 use std::alloc::Global;
-use std::test::Fail;
 
 fn name(damage: Damage) -> &'static str {
     match damage {
@@ -28,25 +27,18 @@ fn told(alloc: Global, text: &str) -> &'static str {
     }
 }
 
-/// Whether this is told of the journal with a text behind its first two lines.
-fn is_told(alloc: Global, last: &str, wanted: &str) -> Result<bool, Fail> {
-    let (mut lines, _) = beginning(alloc)?;
-    lines.push_str(last)?;
-    Ok(told(alloc, lines.as_str()) == wanted)
-}
-
 /// Whether a row's steps have its end. A row that begins with `#` is a comment.
-pub fn row_is_told(alloc: Global, row: &str) -> Result<bool, Fail> {
+fn row_is_told(alloc: Global, row: &str) -> Option<bool> {
     if row.starts_with('#') {
-        return Ok(true);
+        return Some(true);
     }
-    let (steps, wanted) = row.split_once(" > ").ok_or("no row")?;
+    let (steps, wanted) = row.split_once(" > ")?;
     let text = journal(alloc, steps)?;
-    Ok(told(alloc, text.as_str()) == wanted)
+    Some(told(alloc, text.as_str()) == wanted)
 }
 
 /// What the last transaction does, and what is told of the journal.
-const ROWS: &str = "# documents fit the revisions
+const CHECKS: &str = "# documents fit the revisions
 create w 31, index b 11, put {a:5} 31 32 0, put {a:6} 11 13 2, put - 11 21 1, table 11 > read
 create w 31, index b 11, put {a:5} 31 32 0, put {a:6} 11 13 2, put - 11 21 1, forget table > NotALine
 # an address is the place in the strand
@@ -74,150 +66,186 @@ tx 20, second 19, drop x 11 > WrongId
 second 19, drop x 11 > TimeFell";
 
 #[test]
-fn each_check_is_made(rt: HostRuntime) -> Result<(), Fail> {
-    let alloc = rt.alloc();
-    for row in ROWS.lines() {
-        assert!(rt; row_is_told(alloc, row)?, "{row}");
+fn each_check_is_made(rt: HostRuntime) {
+    for rows in [CHECKS, CONDITIONS] {
+        for row in rows.lines() {
+            assert!(rt; row_is_told(rt.alloc(), row) == Some(true), "{row}");
+        }
     }
-    Ok(())
 }
 
-/// The second block's hash.
-fn second_hash(alloc: Global) -> Result<Hash32, Fail> {
-    let (_, hash) = beginning(alloc)?;
-    Ok(hash)
-}
-
-/// The last line, with nothing wrong.
-fn right_line(alloc: Global) -> Result<Text, Fail> {
-    last_line(alloc, second_hash(alloc)?, RIGHT)
+/// The journal with another last line, without its line feed.
+fn with_last(alloc: Global, front: &str, last: &str) -> Option<String> {
+    format!(in alloc; "{front}\n{last}\n").ok()
 }
 
 /// A line in which the first place of a text is changed to another one.
-fn changed(alloc: Global, line: &str, old: &str, new: &str) -> Result<Text, Fail> {
-    let (front, back) = line.split_once(old).ok_or("no such text")?;
-    let mut text = Text::from_text(alloc, front)?;
-    text.push_str(new)?;
-    text.push_str(back)?;
-    Ok(text)
+fn changed(alloc: Global, line: &str, change: &str) -> Option<String> {
+    let (old, new) = change.split_once('>')?;
+    let (front, back) = line.split_once(old)?;
+    format!(in alloc; "{front}{new}{back}").ok()
 }
 
-/// Whether the journal with the row's change of its last line has no block there.
-fn is_no_line(alloc: Global, line: &str, row: &str) -> Result<bool, Fail> {
-    let (old, new) = row.split_once('>').ok_or("no row")?;
-    let text = changed(alloc, line, old, new)?;
-    is_told(alloc, text.as_str(), "NotALine")
+const ZEROS: &str = "AAAAAAAAAAAAAAAAAAAAAAAAAAAAAAAAAAAAAAAAAAA=";
+
+fn with_another_digit(alloc: Global, hash: &str) -> Option<String> {
+    let mut digits = hash.chars();
+    let digit = another_digit(digits.next()?);
+    let rest = digits.as_str();
+    format!(in alloc; "{digit}{rest}").ok()
 }
 
-/// What stands in the last line, and what it is changed to.
-const OTHER_FORMS: &str = "{blockAddress> {blockAddress
-sequenceNo:2>sequenceNo: 2
-sequenceNo:2>sequenceNo:0x2
-sequenceNo:2>sequenceNo:-2
-sequenceNo:2>sequenceNo:18446744073709551616
-sequenceNo:2>sequenceNo:2,a:1
-sequenceNo:2>sequenceNo:2d0
-blockTimestamp>blockTime
-{blockAddress>a::{blockAddress
-{blockAddress>5 {blockAddress
-strandId:\"0>strandId:\"
-strandId:\"0>strandId:\"00
-strandId:\"0>strandId:\"z
-session:1>session:4294967296
-session:1>transaction:1
-version:2>version:18446744073709551616
-version:2>version:-1
-revisions:[>revisions:[5,
-data:{a:5},>data:{a:5},data:{a:5},
-documents:[{documentId:\"0>documents:[{documentId:\"1
-documents:[{documentId>documents:[{documentID
-create:\"w\">create:w
-statements:[]>statements:[5]
-txTime:2020-01-01T00:00:30.000Z>txTime:\"2020-01-01T00:00:30.000Z\"
-hash:{{>hash:{{AAAA
-data:{a:5}>data:[[[[[[[[[[[[[[[[[[[[[[[[[[[[[[[[[[[[[[[[[[[[[[[[[[[[[[[[[[[[[[[[[]]]]]]]]]]]]]]]]]]]]]]]]]]]]]]]]]]]]]]]]]]]]]]]]]]]]]]]]]]]]]]]]]";
-
-#[test]
-fn another_form_is_no_line(rt: HostRuntime) -> Result<(), Fail> {
-    let alloc = rt.alloc();
-    let line = right_line(alloc)?;
-    for row in OTHER_FORMS.lines() {
-        assert!(rt; is_no_line(alloc, line.as_str(), row)?, "{row}");
+fn another_digit(digit: char) -> &'static str {
+    if digit == 'A' {
+        return "B";
     }
-    Ok(())
+    "A"
 }
 
-#[test]
-fn other_lines_are_no_lines(rt: HostRuntime) -> Result<(), Fail> {
-    let alloc = rt.alloc();
-    for other in ["\n", "5\n", "{}\n", "[\n", "\"\n"] {
-        assert!(rt; is_told(alloc, other, "NotALine")?, "{other}");
-    }
-    Ok(())
-}
-
-#[test]
-fn the_previous_hash_is_the_last_block_s(rt: HostRuntime) -> Result<(), Fail> {
-    let alloc = rt.alloc();
-    let (_, hash) = first(alloc)?;
-    let other = last_line(alloc, hash, RIGHT)?;
-    assert!(rt; is_told(alloc, other.as_str(), "WrongPrevious")?);
-    Ok(())
-}
-
-/// Makes one of the block's hashes wrong.
-fn alter(block: &mut Block, what: &str) -> Result<(), Fail> {
+/// What takes the place of a hash.
+fn another_hash(alloc: Global, what: &str, hash: &str) -> Option<String> {
     match what {
-        "block" => block.hash = ZEROS,
-        "a digit" => block.hash.bytes[0] ^= 4,
-        "entries" => block.entries = ZEROS,
-        "info" => block.list[0] = Hash::Full(ZEROS),
-        "revisions" => block.list[1] = Hash::Full(ZEROS),
-        "no revisions" => block.list[1] = Hash::Empty,
-        "header" => block.list[2] = Hash::Full(ZEROS),
-        _ => return Err("no such hash".into()),
+        "zeros" => String::from_str(alloc, ZEROS).ok(),
+        "nothing" => Some(String::new(alloc)),
+        _ => with_another_digit(alloc, hash),
     }
-    Ok(())
 }
 
-/// The last line where one of its hashes is wrong.
-fn altered(alloc: Global, what: &str) -> Result<Text, Fail> {
-    let hash = second_hash(alloc)?;
-    let mut block = block(alloc, hash, [THIRD, RIGHT])?;
-    alter(&mut block, what)?;
-    Ok(line(alloc, &block)?)
-}
-
-/// A journal in whose last line one digit of the block's hash is wrong.
-pub fn journal_with_a_wrong_digit(alloc: Global) -> Result<Text, Fail> {
-    let (mut lines, _) = beginning(alloc)?;
-    let last = altered(alloc, "a digit")?;
-    lines.push_str(last.as_str())?;
-    Ok(lines)
-}
-
-#[test]
-fn each_hash_is_the_computed_one(rt: HostRuntime) -> Result<(), Fail> {
-    let alloc = rt.alloc();
-    for what in "block/a digit/entries/info/revisions/no revisions/header".split('/') {
-        let text = altered(alloc, what)?;
-        assert!(rt; is_told(alloc, text.as_str(), "WrongHash")?, "{what}");
+/// What stands behind these marks, each of which stands behind the one before.
+fn behind<'a>(line: &'a str, marks: &str) -> Option<&'a str> {
+    let mut rest = line;
+    for mark in marks.split(' ') {
+        let (_, after) = rest.split_once(mark)?;
+        rest = after;
     }
-    Ok(())
+    Some(rest)
 }
 
-#[test]
-fn an_earlier_line_is_told_first(rt: HostRuntime) -> Result<(), Fail> {
-    let alloc = rt.alloc();
+/// A line in which the hash behind marks is another one.
+fn altered(alloc: Global, line: &str, change: &str) -> Option<String> {
+    let (what, marks) = change.split_once(' ')?;
+    let rest = behind(line, marks)?;
+    let front = line.strip_suffix(rest)?;
+    let (hash, back) = rest.split_once("}}")?;
+    let hash = another_hash(alloc, what, hash)?;
+    format!(in alloc; "{front}{hash}}}}}{back}").ok()
+}
+
+/// What takes the place of the last line of the journal with nothing wrong: the line with a change, with another hash behind
+/// marks, or another line.
+const LAST_LINES: &str = "form {blockAddress> {blockAddress
+form sequenceNo:2>sequenceNo: 2
+form sequenceNo:2>sequenceNo:0x2
+form sequenceNo:2>sequenceNo:-2
+form sequenceNo:2>sequenceNo:18446744073709551616
+form sequenceNo:2>sequenceNo:2,a:1
+form sequenceNo:2>sequenceNo:2d0
+form blockTimestamp>blockTime
+form {blockAddress>a::{blockAddress
+form {blockAddress>5 {blockAddress
+form strandId:\"0>strandId:\"
+form strandId:\"0>strandId:\"00
+form strandId:\"0>strandId:\"z
+form session:1>session:4294967296
+form session:1>transaction:1
+form version:2>version:18446744073709551616
+form version:2>version:-1
+form revisions:[>revisions:[5,
+form data:{a:5},>data:{a:5},data:{a:5},
+form documents:[{documentId:\"0>documents:[{documentId:\"1
+form documents:[{documentId>documents:[{documentID
+form create:\"w\">create:w
+form statements:[]>statements:[5]
+form txTime:2020-01-01T00:00:30.000Z>txTime:\"2020-01-01T00:00:30.000Z\"
+form hash:{{>hash:{{AAAA
+form data:{a:5}>data:[[[[[[[[[[[[[[[[[[[[[[[[[[[[[[[[[[[[[[[[[[[[[[[[[[[[[[[[[[[[[[[[[]]]]]]]]]]]]]]]]]]]]]]]]]]]]]]]]]]]]]]]]]]]]]]]]]]]]]]]]]]]]]]]]]
+line 
+line 5
+line {}
+line [
+line \"
+hash zeros blockHash:{{
+hash digit blockHash:{{
+hash zeros entriesHash:{{
+hash zeros entriesHashList:[{{
+hash zeros entriesHashList:[{{ }},{{
+hash nothing entriesHashList:[{{ }},{{
+hash zeros entriesHashList:[{{ }},{{ }},{{";
+
+fn another_line(alloc: Global, line: &str, row: &str) -> Option<String> {
+    let (sort, change) = row.split_once(' ')?;
+    match sort {
+        "form" => changed(alloc, line, change),
+        "hash" => altered(alloc, line, change),
+        _ => String::from_str(alloc, change).ok(),
+    }
+}
+
+/// Whether a row's line has no block, or one of a wrong hash.
+fn is_refused(alloc: Global, row: &str) -> Option<bool> {
     let text = journal(alloc, RIGHT)?;
-    let mut twice = Text::from_text(alloc, text.as_str())?;
-    twice.push_str(text.as_str())?;
-    let told = read_journal(alloc, twice.as_str().as_bytes()).err();
-    assert!(rt;
-        told == Some(JournalFault::Damaged {
-            sequence: 3,
-            kind: Damage::WrongAddress
-        })
-    );
-    Ok(())
+    let (front, last) = last_line(text.as_str())?;
+    let last = another_line(alloc, last, row)?;
+    is_told_of(alloc, front, last.as_str(), wanted_of(row))
+}
+
+fn wanted_of(row: &str) -> &'static str {
+    if row.starts_with("hash ") {
+        return "WrongHash";
+    }
+    "NotALine"
+}
+
+/// Whether this is told of the journal with another last line.
+fn is_told_of(alloc: Global, front: &str, last: &str, wanted: &str) -> Option<bool> {
+    let text = with_last(alloc, front, last)?;
+    Some(told(alloc, text.as_str()) == wanted)
+}
+
+#[test]
+fn another_last_line_is_refused(rt: HostRuntime) {
+    for row in LAST_LINES.lines() {
+        assert!(rt; is_refused(rt.alloc(), row) == Some(true), "{row}");
+    }
+}
+
+/// The journal in whose last line one digit of the block's hash is wrong.
+pub fn journal_with_a_wrong_digit(alloc: Global) -> Option<String> {
+    let text = journal(alloc, RIGHT)?;
+    let (front, last) = last_line(text.as_str())?;
+    let last = altered(alloc, last, "digit blockHash:{{")?;
+    with_last(alloc, front, last.as_str())
+}
+
+/// The journal of the first block and the last one right behind it.
+fn without_the_second(alloc: Global) -> Option<Text> {
+    let blocks = format!(in alloc; "{FIRST}\n{THIRD}, {RIGHT}").ok()?;
+    journal_of(alloc, blocks.as_str())
+}
+
+/// Whether the previous hash has to be that of the last block.
+fn is_previous_told(alloc: Global) -> Option<bool> {
+    let other = without_the_second(alloc)?;
+    let (_, last) = last_line(other.as_str())?;
+    let text = journal(alloc, RIGHT)?;
+    let (front, _) = last_line(text.as_str())?;
+    is_told_of(alloc, front, last, "WrongPrevious")
+}
+
+/// Whether the first line of a journal is told behind a journal.
+fn is_first_told(alloc: Global) -> Option<bool> {
+    let text = journal(alloc, RIGHT)?;
+    let text = text.as_str();
+    let twice = format!(in alloc; "{text}{text}").ok()?;
+    let fault = JournalFault::Damaged {
+        sequence: 3,
+        kind: Damage::WrongAddress,
+    };
+    Some(read_journal(alloc, twice.as_str().as_bytes()).err() == Some(fault))
+}
+
+#[test]
+fn lines_of_other_places_are_refused(rt: HostRuntime) {
+    assert!(rt; is_previous_told(rt.alloc()) == Some(true));
+    assert!(rt; is_first_told(rt.alloc()) == Some(true));
 }

@@ -4,9 +4,7 @@ ghost use Rattle.std.specs.Prelude.{◌<◌};
 use crate::building::{RIGHT, journal};
 use crate::damaged::journal_with_a_wrong_digit;
 use journal_text::{JournalFault, JournalReader, read_journal};
-use lists::Text;
 use std::alloc::Global;
-use std::test::Fail;
 
 /// How many blocks the bytes hold and the offset of the rest, where they are read at once.
 fn read(alloc: Global, bytes: &[u8]) -> Result<(u64, u64), JournalFault> {
@@ -32,32 +30,37 @@ fn is_fed_alike(alloc: Global, bytes: &[u8]) -> bool {
     fed(alloc, bytes, 1) == wanted && fed(alloc, bytes, 7) == wanted
 }
 
-/// Whether the journal is fed alike where it is whole, cut in its last line and cut in front of its last line feed.
-fn is_cut_alike(alloc: Global, bytes: &[u8]) -> bool {
-    [0, 1, 30].iter().all(|less| {
-        let end = bytes.len().saturating_sub(*less);
-        let (front, _) = bytes.split_at(end);
-        is_fed_alike(alloc, front)
-    })
+/// A last transaction whose text has characters of two and three bytes.
+const CHARACTERS: &str = "create w 31, put {a:\"\u{df}\u{6771}\"} 31 32 0";
+
+/// Whether the journal of these last steps is fed alike where so many bytes are cut off.
+fn is_cut_alike(alloc: Global, steps: &str, less: usize) -> Option<bool> {
+    let text = journal(alloc, steps)?;
+    let bytes = text.as_str().as_bytes();
+    let end = bytes.len().saturating_sub(less);
+    Some(is_fed_alike(alloc, bytes.get(..end)?))
 }
 
-#[test]
-fn pieces_give_what_the_whole_gives(rt: HostRuntime) -> Result<(), Fail> {
-    let alloc = rt.alloc();
+fn is_digit_fed_alike(alloc: Global) -> Option<bool> {
+    let text = journal_with_a_wrong_digit(alloc)?;
+    Some(is_fed_alike(alloc, text.as_str().as_bytes()))
+}
+
+fn is_space_fed_alike(alloc: Global) -> Option<bool> {
     let text = journal(alloc, RIGHT)?;
-    assert!(rt; is_cut_alike(alloc, text.as_str().as_bytes()));
-    let digit = journal_with_a_wrong_digit(alloc)?;
-    assert!(rt; is_fed_alike(alloc, digit.as_str().as_bytes()));
-    let mut spaced = Text::from_text(alloc, text.as_str().trim_end())?;
-    spaced.push_str(" \n")?;
-    assert!(rt; is_fed_alike(alloc, spaced.as_str().as_bytes()));
-    Ok(())
+    let lines = text.as_str().trim_end();
+    let spaced = format!(in alloc; "{lines} \n").ok()?;
+    Some(is_fed_alike(alloc, spaced.as_str().as_bytes()))
 }
 
 #[test]
-fn a_piece_may_end_in_a_character(rt: HostRuntime) -> Result<(), Fail> {
-    let alloc = rt.alloc();
-    let text = journal(alloc, "create w 31, put {a:\"\u{df}\u{6771}\"} 31 32 0")?;
-    assert!(rt; is_cut_alike(alloc, text.as_str().as_bytes()));
-    Ok(())
+fn pieces_give_what_the_whole_gives(rt: HostRuntime) {
+    for steps in [RIGHT, CHARACTERS] {
+        for less in [0, 1, 30] {
+            let is_alike = is_cut_alike(rt.alloc(), steps, less);
+            assert!(rt; is_alike == Some(true), "{steps} {less}");
+        }
+    }
+    assert!(rt; is_digit_fed_alike(rt.alloc()) == Some(true));
+    assert!(rt; is_space_fed_alike(rt.alloc()) == Some(true));
 }

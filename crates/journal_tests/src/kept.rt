@@ -1,69 +1,35 @@
 //! Blocks as they are kept.
-use ion_values::{IonTime, Precision, TimeParts};
-use ledger_model::{Block, Blocks, Header, Info, Told};
-use lists::Sequence;
-use ql_types::{BlockAddress, Hash, Hash32, Place, StrandId, TxId};
+use crate::building::first_block;
+use ledger_model::Blocks;
 use std::alloc::Global;
-use std::test::Fail;
 
-fn year() -> Result<IonTime, Fail> {
-    let parts = TimeParts {
-        precision: Precision::Year,
-        year: 2020,
-        month: 1,
-        day: 1,
-        hour: 0,
-        minute: 0,
-        second: 0,
-        digits: 0,
-        nanos: 0,
-        offset: None,
-    };
-    IonTime::new(parts).map_err(|_| Fail::from("no time"))
+/// Blocks of the numbers 0 and 1.
+fn blocks(alloc: Global) -> Option<Blocks> {
+    let mut blocks = Blocks::new(alloc);
+    blocks.make_room().ok()?;
+    for steps in ["sequence 0", "sequence 1"] {
+        blocks.push(first_block(alloc, steps, "")?).ok()?;
+    }
+    Some(blocks)
 }
 
-/// A block with this number that says nothing.
-fn block(alloc: Global, number: u64) -> Result<Block, Fail> {
-    let hash = Hash32 { bytes: [0; 32] };
-    Ok(Block {
-        header: Header {
-            address: BlockAddress {
-                strand: StrandId { raw: 0 },
-                sequence: number,
-            },
-            tx: TxId { raw: 1 },
-            time: year()?,
-            revisions: 0,
-        },
-        hash,
-        entries: hash,
-        previous: hash,
-        list: [Hash::Empty, Hash::Empty, Hash::Empty],
-        info: Info {
-            place: Place {
-                session: 1,
-                transaction: 1,
-            },
-            said: Told::Said(Sequence::new(alloc)),
-            schema: Sequence::new(alloc),
-            tables: Sequence::new(alloc),
-        },
-        revisions: Sequence::new(alloc),
-    })
+fn number(blocks: &Blocks, at: u64) -> Option<u64> {
+    Some(blocks.get(at)?.header.address.sequence)
+}
+
+fn are_kept_in_order(blocks: &Blocks) -> bool {
+    blocks.len() == 2
+        && blocks.as_slice().len() == 2
+        && number(blocks, 1) == Some(1)
+        && number(blocks, 2).is_none()
+}
+
+fn are_kept(alloc: Global) -> Option<bool> {
+    let blocks = blocks(alloc)?;
+    Some(are_kept_in_order(&blocks))
 }
 
 #[test]
-fn blocks_are_kept_in_order(rt: HostRuntime) -> Result<(), Fail> {
-    let alloc = rt.alloc();
-    let mut blocks = Blocks::new(alloc);
-    blocks.make_room()?;
-    blocks.push(block(alloc, 0)?)?;
-    blocks.push(block(alloc, 1)?)?;
-    assert_eq!(rt; blocks.len(), 2);
-    assert_eq!(rt; blocks.as_slice().len(), 2);
-    let number = blocks.get(1).map(|block| block.header.address.sequence);
-    assert_eq!(rt; number, Some(1));
-    let past = blocks.get(2).map(|block| block.header.address.sequence);
-    assert_eq!(rt; past, None);
-    Ok(())
+fn blocks_are_kept_in_order(rt: HostRuntime) {
+    assert!(rt; are_kept(rt.alloc()) == Some(true));
 }

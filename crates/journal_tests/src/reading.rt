@@ -1,53 +1,40 @@
 //! Journals that are read, whole and cut.
-use crate::building::{RIGHT, beginning, journal};
+use crate::building::{RIGHT, journal, last_line};
 use journal_text::read_journal;
 use std::alloc::Global;
-use std::test::Fail;
 
-/// How many blocks the bytes hold, and the offset of the rest.
-fn read(alloc: Global, bytes: &[u8]) -> Result<(u64, u64), Fail> {
+/// Whether the bytes are read as so many blocks and a rest behind so many bytes.
+fn is_read(alloc: Global, bytes: &[u8], count: u64, whole: usize) -> bool {
     match read_journal(alloc, bytes) {
-        Ok((blocks, rest)) => Ok((blocks.len(), rest)),
-        Err(_) => Err("the journal is damaged".into()),
+        Ok((blocks, end)) => blocks.len() == count && end == whole as u64,
+        Err(_) => false,
     }
 }
 
-#[test]
-fn an_empty_journal_has_no_blocks(rt: HostRuntime) -> Result<(), Fail> {
-    assert_eq!(rt; read(rt.alloc(), b"")?, (0, 0));
-    Ok(())
-}
-
-#[test]
-fn three_lines_are_three_blocks(rt: HostRuntime) -> Result<(), Fail> {
-    let alloc = rt.alloc();
+fn are_three_read(alloc: Global) -> Option<bool> {
     let text = journal(alloc, RIGHT)?;
     let bytes = text.as_str().as_bytes();
-    assert_eq!(rt; read(alloc, bytes)?, (3, bytes.len() as u64));
-    Ok(())
+    Some(is_read(alloc, bytes, 3, bytes.len()))
 }
 
-/// How many bytes the first two lines have.
-fn whole(alloc: Global) -> Result<usize, Fail> {
-    let (two, _) = beginning(alloc)?;
-    Ok(two.len())
+/// Whether the journal is read as two blocks and a rest where it is cut behind so many bytes of its last line, or in front of
+/// its last line feed where there are less.
+fn is_cut_read(alloc: Global, more: usize) -> Option<bool> {
+    let text = journal(alloc, RIGHT)?;
+    let (front, _) = last_line(text.as_str())?;
+    let whole = front.len().saturating_add(1);
+    let bytes = text.as_str().as_bytes();
+    let end = whole
+        .saturating_add(more)
+        .min(bytes.len().saturating_sub(1));
+    Some(is_read(alloc, bytes.get(..end)?, 2, whole))
 }
 
 #[test]
-fn a_line_without_its_end_is_a_rest(rt: HostRuntime) -> Result<(), Fail> {
-    let alloc = rt.alloc();
-    let whole = whole(alloc)?;
-    let text = journal(alloc, RIGHT)?;
-    let bytes = text.as_str().as_bytes();
-    let last = bytes.len().saturating_sub(1);
-    for cut in [
-        whole,
-        whole.saturating_add(1),
-        whole.saturating_add(100),
-        last,
-    ] {
-        let cut = bytes.get(..cut).ok_or("no such place")?;
-        assert_eq!(rt; read(alloc, cut)?, (2, whole as u64));
+fn whole_lines_are_blocks(rt: HostRuntime) {
+    assert!(rt; is_read(rt.alloc(), b"", 0, 0));
+    assert!(rt; are_three_read(rt.alloc()) == Some(true));
+    for more in [0, 1, 100, usize::MAX] {
+        assert!(rt; is_cut_read(rt.alloc(), more) == Some(true), "{more}");
     }
-    Ok(())
 }

@@ -1,219 +1,159 @@
+//! Scripts that values spell, and why others spell none.
 use ion_text::read_stream;
-use ledger_model::Script;
-use script_form::{ScriptAnswer, ScriptKind, read_script};
+use ledger_model::{Job, Request, Script};
+use script_form::{ScriptAnswer, read_script};
 use std::alloc::Global;
-use std::test::Fail;
 
 /// What the values of a text are read as.
-fn read(alloc: Global, text: &str) -> Result<Result<Script, ScriptAnswer>, Fail> {
+fn read(alloc: Global, text: &str) -> Option<Result<Script, ScriptAnswer>> {
     if text.len() > 100_000 {
-        return Err(Fail::from("the text is long"));
+        return None;
     }
     match read_stream(alloc, text.as_bytes(), 80) {
-        Ok(values) => Ok(read_script(alloc, values)),
-        Err(_) => Err(Fail::from("the text is no Ion")),
+        Ok(values) => Some(read_script(alloc, values)),
+        Err(_) => None,
     }
 }
 
-/// The retries, the end and the digest of each transaction, and its statements' texts and numbers of parameters.
-fn shown(alloc: Global, script: &Script) -> Result<String, Fail> {
+fn put_request(alloc: Global, out: &mut String, asked: &Request) -> Option<()> {
+    let count = asked.params.len();
+    let text = asked.text.as_str();
+    let said = format!(in alloc; " {count} {text}").ok()?;
+    out.push_str(said.as_str()).ok()
+}
+
+fn put_head(alloc: Global, out: &mut String, job: &Job) -> Option<()> {
+    let retries = job.retries;
+    let abort = job.abort;
+    let digest = job.digest.is_some();
+    let said = format!(in alloc; "({retries} {abort} {digest}").ok()?;
+    out.push_str(said.as_str()).ok()
+}
+
+fn put_job(alloc: Global, out: &mut String, job: &Job) -> Option<()> {
+    put_head(alloc, out, job)?;
+    for asked in job.statements.as_slice() {
+        put_request(alloc, out, asked)?;
+    }
+    out.push_str(")").ok()
+}
+
+/// The retries, the end and the digest of each transaction, and its statements' numbers of parameters and texts.
+fn shown(alloc: Global, script: &Script) -> Option<String> {
     let mut out = String::new(alloc);
     for session in script.as_slice() {
-        out.push_str("/")?;
+        out.push_str("/").ok()?;
         for job in session.as_slice() {
-            let abort = job.abort;
-            let retries = job.retries;
-            let digest = job.digest.is_some();
-            let said = format!(in alloc; "({retries} {abort} {digest}")?;
-            out.push_str(said.as_str())?;
-            for asked in job.statements.as_slice() {
-                let count = asked.params.len();
-                let params = format!(in alloc; " {count} ")?;
-                out.push_str(params.as_str())?;
-                out.push_str(asked.text.as_str())?;
-            }
-            out.push_str(")")?;
+            put_job(alloc, &mut out, job)?;
         }
     }
-    Ok(out)
+    Some(out)
 }
 
-#[test]
-fn scripts_are_read(rt: HostRuntime) -> Result<(), Fail> {
-    let alloc = rt.alloc();
-    for (text, said) in [
-        ("", ""),
-        ("[] []", "//"),
-        ("[{statements:[]}]", "/(4 false false)"),
-        (
-            "[{statements:[\"a\",{params:[1,{b:2}],text:\"c\"},{text:\"d\",params:[]}]},{end:abort,statements:[],retries:0}]",
-            "/(4 false false 0 a 2 c 0 d)(0 true false)",
-        ),
-        (
-            "[] [{digest:{{AAAAAAAAAAAAAAAAAAAAAAAAAAAAAAAAAAAAAAAAAAA=}},end:commit,retries:100,statements:[\"a\"]}]",
-            "//(100 false true 0 a)",
-        ),
-    ] {
-        match read(alloc, text)? {
-            Ok(script) => assert_eq!(rt; shown(alloc, &script)?.as_str(), said, "{text}"),
-            Err(_) => return Err(Fail::from("a script is refused")),
-        }
+fn fault_of(alloc: Global, answer: ScriptAnswer) -> Option<String> {
+    match answer {
+        ScriptAnswer::Fault {
+            session,
+            transaction,
+            kind,
+        } => format!(in alloc; "{kind:?} at {session}, {transaction}").ok(),
+        ScriptAnswer::OutOfMemory => None,
     }
-    Ok(())
 }
 
-/// The text is no script, with this fault.
-fn check_fault(
-    rt: &impl std::process::Abort,
-    alloc: Global,
-    text: &str,
-    place: (u32, u32),
-    kind: ScriptKind,
-) -> Result<(), Fail> {
-    let (session, transaction) = place;
-    let fault = ScriptAnswer::Fault {
-        session,
-        transaction,
-        kind,
-    };
+/// The script, or the first fault with its session and its transaction.
+fn told(alloc: Global, text: &str) -> Option<String> {
     match read(alloc, text)? {
-        Ok(_) => Err(Fail::from("a text is read that is no script")),
-        Err(answer) => {
-            assert_eq!(rt; answer, fault, "{text}");
-            Ok(())
+        Ok(script) => shown(alloc, &script),
+        Err(answer) => fault_of(alloc, answer),
+    }
+}
+
+/// Whether a row's text tells what the row says, behind so many empty sessions.
+fn row_is_told(alloc: Global, empty: usize, row: &str) -> Option<bool> {
+    let (text, wanted) = row.split_once(" => ")?;
+    let text = repeated(alloc, "[]", empty, text)?;
+    Some(told(alloc, text.as_str())?.as_str() == wanted)
+}
+
+/// A part so many times, and a text behind it.
+fn repeated(alloc: Global, part: &str, count: usize, text: &str) -> Option<String> {
+    let mut out = String::new(alloc);
+    for _ in 0..count {
+        out.push_str(part).ok()?;
+    }
+    out.push_str(text).ok()?;
+    Some(out)
+}
+
+const SCRIPTS: &str = " => 
+[] [] => //
+[{statements:[]}] => /(4 false false)
+[{statements:[\"a\",{params:[1,{b:2}],text:\"c\"},{text:\"d\",params:[]}]},{end:abort,statements:[],retries:0}] => /(4 false false 0 a 2 c 0 d)(0 true false)
+[] [{digest:{{AAAAAAAAAAAAAAAAAAAAAAAAAAAAAAAAAAAAAAAAAAA=}},end:commit,retries:100,statements:[\"a\"]}] => //(100 false true 0 a)";
+
+const FAULTS: &str = "5 => NotASession at 1, 0
+[] a::[] => NotASession at 2, 0
+([]) => NotASession at 1, 0
+[5] => NotATransaction at 1, 1
+[null.struct] => NotATransaction at 1, 1
+[{statements:[]},a::{statements:[]}] => NotATransaction at 1, 2
+[{statements:[],statements:[]}] => RepeatedField at 1, 1
+[{a:1,statements:[],b:2,a:3}] => RepeatedField at 1, 1
+[{statements:[],retry:1}] => UnknownField at 1, 1
+[{}] => MissingField at 1, 1
+[{end:abort}] => MissingField at 1, 1
+[{statements:5}] => NotAStatement at 1, 1
+[{statements:a::[]}] => NotAStatement at 1, 1
+[{statements:(a)}] => NotAStatement at 1, 1
+[{statements:[a]}] => NotAStatement at 1, 1
+[{statements:[a::\"b\"]}] => NotAStatement at 1, 1
+[{statements:[{text:\"a\"}]}] => NotAStatement at 1, 1
+[{statements:[{text:\"a\",params:()}]}] => NotAStatement at 1, 1
+[{statements:[{text:a,params:[]}]}] => NotAStatement at 1, 1
+[{statements:[{text:\"a\",params:[],b:1}]}] => NotAStatement at 1, 1
+[{statements:[],retries:101}] => BadRetries at 1, 1
+[{statements:[],retries:-1}] => BadRetries at 1, 1
+[{statements:[],retries:4d0}] => BadRetries at 1, 1
+[{statements:[],retries:null.int}] => BadRetries at 1, 1
+[{statements:[],digest:{{AAAA}}}] => BadDigest at 1, 1
+[{statements:[],digest:{{\"aaaaaaaaaaaaaaaaaaaaaaaaaaaaaaaa\"}}}] => BadDigest at 1, 1
+[{statements:[],end:\"commit\"}] => BadEnd at 1, 1
+[{statements:[],end:Abort}] => BadEnd at 1, 1";
+
+const FIRST_OF_TWO: &str = "[{statements:[]},5] 5 => NotATransaction at 1, 2
+5 [5] => NotASession at 1, 0
+[{x:1,x:2,y:3}] => RepeatedField at 1, 1
+[{end:1,x:2}] => UnknownField at 1, 1
+[{end:1,retries:101}] => MissingField at 1, 1
+[{retries:101,statements:5}] => NotAStatement at 1, 1
+[{end:1,digest:1,retries:101,statements:[]}] => BadRetries at 1, 1
+[{end:1,digest:1,statements:[]}] => BadDigest at 1, 1";
+
+#[test]
+fn scripts_and_their_faults_are_told(rt: HostRuntime) {
+    for rows in [SCRIPTS, FAULTS, FIRST_OF_TWO] {
+        for row in rows.lines() {
+            assert!(rt; row_is_told(rt.alloc(), 0, row) == Some(true), "{row}");
         }
     }
 }
 
-#[test]
-fn faults_of_scripts(rt: HostRuntime) -> Result<(), Fail> {
-    for (text, place, kind) in [
-        ("5", (1, 0), ScriptKind::NotASession),
-        ("[] a::[]", (2, 0), ScriptKind::NotASession),
-        ("([])", (1, 0), ScriptKind::NotASession),
-        ("[5]", (1, 1), ScriptKind::NotATransaction),
-        ("[null.struct]", (1, 1), ScriptKind::NotATransaction),
-        (
-            "[{statements:[]},a::{statements:[]}]",
-            (1, 2),
-            ScriptKind::NotATransaction,
-        ),
-        (
-            "[{statements:[],statements:[]}]",
-            (1, 1),
-            ScriptKind::RepeatedField,
-        ),
-        (
-            "[{a:1,statements:[],b:2,a:3}]",
-            (1, 1),
-            ScriptKind::RepeatedField,
-        ),
-        (
-            "[{statements:[],retry:1}]",
-            (1, 1),
-            ScriptKind::UnknownField,
-        ),
-        ("[{}]", (1, 1), ScriptKind::MissingField),
-        ("[{end:abort}]", (1, 1), ScriptKind::MissingField),
-        ("[{statements:5}]", (1, 1), ScriptKind::NotAStatement),
-        ("[{statements:a::[]}]", (1, 1), ScriptKind::NotAStatement),
-        ("[{statements:(a)}]", (1, 1), ScriptKind::NotAStatement),
-    ] {
-        check_fault(&rt, rt.alloc(), text, place, kind)?;
-    }
-    Ok(())
+/// Whether 1,024 empty sessions are read.
+fn are_all_read(alloc: Global) -> Option<bool> {
+    let text = repeated(alloc, "[]", 1024, "")?;
+    let told = told(alloc, text.as_str())?;
+    Some(told.as_str() == repeated(alloc, "/", 1024, "")?.as_str())
 }
 
-#[test]
-fn faults_of_fields(rt: HostRuntime) -> Result<(), Fail> {
-    for (text, kind) in [
-        ("[{statements:[a]}]", ScriptKind::NotAStatement),
-        ("[{statements:[a::\"b\"]}]", ScriptKind::NotAStatement),
-        ("[{statements:[{text:\"a\"}]}]", ScriptKind::NotAStatement),
-        (
-            "[{statements:[{text:\"a\",params:()}]}]",
-            ScriptKind::NotAStatement,
-        ),
-        (
-            "[{statements:[{text:a,params:[]}]}]",
-            ScriptKind::NotAStatement,
-        ),
-        (
-            "[{statements:[{text:\"a\",params:[],b:1}]}]",
-            ScriptKind::NotAStatement,
-        ),
-        ("[{statements:[],retries:101}]", ScriptKind::BadRetries),
-        ("[{statements:[],retries:-1}]", ScriptKind::BadRetries),
-        ("[{statements:[],retries:4d0}]", ScriptKind::BadRetries),
-        ("[{statements:[],retries:null.int}]", ScriptKind::BadRetries),
-        ("[{statements:[],digest:{{AAAA}}}]", ScriptKind::BadDigest),
-        (
-            "[{statements:[],digest:{{\"aaaaaaaaaaaaaaaaaaaaaaaaaaaaaaaa\"}}}]",
-            ScriptKind::BadDigest,
-        ),
-        ("[{statements:[],end:\"commit\"}]", ScriptKind::BadEnd),
-        ("[{statements:[],end:Abort}]", ScriptKind::BadEnd),
-    ] {
-        check_fault(&rt, rt.alloc(), text, (1, 1), kind)?;
-    }
-    Ok(())
-}
+// What stands behind 1,023 empty sessions.
+const MANY: &str = "[][] => TooManySessions at 1025, 0
+[5] 5 => NotATransaction at 1024, 1";
 
 #[test]
-fn the_first_of_two_faults(rt: HostRuntime) -> Result<(), Fail> {
-    for (text, place, kind) in [
-        ("[{statements:[]},5] 5", (1, 2), ScriptKind::NotATransaction),
-        ("5 [5]", (1, 0), ScriptKind::NotASession),
-        ("[{x:1,x:2,y:3}]", (1, 1), ScriptKind::RepeatedField),
-        ("[{end:1,x:2}]", (1, 1), ScriptKind::UnknownField),
-        ("[{end:1,retries:101}]", (1, 1), ScriptKind::MissingField),
-        (
-            "[{retries:101,statements:5}]",
-            (1, 1),
-            ScriptKind::NotAStatement,
-        ),
-        (
-            "[{end:1,digest:1,retries:101,statements:[]}]",
-            (1, 1),
-            ScriptKind::BadRetries,
-        ),
-        (
-            "[{end:1,digest:1,statements:[]}]",
-            (1, 1),
-            ScriptKind::BadDigest,
-        ),
-    ] {
-        check_fault(&rt, rt.alloc(), text, place, kind)?;
+fn at_most_1024_sessions(rt: HostRuntime) {
+    for row in MANY.lines() {
+        assert!(rt; row_is_told(rt.alloc(), 1023, row) == Some(true), "{row}");
     }
-    Ok(())
-}
-
-#[test]
-fn at_most_1024_sessions(rt: HostRuntime) -> Result<(), Fail> {
-    let alloc = rt.alloc();
-    let mut text = String::new(alloc);
-    for _ in 0..1023 {
-        text.push_str("[]")?;
-    }
-    let mut many = text.clone()?;
-    many.push_str("[][]")?;
-    check_fault(
-        &rt,
-        alloc,
-        many.as_str(),
-        (1025, 0),
-        ScriptKind::TooManySessions,
-    )?;
-    let mut faulty = text.clone()?;
-    faulty.push_str("[5] 5")?;
-    check_fault(
-        &rt,
-        alloc,
-        faulty.as_str(),
-        (1024, 1),
-        ScriptKind::NotATransaction,
-    )?;
-    text.push_str("[]")?;
-    assert!(rt; read(alloc, text.as_str())?.is_ok());
-    Ok(())
+    assert!(rt; are_all_read(rt.alloc()) == Some(true));
 }

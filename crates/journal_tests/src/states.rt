@@ -1,9 +1,7 @@
 //! Journals whose last block can't follow the blocks before it: rows for each condition.
-use crate::damaged::row_is_told;
-use std::test::Fail;
 
 /// What the last transaction does, and what is told of the journal.
-const ROWS: &str = "# a new table has a new name
+pub const CONDITIONS: &str = "# a new table has a new name
 create t 31 > WrongState
 create u 31, create u 32 > WrongState
 # a dropped table's name is free, also in the block that drops it
@@ -61,12 +59,3 @@ create u 31, put {a:6} 31 13 2 > WrongState
 # a deleted document has no next revision
 put {a:6} 11 14 2 > WrongState
 put - 11 14 2 > WrongState";
-
-#[test]
-fn each_condition_is_checked(rt: HostRuntime) -> Result<(), Fail> {
-    let alloc = rt.alloc();
-    for row in ROWS.lines() {
-        assert!(rt; row_is_told(alloc, row)?, "{row}");
-    }
-    Ok(())
-}
