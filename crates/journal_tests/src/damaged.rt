@@ -111,12 +111,17 @@ fn another_hash(alloc: Global, what: &str, hash: &str) -> Option<String> {
     }
 }
 
+/// What stands behind a mark.
+fn after(alloc: Global, text: &str, mark: &str) -> Option<String> {
+    let (_, rest) = text.split_once(mark)?;
+    String::from_str(alloc, rest).ok()
+}
+
 /// What stands behind these marks, each of which stands behind the one before.
-fn behind<'a>(line: &'a str, marks: &str) -> Option<&'a str> {
-    let mut rest = line;
+fn behind(alloc: Global, line: &str, marks: &str) -> Option<String> {
+    let mut rest = String::from_str(alloc, line).ok()?;
     for mark in marks.split(' ') {
-        let (_, after) = rest.split_once(mark)?;
-        rest = after;
+        rest = after(alloc, rest.as_str(), mark)?;
     }
     Some(rest)
 }
@@ -124,8 +129,8 @@ fn behind<'a>(line: &'a str, marks: &str) -> Option<&'a str> {
 /// A line in which the hash behind marks is another one.
 fn altered(alloc: Global, line: &str, change: &str) -> Option<String> {
     let (what, marks) = change.split_once(' ')?;
-    let rest = behind(line, marks)?;
-    let front = line.strip_suffix(rest)?;
+    let rest = behind(alloc, line, marks)?;
+    let front = line.strip_suffix(rest.as_str())?;
     let (hash, back) = rest.split_once("}}")?;
     let hash = another_hash(alloc, what, hash)?;
     format!(in alloc; "{front}{hash}}}}}{back}").ok()
