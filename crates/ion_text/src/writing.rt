@@ -1,5 +1,6 @@
 //! Writing values as text.
 
+mod output;
 mod quoted;
 mod scalars;
 mod timestamps;

@@ -5,17 +5,18 @@ ghost use Rattle.std.specs.List.{flat_map, list_all, list_any};
 ghost use Rattle.ion_forms.specs.Quoted.{begins_name, clob_escape, clob_text, continues_name, escape, hex_escape, is_bare, is_control, is_identifier, is_keyword, quoted, string_text, symbol_text};
 ghost use Rattle.ion_text.specs.Escapes.{has_escape};
 
-use lists::{OutOfMemory, Text};
+use super::output::Output;
+use lists::OutOfMemory;
 
 /// Puts an ASCII character.
-pub fn put_ascii(out: &mut Text, byte: u8) -> Result<(), OutOfMemory>
+pub fn put_ascii(out: &mut Output, byte: u8) -> Result<(), OutOfMemory>
     requires { byte < 128 }
     ensures { OnOk result (out.new ≡ out.old ++ byte ∷ []) }
 {
     out.push(char::from(byte))
 }
 
-fn put_hex_digit(out: &mut Text, digit: u8) -> Result<(), OutOfMemory>
+fn put_hex_digit(out: &mut Output, digit: u8) -> Result<(), OutOfMemory>
     requires { digit < 16 }
     ensures { OnOk result (out.new ≡ out.old ++ digit_char digit ∷ []) }
 {
@@ -26,7 +27,7 @@ fn put_hex_digit(out: &mut Text, digit: u8) -> Result<(), OutOfMemory>
     }
 }
 
-fn put_hex(out: &mut Text, byte: u8) -> Result<(), OutOfMemory>
+fn put_hex(out: &mut Output, byte: u8) -> Result<(), OutOfMemory>
     ensures { OnOk result (out.new ≡ out.old ++ hex_escape byte) }
 {
     out.push_str("\\x")?;
@@ -35,7 +36,7 @@ fn put_hex(out: &mut Text, byte: u8) -> Result<(), OutOfMemory>
 }
 
 // An ASCII character of a text between the quotes.
-fn put_escaped_ascii(out: &mut Text, quote: u8, byte: u8) -> Result<(), OutOfMemory>
+fn put_escaped_ascii(out: &mut Output, quote: u8, byte: u8) -> Result<(), OutOfMemory>
     requires { byte < 128 }
     ensures { OnOk result (out.new ≡ out.old ++ escape quote byte) }
 {
@@ -53,7 +54,7 @@ fn put_escaped_ascii(out: &mut Text, quote: u8, byte: u8) -> Result<(), OutOfMem
 }
 
 // A character of a text between the quotes.
-fn put_escaped(out: &mut Text, quote: u8, character: char) -> Result<(), OutOfMemory>
+fn put_escaped(out: &mut Output, quote: u8, character: char) -> Result<(), OutOfMemory>
     requires { quote < 128 }
     ensures { OnOk result (out.new ≡ out.old ++ flat_map (escape quote) (encode_utf8 character)) }
 {
@@ -64,7 +65,7 @@ fn put_escaped(out: &mut Text, quote: u8, character: char) -> Result<(), OutOfMe
     }
 }
 
-fn put_each(out: &mut Text, quote: u8, text: &str) -> Result<(), OutOfMemory>
+fn put_each(out: &mut Output, quote: u8, text: &str) -> Result<(), OutOfMemory>
     requires { quote < 128 }
     ensures { OnOk result (out.new ≡ out.old ++ flat_map (escape quote) text.now) }
 {
@@ -93,7 +94,7 @@ fn have_escapes(quote: u8, bytes: &[u8]) -> bool
 }
 
 // What stands between the quotes, at once where no byte of it is escaped.
-fn put_inner(out: &mut Text, quote: u8, text: &str) -> Result<(), OutOfMemory>
+fn put_inner(out: &mut Output, quote: u8, text: &str) -> Result<(), OutOfMemory>
     requires { quote < 128 }
     ensures { OnOk result (out.new ≡ out.old ++ flat_map (escape quote) text.now) }
 {
@@ -104,7 +105,7 @@ fn put_inner(out: &mut Text, quote: u8, text: &str) -> Result<(), OutOfMemory>
     }
 }
 
-fn put_quoted(out: &mut Text, quote: u8, text: &str) -> Result<(), OutOfMemory>
+fn put_quoted(out: &mut Output, quote: u8, text: &str) -> Result<(), OutOfMemory>
     requires { quote < 128 }
     ensures { OnOk result (out.new ≡ out.old ++ quoted quote text.now) }
 {
@@ -114,7 +115,7 @@ fn put_quoted(out: &mut Text, quote: u8, text: &str) -> Result<(), OutOfMemory>
 }
 
 /// Puts the text of a string.
-pub fn put_string(out: &mut Text, text: &str) -> Result<(), OutOfMemory>
+pub fn put_string(out: &mut Output, text: &str) -> Result<(), OutOfMemory>
     ensures { OnOk result (out.new ≡ out.old ++ string_text text.now) }
 {
     put_quoted(out, b'"', text)
@@ -160,7 +161,7 @@ fn is_keyword_text(text: &str) -> bool
 }
 
 /// Puts the text of a symbol, which has quotes only where it needs them.
-pub fn put_symbol(out: &mut Text, text: &str) -> Result<(), OutOfMemory>
+pub fn put_symbol(out: &mut Output, text: &str) -> Result<(), OutOfMemory>
     ensures { OnOk result (out.new ≡ out.old ++ symbol_text text.now) }
 {
     if stands_bare(text) {
@@ -170,7 +171,7 @@ pub fn put_symbol(out: &mut Text, text: &str) -> Result<(), OutOfMemory>
     }
 }
 
-fn put_clob_byte(out: &mut Text, byte: u8) -> Result<(), OutOfMemory>
+fn put_clob_byte(out: &mut Output, byte: u8) -> Result<(), OutOfMemory>
     ensures { OnOk result (out.new ≡ out.old ++ clob_escape byte) }
 {
     if byte == b'"' || byte == b'\\' {
@@ -185,7 +186,7 @@ fn put_clob_byte(out: &mut Text, byte: u8) -> Result<(), OutOfMemory>
 }
 
 /// Puts the text of a clob.
-pub fn put_clob(out: &mut Text, bytes: &[u8]) -> Result<(), OutOfMemory>
+pub fn put_clob(out: &mut Output, bytes: &[u8]) -> Result<(), OutOfMemory>
     ensures { OnOk result (out.new ≡ out.old ++ clob_text bytes.now) }
 {
     out.push_str("{{\"")?;

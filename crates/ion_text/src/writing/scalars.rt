@@ -1,17 +1,15 @@
 //! Nulls, truths, numbers and blobs.
-ghost use Rattle.std.specs.Prelude.{◌≡◌, ◌++◌, true, string_bytes, IfOk, OnOk};
+ghost use Rattle.std.specs.Prelude.{◌≡◌, ◌++◌, OnOk};
 ghost use Rattle.std.specs.Fmt.{signed_decimal};
-ghost use Rattle.base64.specs.Rfc4648.{encode};
-ghost use Rattle.ion_forms.specs.Write.{base64_digits, blob_text, bool_text, decimal_text, null_text};
+ghost use Rattle.ion_forms.specs.Write.{blob_text, bool_text, decimal_text, null_text};
 
-use base64::engine::general_purpose::STANDARD;
+use super::output::Output;
 use ion_values::{Decimal, Kind};
 use itoa::Buffer;
-use lists::{OutOfMemory, Text};
-use std::alloc::Global;
+use lists::OutOfMemory;
 
 /// Puts the text of a null.
-pub fn put_null(out: &mut Text, kind: Kind) -> Result<(), OutOfMemory>
+pub fn put_null(out: &mut Output, kind: Kind) -> Result<(), OutOfMemory>
     ensures { OnOk result (out.new ≡ out.old ++ null_text kind) }
 {
     out.push_str(match kind {
@@ -31,14 +29,14 @@ pub fn put_null(out: &mut Text, kind: Kind) -> Result<(), OutOfMemory>
 }
 
 /// Puts the text of a truth.
-pub fn put_bool(out: &mut Text, truth: bool) -> Result<(), OutOfMemory>
+pub fn put_bool(out: &mut Output, truth: bool) -> Result<(), OutOfMemory>
     ensures { OnOk result (out.new ≡ out.old ++ bool_text truth) }
 {
     out.push_str(if truth { "true" } else { "false" })
 }
 
 /// Puts an int in decimal.
-pub fn put_int(out: &mut Text, number: i128) -> Result<(), OutOfMemory>
+pub fn put_int(out: &mut Output, number: i128) -> Result<(), OutOfMemory>
     ensures { OnOk result (out.new ≡ out.old ++ signed_decimal number) }
 {
     let mut buffer = Buffer::new();
@@ -46,7 +44,7 @@ pub fn put_int(out: &mut Text, number: i128) -> Result<(), OutOfMemory>
 }
 
 /// Puts the text of a decimal.
-pub fn put_decimal(out: &mut Text, number: &Decimal) -> Result<(), OutOfMemory>
+pub fn put_decimal(out: &mut Output, number: &Decimal) -> Result<(), OutOfMemory>
     ensures { OnOk result (out.new ≡ out.old ++ decimal_text number.now) }
 {
     if number.negative_zero {
@@ -58,18 +56,11 @@ pub fn put_decimal(out: &mut Text, number: &Decimal) -> Result<(), OutOfMemory>
     put_int(out, number.exponent as i128)
 }
 
-fn base64_of(alloc: Global, bytes: &[u8]) -> Result<String, OutOfMemory>
-    ensures { IfOk result (λ text. string_bytes text ≡ encode base64_digits 61 true bytes.now) }
-{
-    Ok(STANDARD.encode(alloc, bytes)?)
-}
-
 /// Puts the text of a blob.
-pub fn put_blob(alloc: Global, out: &mut Text, bytes: &[u8]) -> Result<(), OutOfMemory>
+pub fn put_blob(out: &mut Output, bytes: &[u8]) -> Result<(), OutOfMemory>
     ensures { OnOk result (out.new ≡ out.old ++ blob_text bytes.now) }
 {
-    let digits = base64_of(alloc, bytes)?;
     out.push_str("{{")?;
-    out.push_str(digits.as_str())?;
+    out.push_base64(bytes)?;
     out.push_str("}}")
 }

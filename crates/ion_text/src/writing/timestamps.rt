@@ -2,19 +2,20 @@
 ghost use Rattle.std.specs.Prelude.{◌≡◌, ◌++◌, ◌∷◌, [], OnOk};
 ghost use Rattle.ion_forms.specs.Timestamp.{clock_text, day_text, digit, first_digits, four_digits, fraction_text, minute_text, month_text, offset_text, second_text, timestamp_text, two_digits};
 
+use super::output::Output;
 use super::quoted::put_ascii;
 use ion_values::{IonTime, Precision, TimeParts};
-use lists::{OutOfMemory, Text};
+use lists::OutOfMemory;
 
 // The last digit of the number.
-fn put_digit(out: &mut Text, number: u32) -> Result<(), OutOfMemory>
+fn put_digit(out: &mut Output, number: u32) -> Result<(), OutOfMemory>
     ensures { OnOk result (out.new ≡ out.old ++ digit number ∷ []) }
 {
     put_ascii(out, b'0' + (number % 10) as u8)
 }
 
 // The last two digits of the number.
-fn put_two(out: &mut Text, number: u32) -> Result<(), OutOfMemory>
+fn put_two(out: &mut Output, number: u32) -> Result<(), OutOfMemory>
     ensures { OnOk result (out.new ≡ out.old ++ two_digits number) }
 {
     put_digit(out, number / 10)?;
@@ -22,7 +23,7 @@ fn put_two(out: &mut Text, number: u32) -> Result<(), OutOfMemory>
 }
 
 // As many of nine digits as are counted.
-fn put_first(out: &mut Text, count: u8, nanos: u32) -> Result<(), OutOfMemory>
+fn put_first(out: &mut Output, count: u8, nanos: u32) -> Result<(), OutOfMemory>
     ensures { OnOk result (out.new ≡ out.old ++ first_digits count nanos) }
 {
     let mut left = count;
@@ -35,7 +36,7 @@ fn put_first(out: &mut Text, count: u8, nanos: u32) -> Result<(), OutOfMemory>
     Ok(())
 }
 
-fn put_fraction(out: &mut Text, count: u8, nanos: u32) -> Result<(), OutOfMemory>
+fn put_fraction(out: &mut Output, count: u8, nanos: u32) -> Result<(), OutOfMemory>
     ensures { OnOk result (out.new ≡ out.old ++ fraction_text count nanos) }
 {
     if count == 0 {
@@ -46,7 +47,7 @@ fn put_fraction(out: &mut Text, count: u8, nanos: u32) -> Result<(), OutOfMemory
 }
 
 // `hh:mm` of so many minutes.
-fn put_clock(out: &mut Text, minutes: u32) -> Result<(), OutOfMemory>
+fn put_clock(out: &mut Output, minutes: u32) -> Result<(), OutOfMemory>
     ensures { OnOk result (out.new ≡ out.old ++ clock_text minutes) }
 {
     put_two(out, minutes / 60)?;
@@ -54,7 +55,7 @@ fn put_clock(out: &mut Text, minutes: u32) -> Result<(), OutOfMemory>
     put_two(out, minutes % 60)
 }
 
-fn put_offset(out: &mut Text, offset: Option<i16>) -> Result<(), OutOfMemory>
+fn put_offset(out: &mut Output, offset: Option<i16>) -> Result<(), OutOfMemory>
     ensures { OnOk result (out.new ≡ out.old ++ offset_text offset) }
 {
     match offset {
@@ -67,7 +68,7 @@ fn put_offset(out: &mut Text, offset: Option<i16>) -> Result<(), OutOfMemory>
     }
 }
 
-fn put_month(out: &mut Text, t: &TimeParts) -> Result<(), OutOfMemory>
+fn put_month(out: &mut Output, t: &TimeParts) -> Result<(), OutOfMemory>
     ensures { OnOk result (out.new ≡ out.old ++ month_text t.now) }
 {
     put_year(out, t.year)?;
@@ -75,14 +76,14 @@ fn put_month(out: &mut Text, t: &TimeParts) -> Result<(), OutOfMemory>
     put_two(out, t.month as u32)
 }
 
-fn put_year(out: &mut Text, year: u16) -> Result<(), OutOfMemory>
+fn put_year(out: &mut Output, year: u16) -> Result<(), OutOfMemory>
     ensures { OnOk result (out.new ≡ out.old ++ four_digits year) }
 {
     put_two(out, year as u32 / 100)?;
     put_two(out, year as u32)
 }
 
-fn put_day(out: &mut Text, t: &TimeParts) -> Result<(), OutOfMemory>
+fn put_day(out: &mut Output, t: &TimeParts) -> Result<(), OutOfMemory>
     ensures { OnOk result (out.new ≡ out.old ++ day_text t.now) }
 {
     put_month(out, t)?;
@@ -90,7 +91,7 @@ fn put_day(out: &mut Text, t: &TimeParts) -> Result<(), OutOfMemory>
     put_two(out, t.day as u32)
 }
 
-fn put_minute(out: &mut Text, t: &TimeParts) -> Result<(), OutOfMemory>
+fn put_minute(out: &mut Output, t: &TimeParts) -> Result<(), OutOfMemory>
     ensures { OnOk result (out.new ≡ out.old ++ minute_text t.now) }
 {
     put_day(out, t)?;
@@ -100,7 +101,7 @@ fn put_minute(out: &mut Text, t: &TimeParts) -> Result<(), OutOfMemory>
     put_two(out, t.minute as u32)
 }
 
-fn put_second(out: &mut Text, t: &TimeParts) -> Result<(), OutOfMemory>
+fn put_second(out: &mut Output, t: &TimeParts) -> Result<(), OutOfMemory>
     ensures { OnOk result (out.new ≡ out.old ++ second_text t.now) }
 {
     put_minute(out, t)?;
@@ -110,7 +111,7 @@ fn put_second(out: &mut Text, t: &TimeParts) -> Result<(), OutOfMemory>
 }
 
 /// Puts the text of a timestamp, as far as its precision goes.
-pub fn put_timestamp(out: &mut Text, time: &IonTime) -> Result<(), OutOfMemory>
+pub fn put_timestamp(out: &mut Output, time: &IonTime) -> Result<(), OutOfMemory>
     ensures { OnOk result (out.new ≡ out.old ++ timestamp_text time.now) }
 {
     let parts = time.parts();

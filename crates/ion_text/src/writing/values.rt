@@ -3,6 +3,7 @@ ghost use Rattle.std.specs.Prelude.{◌≡◌, ◌++◌, ◌<◌, map, IfOk, OnO
 ghost use Rattle.std.specs.List.{flat_map};
 ghost use Rattle.ion_forms.specs.Write.{annotation_text, body_text, field_text, joined, parted, value_text};
 
+use super::output::Output;
 use super::quoted::{put_ascii, put_clob, put_string, put_symbol};
 use super::scalars::{put_blob, put_bool, put_decimal, put_int, put_null};
 use super::timestamps::put_timestamp;
@@ -10,27 +11,24 @@ use ion_values::{Body, Field, Names, Value};
 use lists::{OutOfMemory, Text};
 use std::alloc::Global;
 
-/// For how many bytes a new text has room.
-const ROOM: usize = 256;
-
 /// The value's text, in the one spelling that values have when they are written.
 pub fn write(alloc: Global, v: &Value) -> Result<Text, OutOfMemory>
     ensures { IfOk result (λ text. text ≡ value_text v.now) }
 {
-    let mut out = Text::from_string(String::with_capacity(alloc, ROOM)?);
-    put_value(alloc, &mut out, v)?;
-    Ok(out)
+    let mut out = Output::new(alloc)?;
+    put_value(&mut out, v)?;
+    Ok(out.into_text())
 }
 
 #[cycle(write)]
-fn put_value(alloc: Global, out: &mut Text, value: &Value) -> Result<(), OutOfMemory>
+fn put_value(out: &mut Output, value: &Value) -> Result<(), OutOfMemory>
     ensures { OnOk result (out.new ≡ out.old ++ value_text value.now) }
 {
     put_annotations(out, &value.annotations)?;
-    put_body(alloc, out, &value.body)
+    put_body(out, &value.body)
 }
 
-fn put_annotations(out: &mut Text, names: &Names) -> Result<(), OutOfMemory>
+fn put_annotations(out: &mut Output, names: &Names) -> Result<(), OutOfMemory>
     ensures { OnOk result (out.new ≡ out.old ++ flat_map annotation_text names.now) }
 {
     for name in names.as_slice() {
@@ -41,7 +39,7 @@ fn put_annotations(out: &mut Text, names: &Names) -> Result<(), OutOfMemory>
 }
 
 #[cycle(write)]
-fn put_body(alloc: Global, out: &mut Text, body: &Body) -> Result<(), OutOfMemory>
+fn put_body(out: &mut Output, body: &Body) -> Result<(), OutOfMemory>
     ensures { OnOk result (out.new ≡ out.old ++ body_text body.now) }
 {
     match body {
@@ -53,66 +51,61 @@ fn put_body(alloc: Global, out: &mut Text, body: &Body) -> Result<(), OutOfMemor
         Body::Symbol(text) => put_symbol(out, text.as_str()),
         Body::String(text) => put_string(out, text.as_str()),
         Body::Clob(bytes) => put_clob(out, bytes.as_slice()),
-        Body::Blob(bytes) => put_blob(alloc, out, bytes.as_slice()),
+        Body::Blob(bytes) => put_blob(out, bytes.as_slice()),
         Body::List(values) => {
             put_ascii(out, b'[')?;
-            put_values(alloc, out, b',', values.as_slice())?;
+            put_values(out, b',', values.as_slice())?;
             put_ascii(out, b']')
         }
         Body::Sexp(values) => {
             put_ascii(out, b'(')?;
-            put_values(alloc, out, b' ', values.as_slice())?;
+            put_values(out, b' ', values.as_slice())?;
             put_ascii(out, b')')
         }
         Body::Struct(fields) => {
             put_ascii(out, b'{')?;
-            put_fields(alloc, out, fields.as_slice())?;
+            put_fields(out, fields.as_slice())?;
             put_ascii(out, b'}')
         }
     }
 }
 
 #[cycle(write)]
-fn put_values(
-    alloc: Global,
-    out: &mut Text,
-    separator: u8,
-    values: &[Value],
-) -> Result<(), OutOfMemory>
+fn put_values(out: &mut Output, separator: u8, values: &[Value]) -> Result<(), OutOfMemory>
     requires { separator < 128 }
     ensures { OnOk result (out.new ≡ out.old ++ parted separator (map value_text values.now)) }
 {
     let [first, more @ ..] = values else {
         return Ok(());
     };
-    put_value(alloc, out, first)?;
+    put_value(out, first)?;
     for value in more {
         put_ascii(out, separator)?;
-        put_value(alloc, out, value)?;
+        put_value(out, value)?;
     }
     Ok(())
 }
 
 #[cycle(write)]
-fn put_field(alloc: Global, out: &mut Text, field: &Field) -> Result<(), OutOfMemory>
+fn put_field(out: &mut Output, field: &Field) -> Result<(), OutOfMemory>
     ensures { OnOk result (out.new ≡ out.old ++ field_text field.now) }
 {
     put_symbol(out, field.name.as_str())?;
     put_ascii(out, b':')?;
-    put_value(alloc, out, &field.value)
+    put_value(out, &field.value)
 }
 
 #[cycle(write)]
-fn put_fields(alloc: Global, out: &mut Text, fields: &[Field]) -> Result<(), OutOfMemory>
+fn put_fields(out: &mut Output, fields: &[Field]) -> Result<(), OutOfMemory>
     ensures { OnOk result (out.new ≡ out.old ++ joined (map field_text fields.now)) }
 {
     let [first, more @ ..] = fields else {
         return Ok(());
     };
-    put_field(alloc, out, first)?;
+    put_field(out, first)?;
     for field in more {
         put_ascii(out, b',')?;
-        put_field(alloc, out, field)?;
+        put_field(out, field)?;
     }
     Ok(())
 }

@@ -8,4 +8,4 @@ pub returns-else-have_escapes : goal.returns-else-have_escapes
 returns-else-have_escapes c =
     let as_text = ap (list_any (has_escape c.args.quote)) c.as_bytes.ensures.value in
     let none = sym as_text ∙ sym c.have_escapes.ensures ∙ c.if-have_escapes.false in
-    rw (escapes-none c.args.quote c.args.text.now none) c.push_str.ensures.ok
+    rw (escapes-none c.args.quote c.args.text.now none) c.push_str.ensures
