@@ -4,7 +4,6 @@ pub mod Commits
 pub mod Passes
 pub mod Attempts
 pub mod Working
-pub mod Executing
 pub mod Kept
 pub mod Chains
 pub mod Named

@@ -22,7 +22,7 @@ use session_driver::Link;
 use std::alloc::Global;
 use std::marker::Model;
 use std::sync::Wait;
-use txn_core::{Ran, Txn};
+use txn_core::{Ran, Stopped, Txn};
 
 /// A worker: its ledger and its gate, and the pass with which it runs its transactions.
 #[derive(Drop)]
@@ -227,14 +227,10 @@ impl<'a, S: JournalStore, C: Clock, G: Gate> Steps for Worker<'a, S, C, G> {
             }
             statement += 1;
             self.gate.at(rt, place, Step::BeforeExecute);
-            match txn.execute(self.alloc, request.text.as_str(), request.params.as_slice()) {
-                Ok(_answer) => {}
-                Err(cause) => {
-                    if txn.is_ended() {
-                        return Ok(Ran::Refused { statement, cause });
-                    }
-                    return Err(OutOfMemory);
-                }
+            match txn.perform(self.alloc, request.text.as_str(), request.params.as_slice()) {
+                Ok(()) => {}
+                Err(Stopped::Refused(cause)) => return Ok(Ran::Refused { statement, cause }),
+                Err(Stopped::OutOfMemory) => return Err(OutOfMemory),
             }
         }
         Ok(Ran::Done(txn))

@@ -55,14 +55,10 @@ impl Txn {
         Ok(rows)
     }
 
-    /// Does one statement; its answer stays with the transaction. Where it isn't done, the transaction is as before.
+    /// Does one statement as `execute` does, and leaves its answer with the transaction alone. Where it isn't done, the
+    /// transaction is as before; a refusal doesn't end it.
     #[tactic(auto, using(crate::proofs::Effects::added_steps, crate::proofs::Effects::stops))]
-    pub(crate) fn perform(
-        &mut self,
-        alloc: Global,
-        text: &str,
-        params: &[Value],
-    ) -> Result<(), Stopped>
+    pub fn perform(&mut self, alloc: Global, text: &str, params: &[Value]) -> Result<(), Stopped>
         ensures { Performed self.old (asked text.now params.now) result self.new }
     {
         let effect = match self.effect(alloc, text, params) {

@@ -29,5 +29,6 @@ mod values;
 mod views;
 
 pub use runs::{Ran, run_statements};
+pub use stopped::Stopped;
 pub use table_views::TableViews;
 pub use transaction::{Finished, Txn, start_txn};

@@ -4,7 +4,7 @@ use ledger_model::Refusal;
 
 /// Why a statement wasn't done: it is refused, or there was no memory.
 #[derive(Drop)]
-pub(crate) enum Stopped {
+pub enum Stopped {
     Refused(Refusal),
     OutOfMemory,
 }
