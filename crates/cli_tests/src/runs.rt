@@ -25,7 +25,7 @@ pub const FOUR_OUTCOMES: &str =
 
 /// What runs report: of no script, of the first one, of it with a select of what is committed, which shows nothing yet, of the two
 /// sessions, and of a table that is there already.
-pub const REPORTS: &str = r#"@RUN@||||0|*
+pub const REPORTS: &str = r#"@RUN@||||0|=
 @RUN@|@FIRST@|||0 @COMMITTED@|*
 @RUN@|[{statements:["CREATE TABLE t",{text:"INSERT INTO t ?",params:[{a:5}]},"SELECT * FROM t","SELECT * FROM _ql_committed_t"]}]|||0 {session:1,transaction:1,outcome:committed,tx:"0000000000000000018OWG",block:0,answers:[[{tableId:"0000000000000000018OWH"}],[{documentId:"0000000000000000018OWI"}],[{a:5}],[]]}|*
 @RUN@|@SESSIONS@|||0 @FOUR_OUTCOMES@|*

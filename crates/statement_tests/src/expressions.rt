@@ -84,6 +84,7 @@ const ROWS: &str = "1 = 1 is true
 'a' = 'a' is true
 TRUE = 'true' is false
 `null.int` = 1 is null
+NULL = 1 is null
 `null.int` = `null.int` is null
 MISSING = 1 is missing
 MISSING = `null.int` is missing
@@ -146,10 +147,12 @@ COALESCE(FALSE, 1) is false
 7 / 2 is 3
 `-7` / 2 is -3
 `-7` % 2 is -1
+-7 % 2 is -1
 7 % `-2` is 1
 1 / 0 is missing
 1 % 0 is missing
 7 + `5d-1` is 75d-1
+7 + 0.5 is 75d-1
 `1d2` - 1 is 99d0
 7 + `null.int` is null
 MISSING + `null.int` is missing
@@ -217,7 +220,9 @@ CHAR_LENGTH(`null.int`) is null
 CHAR_LENGTH(MISSING) is missing
 CHAR_LENGTH(1) is missing
 2 IN [1, `null.int`, 2] is true
+2 IN [1, NULL, 2] is true
 3 IN [1, `null.int`] is null
+3 IN [1, NULL] is null
 3 IN [1, 2] is false
 `null.int` IN [1] is null
 `null.int` IN [] is false
