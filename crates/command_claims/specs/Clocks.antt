@@ -1,5 +1,5 @@
 -- What a run takes from its clock: the times of its blocks and the seed of its ids.
-use Rattle.std.specs.Prelude.{◌≡◌, ℕ, ℤ, List, [], ◌∷◌, length, drop, Option, Some, None}
+use Rattle.std.specs.Prelude.{◌≡◌, ℕ, ℤ, List, [], ◌∷◌, length, drop, Option, Some, None, IsSome}
 use Rattle.std.specs.Int.{w64, cast_unsigned}
 use Rattle.id_seed.specs.Seed.{mask_of}
 use Rattle.ion_time.specs.Millis.{BeginsAt, nearest}
@@ -38,6 +38,17 @@ abbrev pub given_by : IdSource → Span Answers → Option ℕ
 given_by ids.Plain clock = Some 0
 given_by (ids.Seed seed) clock = Some (mask_of seed)
 given_by ids.FirstAnswer clock = mask_between clock.before clock.after
+
+-- an answer was given from one moment to a later one, where both are told
+abbrev pub HasAnswered : Answers → Answers → Type 0
+HasAnswered (Some before) (Some after) = IsSome (first_mask (drop (length before) after))
+HasAnswered _ _ = Unit {0}
+
+-- where the mask is that of the clock's first answer, the clock gave one
+abbrev pub GaveFirst : IdSource → Span Answers → Type 0
+GaveFirst ids.Plain clock = Unit {0}
+GaveFirst (ids.Seed seed) clock = Unit {0}
+GaveFirst ids.FirstAnswer clock = HasAnswered clock.before clock.after
 
 -- The times of the blocks: the timestamp that begins at the milliseconds that the words give, taken to the nearest of
 -- the years 0001 to 9999, or what the clock answers in this call.

@@ -13,7 +13,7 @@ use Rattle.ledger_claims.specs.Stores.{HasJournal, Holding, IsSynced, HoldingWit
 use Rattle.entry_laws.specs.Alone.{RunsInOrder}
 use Rattle.entry_laws.specs.Claims.{FitsInterleaved, IsOfOwnDigest}
 use Rattle.command_claims.specs.Calls.{Outside}
-use Rattle.command_claims.specs.Clocks.{Answers, given_by, AreTimes}
+use Rattle.command_claims.specs.Clocks.{Answers, given_by, AreTimes, GaveFirst}
 use Rattle.command_claims.specs.Inputs.{HasScript}
 
 -- what the words and the clock give a run: the mask of the ids, where they tell it, and the times of the blocks
@@ -24,6 +24,7 @@ pub record Terms : Type 0 where
 -- the terms are those of the words' options
 pub record AreTerms (o : RunOptions) (clock : Span Answers) (terms : Terms) : Type 0 where
   pub given : terms.given ≡ given_by o.ids clock
+  pub answered : GaveFirst o.ids clock
   pub times : AreTimes o.time clock terms.times
 
 -- the record is that of a run of these jobs on these terms by so many workers on the store's journal

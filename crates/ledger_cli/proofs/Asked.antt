@@ -14,7 +14,7 @@ use Rattle.command_claims.specs.Top.{is_first_answer}
 use Rattle.ledger_claims.specs.Calls.{Span, span}
 use Rattle.ledger_claims.specs.Fits.{one_time}
 use Rattle.command_claims.specs.Calls.{Outside}
-use Rattle.command_claims.specs.Clocks.{Answers, given_by, times_between}
+use Rattle.command_claims.specs.Clocks.{Answers, GaveFirst, given_by, times_between}
 use Rattle.command_claims.specs.Inputs.{HasScript}
 use Rattle.command_claims.specs.Journals.{IsUncalled}
 use Rattle.command_claims.specs.Runs.{Terms, AreTerms, IsReportOf, HoldsRun, LeavesRun}
@@ -37,13 +37,13 @@ record OnTerms (o : RunOptions) (clock : Span Answers) (Is : Terms → Type 0) :
 
 -- with a clock of which this much was told before the run
 module _ (o : RunOptions) (first between last : Answers) (mask : ℕ) (extends : Extends first between)
-    (given : IfSome (given_by o.ids (span first last)) (λ given. given ≡ mask)) where
+    (given : IfSome (given_by o.ids (span first last)) (λ given. given ≡ mask)) (answered : GaveFirst o.ids (span first last)) where
   on_terms : (Is : Terms → Type 0) → IsSoOnTerms mask o.time between last Is → OnTerms o (span first last) Is
   on_terms Is so =
       let told = so first (given_by o.ids (span first last)) extends given in
       record {
         terms = record { given = given_by o.ids (span first last); times = told.0 };
-        are = record { given = refl; times = told.1 };
+        are = record { given = refl; answered = answered; times = told.1 };
         is = told.2;
       }
 
@@ -89,7 +89,7 @@ left_as P Q (Err e) f h = f h
 
 module _ (same : Type 0) (o : RunOptions) (x : Outside) (script : List (List Job)) (has : HasScript x.source script) (fine : IsFine x.source)
     (mask : ℕ) (between : Answers) (extends : Extends x.clock.before between)
-    (given : IfSome (given_by o.ids x.clock) (λ given. given ≡ mask)) where
+    (given : IfSome (given_by o.ids x.clock) (λ given. given ≡ mask)) (answered : GaveFirst o.ids x.clock) where
   loads : (why : Stop) → IsLoadStop why x.store → Works same (Some (command.Run o)) (Err why) x
   loads (stop.BadInput cause) h = absurd h
   loads (stop.NoSuch why) h = absurd h
@@ -102,7 +102,7 @@ module _ (same : Type 0) (o : RunOptions) (x : Outside) (script : List (List Job
   loads stop.OutOfMemory h = fine
 
   on : (Is : Terms → Type 0) → IsSoOnTerms mask o.time between x.clock.after Is → OnTerms o x.clock Is
-  on Is so = on_terms o x.clock.before between x.clock.after mask extends given Is so
+  on Is so = on_terms o x.clock.before between x.clock.after mask extends given answered Is so
 
   pub works_run : (came : Result (List ℕ) Stop)
       → IfOk came (λ text. IsSoOnTerms mask o.time between x.clock.after (λ terms. IsReportOf terms o.workers (all_placed script) x.store text))

@@ -1,6 +1,6 @@
 -- The answers of a clock from one moment to a later one, and the times and the mask that are taken of them.
 use Rattle.std.proofs.Common.{◌≡◌, ◌∙◌, ◌+◌, ℤ, List, [], ◌∷◌, ◌++◌, length, length-append, drop, append-nil, append_assoc, refl, sym, ap, subst, arith, Option, Some, None}
-use Rattle.std.specs.Prelude.{IfSome}
+use Rattle.std.specs.Prelude.{IfSome, IsSome}
 use Rattle.std.specs.List.{Contains}
 use Rattle.std.proofs.lemmas.Grind.{common_steps}
 use Rattle.id_seed.specs.Seed.{mask_of}
@@ -9,7 +9,7 @@ use Rattle.ion_time.proofs.Names.{millis_name_times}
 use Rattle.ion_values.specs.declared.time.TimeParts.{TimeParts}
 use Rattle.outside.specs.Clocks.{AddsAnswer}
 use Rattle.ledger_claims.specs.Fits.{Times, one_time, IsTimeIn}
-use Rattle.command_claims.specs.Clocks.{Answers, times_between, mask_between, first_mask, seed_of}
+use Rattle.command_claims.specs.Clocks.{Answers, HasAnswered, times_between, mask_between, first_mask, seed_of}
 use Rattle.ledger_shared.specs.Behind.{GaveBetween}
 use Rattle.ledger_cli.specs.Clocks.{ClockTold, GoesOn, IsAnswered, Covers, Extends}
 
@@ -135,3 +135,12 @@ first_given (Some xs) None (Some zs) answer adds f = absurd f
 first_given (Some xs) (Some ys) (Some zs) answer adds f =
     let whole : zs ≡ xs ++ (answer ∷ f.0) = f.1 ∙ ap (λ (l : List ℤ). l ++ f.0) adds ∙ append_assoc xs (answer ∷ []) f.0 in
     subst (λ (l : List ℤ). IfSome (first_mask l) (λ given. given ≡ mask_of (seed_of answer))) (sym (drop_front xs (answer ∷ f.0) zs whole)) refl
+
+-- there is a first answer, whatever is answered later
+pub first_answered : (a b c : Answers) (answer : ℤ) → AddsAnswer a b answer → Extends b c → HasAnswered a c
+first_answered None b c answer adds f = tt
+first_answered (Some xs) b None answer adds f = tt
+first_answered (Some xs) None (Some zs) answer adds f = absurd f
+first_answered (Some xs) (Some ys) (Some zs) answer adds f =
+    let whole : zs ≡ xs ++ (answer ∷ f.0) = f.1 ∙ ap (λ (l : List ℤ). l ++ f.0) adds ∙ append_assoc xs (answer ∷ []) f.0 in
+    subst (λ (l : List ℤ). IsSome (first_mask l)) (sym (drop_front xs (answer ∷ f.0) zs whole)) refl

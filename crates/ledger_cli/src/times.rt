@@ -3,7 +3,7 @@ ghost use Rattle.std.specs.Prelude.{◌≡◌, IfSome};
 ghost use Rattle.ion_time.specs.Millis.{BeginsAt, nearest};
 ghost use Rattle.ion_values.specs.declared.time.TimeParts.{TimeParts};
 ghost use Rattle.ledger_claims.specs.Calls.{span};
-ghost use Rattle.command_claims.specs.Clocks.{Answers, given_by};
+ghost use Rattle.command_claims.specs.Clocks.{Answers, GaveFirst, given_by};
 ghost use Rattle.ledger_cli.specs.Clocks.{Extends, IsAsked};
 
 use command_words::IdSource;
@@ -41,6 +41,8 @@ pub fn moments_have_times(milliseconds: i64)
 pub fn mask_by<C: Clock>(ids: IdSource, clock: &mut C) -> IdMask
     ensures given { (later : Answers) → Extends (C.answers clock.new) later
         → IfSome (given_by ids (span (C.answers clock.old) later)) (λ given. given ≡ result.bits) }
+    ensures answered { (later : Answers) → Extends (C.answers clock.new) later
+        → GaveFirst ids (span (C.answers clock.old) later) }
     ensures extends { Extends (C.answers clock.old) (C.answers clock.new) }
     ensures asks { IsAsked ids clock.old clock.new }
 {

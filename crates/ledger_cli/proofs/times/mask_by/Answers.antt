@@ -4,8 +4,8 @@ use Rattle.std.specs.Int.{cast_unsigned}
 use Rattle.id_seed.specs.Seed.{mask_of}
 use Rattle.command_words.specs.declared.IdSource.{IdSource}
 use Rattle.ledger_claims.specs.Calls.{span}
-use Rattle.command_claims.specs.Clocks.{given_by, mask_between, seed_of}
-use Rattle.ledger_cli.proofs.Clocks.{first_given}
+use Rattle.command_claims.specs.Clocks.{GaveFirst, given_by, mask_between, seed_of}
+use Rattle.ledger_cli.proofs.Clocks.{first_answered, first_given}
 use Rattle.ledger_cli.proofs.times.mask_by.Goals as goal
 
 pub returns-in-FirstAnswer-clause-given : goal.returns-in-FirstAnswer-clause-given
@@ -18,3 +18,9 @@ returns-in-FirstAnswer-clause-given g c = λ later extends.
     let first = first_given before (g.C.Clock.answers c.now.new.self) later c.now.result c.now.ensures.told extends in
     subst (λ (i : IdSource). IfSome (given_by i (span before later)) (λ given. given ≡ made.result.bits)) (sym c.in-FirstAnswer.is)
     (subst (λ (n : ℕ). IfSome (mask_between before later) (λ given. given ≡ n)) (sym is) first)
+
+pub returns-in-FirstAnswer-clause-answered : goal.returns-in-FirstAnswer-clause-answered
+returns-in-FirstAnswer-clause-answered g c = λ later extends.
+    let before = g.C.Clock.answers c.args.clock.now in
+    subst (λ (i : IdSource). GaveFirst i (span before later)) (sym c.in-FirstAnswer.is)
+    (first_answered before (g.C.Clock.answers c.now.new.self) later c.now.result c.now.ensures.told extends)

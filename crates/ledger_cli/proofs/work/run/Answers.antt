@@ -16,7 +16,7 @@ returns-in-Ok-clause-works g c =
     let source = span (g.So.Source.told c.args.source.now) (g.So.Source.told c.read_script.new.source) in
     let x = outside source (span (g.St.JournalStore.told c.args.store) (g.St.JournalStore.told k.store)) (span first last) in
     works_run (k.store ≡ c.args.store) c.args.options x c.in-Ok.script reads.0 reads.2 m.result.bits between m.ensures.extends
-    (m.ensures.given last c.run_script.ensures.extends) k.came c.run_script.ensures.done c.run_script.ensures.stop
+    (m.ensures.given last c.run_script.ensures.extends) (m.ensures.answered last c.run_script.ensures.extends) k.came c.run_script.ensures.done c.run_script.ensures.stop
 
 pub returns-in-Ok-clause-keeps : goal.returns-in-Ok-clause-keeps
 returns-in-Ok-clause-keeps g c =
@@ -29,7 +29,7 @@ returns-in-Ok-clause-keeps g c =
     let source = span (g.So.Source.told c.args.source.now) (g.So.Source.told c.read_script.new.source) in
     let x = outside source (span (g.St.JournalStore.told c.args.store) (g.St.JournalStore.told k.store)) (span first last) in
     keeps_run (k.store ≡ c.args.store) c.args.options x c.in-Ok.script reads.0 reads.2 m.result.bits between m.ensures.extends
-    (m.ensures.given last c.run_script.ensures.extends) k.came c.run_script.ensures.done c.run_script.ensures.left
+    (m.ensures.given last c.run_script.ensures.extends) (m.ensures.answered last c.run_script.ensures.extends) k.came c.run_script.ensures.done c.run_script.ensures.left
 
 pub returns-in-Ok-clause-asks : goal.returns-in-Ok-clause-asks
 returns-in-Ok-clause-asks g c e =
