@@ -195,9 +195,9 @@ module _ (o : Opening) (place : Place) (k : Known Entry) (t : Opened) (begun : K
         ends_as (Err (fault.JournalFull blocks)) goes m = record {
           ready = ready;
           digest = sends_own d job runs m.does.0.digest_is;
-          sees = sees begun now _ m m.does.3;
-          full = ap (λ es. length (blocks_in o es)) (seen_is begun now _ m m.does.3) ∙ m.does.1;
-          told = m.does.2;
+          sees = sees begun now _ m m.does.4;
+          full = ap (λ es. length (blocks_in o es)) (seen_is begun now _ m m.does.4) ∙ m.does.2;
+          told = m.does.3;
         }
         ends_as (Err (fault.StoreFault count)) goes m = failed_here count m
         ends_as (Err fault.OutOfMemory) goes m = inr (tx_of t, begins_by t.begun.number refl, wanted_by m.front m.added m.does m.later m.knows)

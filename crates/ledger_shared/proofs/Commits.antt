@@ -151,6 +151,7 @@ module _ (o : Opening) (opened s : Standing) (count : ℕ) (es : List Entry) (t 
             behind = no_entry after.faults ends.1 (told ∙ is);
             commits = (
               record { goes_on = found.0; digest_is = found.1 },
+              ap (λ bs. conflict bs t.since t.done.footprint) (sym h.blocks) ∙ found.2,
               ap length (sym h.blocks) ∙ found.3,
               found.4,
               refl,

@@ -148,7 +148,7 @@ module _ (o : Opening) (k : Known Entry) (t : Opened) (part : IsPart k) (may : M
   commit_joins seen sent (Err EndedTxn) added c = none_joins seen added c.1
   commit_joins seen sent (Err (DigestDiffers mine given)) added c = none_joins seen added c.4
   commit_joins seen sent (Err (Conflict since named)) added c = none_joins seen added c.3
-  commit_joins seen sent (Err (JournalFull blocks)) added c = none_joins seen added c.3
+  commit_joins seen sent (Err (JournalFull blocks)) added c = none_joins seen added c.4
   commit_joins seen sent (Err (StoreFault count)) added c =
       subst (λ es. MayJoin seen k.own es) (sym c.adds) (may_use seen (failed t.begun.number count c.block) refl refl)
   commit_joins seen sent (Err OutOfMemory) added c = wanted_joins seen sent added c

@@ -108,7 +108,8 @@ module _ (o : Opening) (front : List Entry) where
       IsReady t sent × (since ≡ t.since)
       × (conflict (blocks_in o front) t.since t.done.footprint ≡ Some named) × (added ≡ [])
   Commits t sent (Err (JournalFull blocks)) added =
-      IsReady t sent × (length (blocks_in o front) ≡ 2 ^ 32 - 1) × (blocks ≡ 2 ^ 32 - 1) × (added ≡ [])
+      IsReady t sent × (conflict (blocks_in o front) t.since t.done.footprint ≡ None)
+      × (length (blocks_in o front) ≡ 2 ^ 32 - 1) × (blocks ≡ 2 ^ 32 - 1) × (added ≡ [])
   Commits t sent (Err (StoreFault count)) added = Fails t sent count added
   Commits t sent (Err OutOfMemory) added = Wants t sent added
 
