@@ -1,12 +1,9 @@
 //! The program `interleavings`: it reads events of transactions from standard input and prints what each call of the
-//! tail of a
-//! journal and of a transaction answers, so that any interleaving of transactions can be tried. The journal is kept in
-//! memory
-//! and is empty at first. Where the input is no Ion text, no event is done, and the first one is told as the bad one.
-//!
+//! tail of a journal and of a transaction answers, so that any interleaving of transactions can be tried. The journal
+//! is kept in memory and is empty at first. Where the input is no Ion text, no event is done, and the first one is told
+//! as the bad one.
 //! It ends with status 0 where all events were done, 2 where a value spells none, 4 where the input can't be read, 6
-//! where the
-//! output can't be written, and 8 where memory is wanted.
+//! where the output can't be written, and 8 where memory is wanted.
 #![tactic(auto)]
 
 ghost use Rattle.std.specs.Prelude.{◌≡◌, ◌+◌, ◌<◌, ◌≤◌, ◌^◌, [], None, length, IfOk, IfSome};

@@ -63,10 +63,8 @@ impl JournalReader {
 
     /// Takes the bytes of the piece up to and with its first line feed, or all of them where there is none, and answers
     /// their number. A character may be cut by the end of a piece. `Damaged` comes exactly at the first whole line that
-    /// fails
-    /// a check, with the first check that it fails; from then on the answer is the same and nothing is taken. After
-    /// want of
-    /// memory nothing was taken.
+    /// fails a check, with the first check that it fails; from then on the answer is the same and nothing is taken.
+    /// After want of memory nothing was taken.
     pub fn feed(&mut self, piece: &[u8]) -> Result<usize, JournalFault>
         ensures again { IfSome self.old.damaged (λ fault. (result ≡ Err fault) × (self.new ≡ self.old)) }
         ensures taken { OnOk result (taken self.new ≡ taken self.old ++ take_through 10 piece.now) }
@@ -212,8 +210,7 @@ fn registry_for(
 }
 
 /// Puts the block behind the others whose line this text is, with a line feed behind it, if it passes each check, and
-/// gives
-/// the registry with it. The given one is that of the blocks; where there is none it is made anew.
+/// gives the registry with it. The given one is that of the blocks; where there is none it is made anew.
 fn take_line(
     alloc: Global,
     blocks: &mut Blocks,

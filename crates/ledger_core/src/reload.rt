@@ -87,9 +87,8 @@ struct Loaded {
 
 impl<S: JournalStore, C> Tail<S, C> {
     /// The tail of the journal that the store holds, which is read to its end. A rest that is no whole line is left in
-    /// place
-    /// and marked to be cut. The mask is what the first block's strand shows, or the given one where there is no block.
-    /// `Damaged` comes at the first damaged line, and `StoreFault` only where the store failed.
+    /// place and marked to be cut. The mask is what the first block's strand shows, or the given one where there is no
+    /// block. `Damaged` comes at the first damaged line, and `StoreFault` only where the store failed.
     pub fn reload(
         alloc: Global,
         store: S,
@@ -205,8 +204,7 @@ fn read_piece<S: JournalStore>(store: &mut S, at: u64, piece: &mut [u8]) -> Resu
 }
 
 /// Reads the store up to the size that it tells, or to its end, in pieces of at most 65,536 bytes. Each turn takes at
-/// least
-/// one byte.
+/// least one byte.
 fn read_stored<S: JournalStore>(alloc: Global, store: &mut S) -> Result<Stored, LoadCause>
     ensures read { IfOk result (λ stored. IfSome (held (S.told store.old)) (λ held. taken stored.reader ≡ held)) }
     ensures reads { IfOk result (λ stored. stored.reader.damaged ≡ None) }

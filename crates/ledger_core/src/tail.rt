@@ -79,8 +79,7 @@ impl<S: JournalStore, C> Tail<S, C> {
     }
 
     /// The digest of the journal, with its last block as the tip, or None where there is no block. It takes no memory
-    /// and
-    /// hashes nothing.
+    /// and hashes nothing.
     pub fn digest(&self) -> Option<Digest>
         ensures { MatchOption result (self.now.standing.blocks ≡ [])
             (λ digest. IsDigest self.now.standing.blocks (length self.now.standing.blocks - 1) digest) }

@@ -19,8 +19,7 @@ pub struct AloneRan<S: JournalStore, C: Clock> {
 }
 
 /// Runs the job at its place on the tail, by one worker in this thread. All room is made before; where it can't be had,
-/// nothing
-/// is run, and the tail comes back.
+/// nothing is run, and the tail comes back.
 pub fn run_alone<S: JournalStore, C: Clock, G: Gate, R: Wait + Sync>(
     rt: &R,
     alloc: Global,

@@ -15,9 +15,8 @@ use std::sync::Wait;
 use std::thread::Threads;
 
 /// Runs the job of session 0 alone, and then the script's sessions by so many workers, as `run_all` does. The outcomes
-/// are those
-/// of the sessions. Where there is no room for the job, nothing is run, and where there is none behind it, the job
-/// alone.
+/// are those of the sessions. Where there is no room for the job, nothing is run, and where there is none behind it,
+/// the job alone.
 pub fn run_behind_first<
     S: JournalStore + Send,
     C: Clock + Send,

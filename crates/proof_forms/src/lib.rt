@@ -21,8 +21,7 @@ pub struct Digest {
 }
 
 /// A proof that a revision is in the journal of a digest: the header of its block, its index among the block's
-/// revisions,
-/// counted from 0, and the hashes with which its own comes to the digest.
+/// revisions, counted from 0, and the hashes with which its own comes to the digest.
 #[derive(Drop)]
 pub struct Proof {
     pub header: Header,

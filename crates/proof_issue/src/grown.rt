@@ -33,10 +33,8 @@ fn block_at(blocks: &Blocks, sequence: u64, index: u32) -> Result<&Block, NoSuch
 }
 
 /// The proof of a revision of a chained journal by the tree that grew with it, whose leaves are the hashes of its
-/// blocks. It
-/// is that of `prove` with the last block as the tip, and where there is none the refusal is that one's; on no blocks
-/// it is
-/// `Block`.
+/// blocks. It is that of `prove` with the last block as the tip, and where there is none the refusal is that one's; on
+/// no blocks it is `Block`.
 pub fn prove_grown(
     alloc: Global,
     blocks: &Blocks,

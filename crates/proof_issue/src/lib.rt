@@ -136,8 +136,7 @@ fn root_over(alloc: Global, leaves: &[Hash32]) -> Result<Hash32, OutOfMemory>
 }
 
 /// The digest of a chained journal with this tip: the root of the tree over the hashes of its blocks up to the tip,
-/// counted
-/// from 0. There is none exactly where no block has the tip's number.
+/// counted from 0. There is none exactly where no block has the tip's number.
 pub fn digest(alloc: Global, blocks: &Blocks, tip: u64) -> Result<Digest, NoSuch>
     requires { Chained blocks.now.list }
     ensures digest { IfOk result (λ d. IsDigest blocks.now.list tip d) }
@@ -231,11 +230,9 @@ fn proof_of(
 }
 
 /// The proof of a revision of a chained journal, by its block's number and its index there, both counted from 0, for
-/// the
-/// digest with this tip. There is none exactly where, in this order, the tip is no block's number, the number is no
+/// the digest with this tip. There is none exactly where, in this order, the tip is no block's number, the number is no
 /// block's, the block is past the tip, or the index is no revision's. The proof is accepted for each revision that has
-/// its
-/// block's address, as each has in an undamaged journal.
+/// its block's address, as each has in an undamaged journal.
 pub fn prove(
     alloc: Global,
     blocks: &Blocks,

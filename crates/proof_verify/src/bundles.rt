@@ -20,8 +20,7 @@ fn malformed(alloc: Global, field: &str) -> ProofFault
 }
 
 /// The digest, the revision and the proof that three values spell. `Malformed` comes exactly where they spell none,
-/// with
-/// `count` where there aren't three values, and else with the name of the first that can't be read.
+/// with `count` where there aren't three values, and else with the name of the first that can't be read.
 pub fn read_bundle(alloc: Global, v: &Values) -> Result<(Digest, Revision, Proof), ProofFault>
     ensures read { IfOk result (λ bundle. IsBundle v.now bundle.0 bundle.1 bundle.2) }
     ensures unread { IfErr result (λ e. IsUnreadable v.now e) }

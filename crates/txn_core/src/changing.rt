@@ -22,10 +22,8 @@ use std::alloc::Global;
 
 impl Txn {
     /// What changes the documents that the rows of the sources name. It stops with `ReservedName` of the first table in
-    /// the text that
-    /// it writes and that is the ledger's own, with `NoSuchTable` of the first one that isn't active, and where what a
-    /// document
-    /// becomes isn't stored.
+    /// the text that it writes and that is the ledger's own, with `NoSuchTable` of the first one that isn't active, and
+    /// where what a document becomes isn't stored.
     pub(crate) fn change(
         &self,
         alloc: Global,

@@ -17,8 +17,8 @@ use std::alloc::Global;
 
 impl Txn {
     /// What deletes the documents that the rows of the source name. It stops with `ReservedName` where the table's name
-    /// is the ledger's
-    /// own, with `NoSuchTable` where no active table has it, and where there is no room for one document more.
+    /// is the ledger's own, with `NoSuchTable` where no active table has it, and where there is no room for one
+    /// document more.
     pub(crate) fn delete(
         &self,
         alloc: Global,

@@ -17,8 +17,8 @@ use std::alloc::Global;
 
 impl Txn {
     /// Does one statement on the transaction's version and what its statements have done so far. After a refusal the
-    /// transaction is
-    /// ended; after `Ended`, which comes to every statement from then on, and after `OutOfMemory` it is as before.
+    /// transaction is ended; after `Ended`, which comes to every statement from then on, and after `OutOfMemory` it is
+    /// as before.
     #[tactic(auto, using(crate::proofs::Effects::executed_ended, crate::proofs::Effects::executed_done, crate::proofs::Effects::executed_refused, crate::proofs::Effects::executed_wanting))]
     pub fn execute(
         &mut self,
@@ -80,8 +80,7 @@ impl Txn {
     }
 
     /// What the statement does with these parameters. It stops with `ParameterCount` where they are too few or too
-    /// many, and with
-    /// `TooDeep` where one of them is.
+    /// many, and with `TooDeep` where one of them is.
     fn effect_of(
         &self,
         alloc: Global,

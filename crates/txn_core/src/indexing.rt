@@ -21,9 +21,8 @@ const MOST_INDEXES: u64 = 5;
 
 impl Txn {
     /// What makes an index on the field of the table of this name. It stops with `ReservedName` where the name is the
-    /// ledger's own,
-    /// with `NoSuchTable` where no active table has it, with `IndexExists` where the field has an index, and with `TooManyIndexes`
-    /// where the table has as many as it may have.
+    /// ledger's own, with `NoSuchTable` where no active table has it, with `IndexExists` where the field has an index,
+    /// and with `TooManyIndexes` where the table has as many as it may have.
     pub(crate) fn create_index(
         &self,
         alloc: Global,

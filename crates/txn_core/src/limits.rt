@@ -104,8 +104,7 @@ pub(crate) fn not_stored(
 }
 
 /// Why the value isn't stored as a document's content, where it isn't: it is no struct, it nests too deep, its text is
-/// too
-/// long, or there is no room for one document more.
+/// too long, or there is no room for one document more.
 pub(crate) fn not_kept(
     alloc: Global,
     has_room: bool,

@@ -9,8 +9,7 @@ use ledger_model::{Draft, Item, Said, Schema};
 use std::alloc::Global;
 
 /// What was said and changed so far, the pending revisions in order, how many ids were made, and what was read,
-/// statement by
-/// statement, repeats kept.
+/// statement by statement, repeats kept.
 #[derive(Drop)]
 pub(crate) struct Progress {
     pub said: Vec<Said>,

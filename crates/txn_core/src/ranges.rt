@@ -1,6 +1,5 @@
 //! That what a transaction keeps is within the ranges of its types, as every value of these types is. Nothing is done
-//! here
-//! but looking.
+//! here but looking.
 ghost use Rattle.std.specs.Prelude.{IsTrue};
 ghost use Rattle.std.specs.List.{list_all};
 ghost use Rattle.made_blocks.specs.Makes.{IsWithinAll, change_within, content_within, draft_within, said_within};

@@ -146,8 +146,7 @@ fn only_place(sources: &[Source]) -> Option<usize>
 }
 
 /// What the name means of the sources: of those that are spelt alike the last, a BY name counting after the variable of
-/// its
-/// source.
+/// its source.
 fn resolve(name: &str, sources: &[Source]) -> Option<Resolved>
     ensures { result ≡ resolve name.now (map called sources.now) }
 {

@@ -17,8 +17,7 @@ pub enum Ran {
 }
 
 /// Runs all statements of a transaction that has run none. `OutOfMemory` comes also where the transaction makes more
-/// than 2^24 - 1
-/// tables and documents, or has more than 2^32 - 1 statements.
+/// than 2^24 - 1 tables and documents, or has more than 2^32 - 1 statements.
 pub fn run_statements(alloc: Global, txn: Txn, asked: &[Request]) -> Result<Ran, OutOfMemory>
     requires { txn.done ≡ start }
     ensures ran { IfOk result (λ r. ran_of r ≡ run txn.begun txn.base asked.now) }

@@ -18,9 +18,8 @@ use std::alloc::Global;
 use versions::{Table, Versions, active_table};
 use view_rows::{Seen, committed_among, user_rows, view_rows};
 
-/// The tables as a transaction has them, the version that it stands on, and the documents as it has them, each
-/// with its latest
-/// revision, lent: all, or those that are read alone.
+/// The tables as a transaction has them, the version that it stands on, and the documents as it has them, each with its
+/// latest revision, lent: all, or those that are read alone.
 #[derive(Drop)]
 pub struct TableViews<'a> {
     tables: Vec<Table>,

@@ -56,8 +56,7 @@ impl Model for Txn {
 }
 
 /// What a transaction becomes a block of: its place in the script, its number under the mask, what was said and
-/// changed,
-/// and one revision for each document that was touched, with its final content, in order of first touch.
+/// changed, and one revision for each document that was touched, with its final content, in order of first touch.
 #[derive(Drop)]
 pub struct Finished {
     pub mask: IdMask,
@@ -171,8 +170,7 @@ impl Txn {
     }
 
     /// The number of the next id behind so many more. `OutOfMemory` comes also where the transaction has made as many
-    /// as
-    /// it can.
+    /// as it can.
     pub(crate) fn next_id(&self, more: u32) -> Result<u128, OutOfMemory>
         ensures id { IfOk result (λ raw. raw ≡ id_after self.now more) }
         ensures room { OnOk result (more + 1 < 2 ^ 24) }

@@ -36,9 +36,8 @@ fn ends_from(end: &Option<Value>, from: i128) -> bool
     }
 }
 
-/// Whether the start isn't given, or something that was active from one moment, and before another where there is
-/// one, began no
-/// earlier or was still active.
+/// Whether the start isn't given, or something that was active from one moment, and before another where there is one,
+/// began no earlier or was still active.
 fn is_met(start: &Option<Value>, from: i128, to: Option<i128>) -> bool
     ensures { result ≡ on_bound (spec.lasts_from from to) start.now }
 {

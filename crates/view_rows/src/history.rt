@@ -122,8 +122,7 @@ fn rows_backwards(
 }
 
 /// The rows of the table's history between the bounds that meet the probe, in block order. It goes once over all
-/// revisions, from the
-/// last one on.
+/// revisions, from the last one on.
 #[tactic(auto, using(crate::proofs::Shown::rows_historic))]
 pub(crate) fn history_rows(
     alloc: Global,

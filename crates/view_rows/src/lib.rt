@@ -1,6 +1,5 @@
 //! The rows of the three views of a table: its documents as they are now, as they were committed last, and all
-//! revisions that
-//! were active between two moments.
+//! revisions that were active between two moments.
 #![tactic(auto)]
 
 mod bounds;

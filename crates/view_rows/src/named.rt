@@ -75,8 +75,7 @@ pub(crate) fn latest_named(
 }
 
 /// The rows of the table's committed view that meet the probe. It looks a document up that the probe names, and goes
-/// over all
-/// documents otherwise.
+/// over all documents otherwise.
 #[tactic(auto, using(crate::proofs::Naming::committed_alone))]
 pub(crate) fn committed_named(
     alloc: Global,
