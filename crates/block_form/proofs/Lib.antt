@@ -1,10 +1,6 @@
 pub mod Documents
-pub mod Each
 pub mod Counted
 pub mod Tables
-pub mod Inverse
-pub mod SmallParts
-pub mod Fields
 pub mod Hashing
 pub mod OfRevisions
 pub mod OfInfo

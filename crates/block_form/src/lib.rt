@@ -1,20 +1,15 @@
-//! Blocks and revisions as Ion values, and their hashes. `parts` writes the values of the parts of which blocks,
-//! revisions
-//! and proofs are made, and `read_parts` reads them.
+//! Blocks and revisions as Ion values, and their hashes.
 #![tactic(auto)]
 
 mod checked;
 mod hash_checks;
 mod part_hashes;
-pub mod parts;
 mod read_blocks;
 mod read_info;
-pub mod read_parts;
 mod read_revisions;
 mod revisions;
 mod said;
 mod seals;
-mod takes;
 mod values;
 
 pub use checked::{CheckedBlock, checked_from_ion};

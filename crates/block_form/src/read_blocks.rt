@@ -7,13 +7,13 @@ ghost use Rattle.ledger_model.specs.Whole.{is_shallow};
 ghost use Rattle.block_form.specs.ReadBack as spec;
 
 use crate::read_info::into_info;
-use crate::read_parts::{address_in, entry_in, hash_in, id_in, list_in, moment_in, named};
 use crate::read_revisions::into_revisions;
-use crate::takes::{into_fields, into_members, into_named};
 use ion_values::{Field, Fields, OutOfMemory, Value, copy, depth};
 use ledger_model::{Block, Content, Header, Info, Revision, Revisions};
 use ql_types::{Hash, Hash32, TxId};
 use std::alloc::Global;
+use value_parts::read_parts::{address_in, entry_in, hash_in, id_in, list_in, moment_in, named};
+use value_parts::takes::{into_fields, into_members, into_named};
 
 /// The hashes of a block.
 #[derive(Drop)]

@@ -3,12 +3,12 @@ ghost use Rattle.std.specs.Prelude.{◌≡◌, ◌≢◌, [], ◌∷◌, length,
 ghost use Rattle.ledger_model.specs.Script.{each};
 ghost use Rattle.block_form.specs.ReadBack as spec;
 
-use crate::read_parts::{address_in, fields_in, hash_in, id_in, moment_in, named, number_in};
-use crate::takes::{into_fields, into_named, with_room};
 use ion_values::{Field, Fields, OutOfMemory, Value, Values, copy};
 use ledger_model::{Content, Metadata, Revision, Revisions};
 use ql_types::{DocId, TxId};
 use std::alloc::Global;
+use value_parts::read_parts::{address_in, fields_in, hash_in, id_in, moment_in, named, number_in};
+use value_parts::takes::{into_fields, into_named, with_room};
 
 fn metadata_in(v: &Value) -> Option<Metadata>
     ensures { result ≡ spec.metadata_in v.now }

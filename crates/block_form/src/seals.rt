@@ -4,7 +4,6 @@ ghost use Rattle.hash_forms.specs.Serialize.{hash_of};
 ghost use Rattle.ledger_model.specs.Journal.{block_value, header_value, info_value, metadata_value, revision_value};
 ghost use Rattle.ledger_model.specs.Seals.{revision_hash, entries_hash, revisions_root, sealed, strand_hash};
 
-use crate::parts::id_value;
 use crate::revisions::{metadata_value, revision_with};
 use crate::said::info_value;
 use crate::values::{header_value, value_with};
@@ -16,6 +15,7 @@ use pad_tree::root;
 use pair_hash::dot_full;
 use ql_types::{BlockAddress, Hash, Hash32, StrandId};
 use std::alloc::Global;
+use value_parts::parts::id_value;
 
 /// The hash of a revision: that of its metadata with that of its data, which may stand for the data, or of its metadata
 /// alone where it is a delete.

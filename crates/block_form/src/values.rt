@@ -4,17 +4,17 @@ ghost use Rattle.ledger_model.specs.declared.block.Header.{Header};
 ghost use Rattle.ledger_model.specs.Values.{plain};
 ghost use Rattle.ledger_model.specs.Journal.{block_value, front_fields, hash_bytes, hash_fields, header_value, info_value, revision_value};
 
-use crate::parts::{
-    address_value, hash_value, id_value, list, moment, number, plain, put, structure,
-};
 use crate::revisions::revision_values;
 use crate::said::info_value;
-use crate::takes::into_fields;
 use ion_values::{Body, Fields, OutOfMemory, Value, Values};
 use ledger_model::{Block, Header};
 use lists::Sequence;
 use ql_types::Hash;
 use std::alloc::Global;
+use value_parts::parts::{
+    address_value, hash_value, id_value, list, moment, number, plain, put, structure,
+};
+use value_parts::takes::into_fields;
 
 /// The header of a block, as it is hashed and as a proof has it.
 pub fn header_value(alloc: Global, header: &Header) -> Result<Value, OutOfMemory>

@@ -8,7 +8,8 @@ use Rattle.ion_values.specs.declared.value.Body.TheOpen.{Body-F}
 use Rattle.ql_types.specs.declared.Hash32.{Hash32}
 use Rattle.ledger_model.specs.Script.{and_then, each}
 use Rattle.ledger_model.specs.Values.{bare, string_in, list_in, fields_in}
-use Rattle.block_form.specs.ReadBack.{named, hash_in, place_in}
+use Rattle.value_parts.specs.ReadParts.{named, hash_in}
+use Rattle.block_form.specs.ReadBack.{place_in}
 use Rattle.event_form.specs.declared.events.Event.{Event}
 use Rattle.event_form.specs.declared.events.Event.TheVariants.{Begin, Execute, Commit, Abort}
 

@@ -6,11 +6,11 @@ ghost use Rattle.ledger_model.specs.Values.{fields_in, string_in, list_in};
 ghost use Rattle.block_form.specs.ReadBack as spec;
 ghost use Rattle.event_form.specs.Events.{abort_of, begin_of, clock_field, clock_in, commit_of, digest_of, event_in, event_of, execute_of, params_of, time_in, time_of, times_in};
 
-use block_form::read_parts::{fields_in, hash_in, list_in, named, small_number_in, string_in};
 use ion_values::{Body, Field, OutOfMemory, Text, Value, Values, copy_values};
 use lists::Sequence;
 use ql_types::{Hash32, Place};
 use std::alloc::Global;
+use value_parts::read_parts::{fields_in, hash_in, list_in, named, small_number_in, string_in};
 
 /// Times in milliseconds since 1970.
 pub type Times = Sequence<i64>;

@@ -21,7 +21,7 @@ use Rattle.ledger_model.specs.Journal.{header_value, info_value}
 use Rattle.ledger_model.specs.Seals.{sealed, revision_hash, revisions_root, entries_hash}
 use Rattle.ledger_model.specs.Follows.{follows}
 use Rattle.ledger_model.specs.Damages.{strand_of, has_address, has_id, has_time, has_previous, has_hashes, has_revision_hash, same_hash, same_entry, UndamagedBehind}
-use Rattle.block_form.proofs.Inverse.{left, right}
+use Rattle.value_parts.proofs.Inverse.{left, right}
 use Rattle.proof_forms.specs.Chained.{IsLinked, ChainedBehind, Chained, UndamagedIsChained}
 
 -- ---- an undamaged journal is chained

@@ -10,10 +10,10 @@ use Rattle.ledger_model.specs.Values.{fields_in, list_in}
 use Rattle.ledger_model.specs.Journal.{structure, list, number, moment, id_value, hash_value, address_value, header_value}
 use Rattle.ledger_model.specs.Script.{each}
 use Rattle.ledger_model.specs.Whole.{id_fits, hash_fits, address_fits, header_fits}
-use Rattle.block_form.specs.ReadBack.{number_in, moment_in, id_in, hash_in, address_in}
-use Rattle.block_form.proofs.Inverse.{Gets, Puts, took, fields-gets, left, right, cons}
-use Rattle.block_form.proofs.SmallParts.{list-gets, list-puts, fields-puts, below, number-gets, number-puts, id-gets, id-puts, hash-gets, hash-puts, moment-gets, moment-puts}
-use Rattle.block_form.proofs.Fields.{taken, always, each-gets, each-puts, address-gets, address-puts}
+use Rattle.value_parts.specs.ReadParts.{number_in, moment_in, id_in, hash_in, address_in}
+use Rattle.value_parts.proofs.Inverse.{Gets, Puts, took, fields-gets, left, right, cons}
+use Rattle.value_parts.proofs.SmallParts.{list-gets, list-puts, fields-puts, below, number-gets, number-puts, id-gets, id-puts, hash-gets, hash-puts, moment-gets, moment-puts}
+use Rattle.value_parts.proofs.Fields.{taken, always, each-gets, each-puts, address-gets, address-puts}
 use Rattle.proof_forms.specs.declared.Digest.{Digest}
 use Rattle.proof_forms.specs.declared.Proof.{Proof}
 use Rattle.proof_forms.specs.ProofValues.{digest_value, proof_value, digest_fits, proof_fits}

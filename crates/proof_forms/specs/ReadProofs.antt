@@ -7,7 +7,8 @@ use Rattle.ql_types.specs.declared.Hash32.{Hash32}
 use Rattle.ledger_model.specs.declared.block.Header.{Header}
 use Rattle.ledger_model.specs.Values.{list_in, fields_in}
 use Rattle.ledger_model.specs.Script.{and_then, each}
-use Rattle.block_form.specs.ReadBack.{named, number_in, hash_in, address_in, header_of as front_of}
+use Rattle.value_parts.specs.ReadParts.{named, number_in, hash_in, address_in}
+use Rattle.block_form.specs.ReadBack.{header_of as front_of}
 use Rattle.proof_forms.specs.declared.Digest.{Digest}
 use Rattle.proof_forms.specs.declared.Proof.{Proof}
 

@@ -5,11 +5,11 @@ ghost use Rattle.proof_forms.specs.ProofValues.{digest_value, proof_value};
 
 use crate::{Digest, Proof};
 use block_form::header_value;
-use block_form::parts::{address_value, hash_value, list, number, put, structure};
 use ion_values::{OutOfMemory, Value, Values};
 use lists::Sequence;
 use ql_types::Hash32;
 use std::alloc::Global;
+use value_parts::parts::{address_value, hash_value, list, number, put, structure};
 
 fn hash_values(alloc: Global, hashes: &[Hash32]) -> Result<Values, OutOfMemory>
     ensures { IfOk result (λ values. values ≡ map hash_value hashes.now) }

@@ -1,19 +1,20 @@
 //! Digests and proofs that values spell.
 ghost use Rattle.std.specs.Prelude.{◌≡◌, ◌^◌, [], ◌∷◌, IfOk};
 ghost use Rattle.ledger_model.specs.Script.{and_then, each};
-ghost use Rattle.block_form.specs.ReadBack.{hash_in, header_of, named, number_in};
+ghost use Rattle.value_parts.specs.ReadParts.{hash_in, named, number_in};
+ghost use Rattle.block_form.specs.ReadBack.{header_of};
 ghost use Rattle.proof_forms.specs.ReadProofs as spec;
 
 use crate::{Digest, Proof};
-use block_form::read_parts::{
-    address_in, fields_in, hash_in, id_in, list_in, moment_in, named, small_number_in,
-};
 use ion_values::{Field, OutOfMemory, Value};
 use ledger_model::Header;
 use lists::Sequence;
 use pad_tree::Hashes;
 use ql_types::TxId;
 use std::alloc::Global;
+use value_parts::read_parts::{
+    address_in, fields_in, hash_in, id_in, list_in, moment_in, named, small_number_in,
+};
 
 /// The digest whose value this is, or None where it is no digest's.
 pub fn digest_in(v: &Value) -> Option<Digest>

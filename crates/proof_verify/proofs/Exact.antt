@@ -13,7 +13,7 @@ use Rattle.ledger_model.specs.Script.{or_else}
 use Rattle.ledger_model.specs.Seals.{revision_hash}
 use Rattle.ledger_model.specs.Follows.{same_address}
 use Rattle.ledger_model.specs.Damages.{same_hash}
-use Rattle.block_form.proofs.Inverse.{left, right}
+use Rattle.value_parts.proofs.Inverse.{left, right}
 use Rattle.proof_forms.specs.declared.Digest.{Digest}
 use Rattle.proof_forms.specs.declared.Proof.{Proof}
 use Rattle.proof_forms.specs.Verified.{path_length, root_by, Verified}

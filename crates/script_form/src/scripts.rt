@@ -6,15 +6,14 @@ ghost use Rattle.script_form.specs.Answers.{Gives, IsCountable, members_in};
 
 mod fields;
 mod jobs;
-mod parts;
 mod statements;
 
 use ion_values::{OutOfMemory, Value, Values};
 use jobs::{Stop, read_job};
 use ledger_model::{Job, Script, ScriptKind, Session};
 use lists::Sequence;
-use parts::into_list;
 use std::alloc::Global;
+use value_parts::takes::into_list;
 
 /// Why no script is read.
 #[derive(Clone, Copy, Debug, PartialEq, Eq)]

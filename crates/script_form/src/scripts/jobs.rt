@@ -4,10 +4,10 @@ ghost use Rattle.ledger_model.specs.ReadScript.{job_of_fields, job_said, read_jo
 ghost use Rattle.script_form.specs.Answers.{GivesKind};
 
 use super::fields::{abort_said, digest_said, has_unknown, repeats, retries_said, statements_said};
-use super::parts::into_fields;
 use ion_values::{Fields, OutOfMemory, Value};
 use ledger_model::{Job, ScriptKind};
 use std::alloc::Global;
+use value_parts::takes::into_fields;
 
 /// Why no transaction is read.
 #[derive(Clone, Copy, Debug, PartialEq, Eq)]

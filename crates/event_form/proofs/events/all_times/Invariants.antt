@@ -1,6 +1,6 @@
 use Rattle.std.proofs.Common.{◌≡◌, drop, length}
 use Rattle.ledger_model.specs.Script.{each}
-use Rattle.block_form.proofs.Each.{behind}
+use Rattle.value_parts.proofs.Each.{behind}
 use Rattle.event_form.specs.Events.{time_in}
 use Rattle.event_form.proofs.events.all_times.Given as goal
 

@@ -1,7 +1,7 @@
 use Rattle.std.proofs.Common.{◌≡◌, drop}
 use Rattle.ledger_model.specs.Script.{each}
-use Rattle.block_form.specs.ReadBack.{hash_in}
-use Rattle.block_form.proofs.Each.{behind}
+use Rattle.value_parts.specs.ReadParts.{hash_in}
+use Rattle.value_parts.proofs.Each.{behind}
 use Rattle.proof_forms.proofs.read_proofs.hashes_of.Given as goal
 
 -- what was read so far and what the rest gives is what all give

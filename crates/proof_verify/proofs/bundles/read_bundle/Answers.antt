@@ -1,6 +1,6 @@
 use Rattle.std.proofs.Common.{◌≡◌, ◌∙◌, [], ◌∷◌, refl, sym, subst, inl, inr, codes, arith}
 use Rattle.block_form.specs.ReadBack.{revision_in}
-use Rattle.block_form.proofs.Inverse.{cons}
+use Rattle.value_parts.proofs.Inverse.{cons}
 use Rattle.block_form.proofs.OfRevisions.{revision-gets, revision-puts}
 use Rattle.ledger_model.specs.Journal.{revision_value}
 use Rattle.ledger_model.specs.Whole.{is_plain_revision}

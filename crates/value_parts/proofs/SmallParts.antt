@@ -16,8 +16,8 @@ use Rattle.ql_types.specs.declared.Hash.TheVariants.{Empty, Full}
 use Rattle.ledger_model.specs.Values.{plain, bare, fields_at, list_at, string_at, fields_in, list_in, string_in}
 use Rattle.ledger_model.specs.Journal.{structure, list, string, number, moment, id_value, hash_value, hash_bytes}
 use Rattle.ledger_model.specs.Whole.{id_fits, hash_fits, entry_fits}
-use Rattle.block_form.specs.ReadBack.{number_at, number_in, moment_at, moment_in, blob_at, blob_in, id_in, hash_of_bytes, hash_in, entry_of_bytes, entry_in}
-use Rattle.block_form.proofs.Inverse.{Gets, Puts, took, bare-plain}
+use Rattle.value_parts.specs.ReadParts.{number_at, number_in, moment_at, moment_in, blob_at, blob_in, id_in, hash_of_bytes, hash_in, entry_of_bytes, entry_in}
+use Rattle.value_parts.proofs.Inverse.{Gets, Puts, took, bare-plain}
 
 pub list-gets : (v : Value) (vs : List Value) → list_in v ≡ Some vs → v ≡ list vs
 unfolding roll-Body denote.Hole.Carrier.roll

@@ -1,7 +1,7 @@
 //! The parts of blocks that values spell.
 ghost use Rattle.std.specs.Prelude.{◌≡◌, ◌^◌, length, option_map};
 ghost use Rattle.std.specs.Option.{option_copied};
-ghost use Rattle.block_form.specs.ReadBack as spec;
+ghost use Rattle.value_parts.specs.ReadParts as spec;
 
 use ion_values::{Body, Field, IonTime, Value};
 use ledger_model::blob_in;
@@ -68,7 +68,7 @@ fn hash_of_bytes(bytes: &[u8]) -> Option<Hash32>
 }
 
 /// The hash whose bytes an unannotated blob has.
-#[tactic(auto, unfolding(crate::specs::ReadBack::hash_in))]
+#[tactic(auto, unfolding(crate::specs::ReadParts::hash_in))]
 pub fn hash_in(v: &Value) -> Option<Hash32>
     ensures { result ≡ spec.hash_in v.now }
 {

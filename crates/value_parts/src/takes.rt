@@ -2,7 +2,7 @@
 ghost use Rattle.std.specs.Prelude.{◌≡◌, [], IfOk};
 ghost use Rattle.ledger_model.specs.Script.{and_then};
 ghost use Rattle.ledger_model.specs.Values.{fields_in, list_in, string_in};
-ghost use Rattle.block_form.specs.ReadBack as spec;
+ghost use Rattle.value_parts.specs.ReadParts as spec;
 
 use ion_values::{Body, Field, Fields, OutOfMemory, Text, Value, Values};
 use lists::Sequence;

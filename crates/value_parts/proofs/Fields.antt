@@ -11,9 +11,9 @@ use Rattle.ledger_model.specs.Values.{field, fields_in, list_in}
 use Rattle.ledger_model.specs.Journal.{structure, list, number, id_value, address_value}
 use Rattle.ledger_model.specs.Script.{and_then, each}
 use Rattle.ledger_model.specs.Whole.{id_fits, address_fits}
-use Rattle.block_form.specs.ReadBack.{named, number_in, id_in, address_of, address_in}
-use Rattle.block_form.proofs.Inverse.{Gets, Puts, took, fields-gets, left, right, cons}
-use Rattle.block_form.proofs.SmallParts.{list-gets, fields-puts, below, number-gets, number-puts, id-gets, id-puts}
+use Rattle.value_parts.specs.ReadParts.{named, number_in, id_in, address_of, address_in}
+use Rattle.value_parts.proofs.Inverse.{Gets, Puts, took, fields-gets, left, right, cons}
+use Rattle.value_parts.proofs.SmallParts.{list-gets, fields-puts, below, number-gets, number-puts, id-gets, id-puts}
 
 pub named-is : (name : List ℕ) (f : Field) (v : Value) → named name f ≡ Some v → f ≡ field name v
 named-is name f v e = go (bytes_eq f.name name) refl e where

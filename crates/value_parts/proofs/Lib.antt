@@ -1,0 +1,4 @@
+pub mod Each
+pub mod Inverse
+pub mod SmallParts
+pub mod Fields
