@@ -1,9 +1,9 @@
 //! The program: `ledger JOURNAL COMMAND [WORD..]`. It hands the real streams, the journal's file and the system's
-//! clock to the top call, and ends with its status.
+//! clock to the top call, and ends with its status. A standard stream that it was started without fails at each call.
 #![tactic(auto)]
 
 use ledger_cli::ledger_top;
-use outside::{FileStore, FreeGate, InputSource, OutputSink, SystemClock};
+use outside::{FileStore, FreeGate, InputSource, OutputSink, StandardStreams, SystemClock};
 use std::process::ExitCode;
 use std::rt::Env;
 use std::{env, io};
@@ -34,6 +34,9 @@ fn words_of<R: Env + AllocGlobal>(rt: &R) -> Result<Vec<String>, NoJournal> {
 }
 
 fn main(rt: HostRuntime) -> ExitCode {
+    let Ok(_standard) = StandardStreams::hold(&rt) else {
+        return no_streams(&rt);
+    };
     let words = match words_of(&rt) {
         Ok(words) => words,
         Err(NoJournal::OutOfMemory) => return ExitCode::from(8),
@@ -60,6 +63,12 @@ fn main(rt: HostRuntime) -> ExitCode {
         &FreeGate,
     );
     ExitCode::from(ended.status)
+}
+
+/// Says on standard error that the journal might get the descriptor of a standard stream, so that it is not opened.
+fn no_streams(rt: &impl Eprint) -> ExitCode {
+    let _ = rt.eprintln("ledger: no standard streams");
+    ExitCode::from(5)
 }
 
 /// Says on standard error that no journal is named.

@@ -8,6 +8,7 @@ mod input;
 mod journals;
 mod output;
 mod retry;
+mod standard;
 mod transfers;
 
 pub use clock::SystemClock;
@@ -15,3 +16,4 @@ pub use files::FileStore;
 pub use held::LockFile;
 pub use input::InputSource;
 pub use output::OutputSink;
+pub use standard::StandardStreams;
