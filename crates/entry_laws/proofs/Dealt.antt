@@ -5,9 +5,8 @@ use Rattle.ledger_model.specs.declared.outcome.Outcome.{Outcome}
 use Rattle.ledger_model.specs.declared.outcome.Outcome.TheVariants.{Committed, Conflict, Refused, DigestDiffers, StoreFault, JournalFull, IdsSpent, Aborted, OutOfMemory}
 use Rattle.ledger_model.specs.Script.{Placed}
 use Rattle.turn_lock.specs.History.{Stands}
-use Rattle.ledger_claims.specs.Fits.{attempts}
-use Rattle.ledger_claims.specs.SoFar.{InOrder, IsBehind}
-use Rattle.ledger_claims.proofs.Places.{behind_differs}
+use Rattle.entry_laws.specs.Records.{attempts, InOrder, IsBehind}
+use Rattle.entry_laws.proofs.Places.{behind_differs}
 use Rattle.entry_laws.specs.Runs.{Served, dealt, is_dealt}
 use Rattle.entry_laws.proofs.Lists.{stands_all, stands_map}
 use Rattle.entry_laws.proofs.Links.{all_may_draw, may_draw}

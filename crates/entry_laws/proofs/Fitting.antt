@@ -16,13 +16,12 @@ use Rattle.turn_lock.specs.declared.view.Known.{Known}
 use Rattle.turn_lock.specs.History.{Stands}
 use Rattle.turn_lock.proofs.Lists.{prefix_length, prefix_trans}
 use Rattle.made_blocks.proofs.Lists.{all_like}
-use Rattle.ledger_claims.specs.Fits.{RunRecord, Before, FitsBlocks, HasNoBlock, InSessionOrder, IsOfSomeJob, greatest_count, made, mask_of, told_count, told_counts, told_id, told_ids}
-use Rattle.ledger_claims.specs.SoFar.{InOrder, IsBehind}
-use Rattle.ledger_claims.proofs.Numbers.{transaction_of_id}
+use Rattle.entry_laws.specs.Records.{RunRecord, Before, FitsBlocks, HasNoBlock, InSessionOrder, IsOfSomeJob, greatest_count, made, mask_of, told_count, told_counts, told_id, told_ids, InOrder, IsBehind}
+use Rattle.entry_laws.proofs.Numbers.{transaction_of_id}
 use Rattle.core_machine.specs.Entries.{Entry, Opening, Reach, begun_at, failed, reach_at, sealed, wanted}
 use Rattle.entry_laws.specs.Seen.{blocks_in, reach}
 use Rattle.entry_laws.specs.Attempts.{SendsOwn}
-use Rattle.entry_laws.specs.Claims.{EachHolds, FitsInterleaved, IsOfOwnDigest}
+use Rattle.entry_laws.specs.Claims.{EachHolds, Fits, IsOfOwnDigest}
 use Rattle.entry_laws.specs.Runs.{IsRunBy, RunsFit, Served, opening_of}
 use Rattle.entry_laws.proofs.Dealt.{dealt_in_order, dealt_rest, rest_of, same_served}
 use Rattle.entry_laws.proofs.Links.{InTime, IsLink, Link}
@@ -489,7 +488,7 @@ module _ (t : RunRecord) (ss : List Served) (es : List Entry) (pass_of : ℕ →
 
   -- ---- all of it
 
-  pub fits : FitsInterleaved t
+  pub fits : Fits t
   fits = record {
     blocks = blocks_fit;
     digests = digests;

@@ -15,9 +15,8 @@ use Rattle.turn_lock.specs.declared.view.Known.{Known}
 use Rattle.turn_lock.specs.History.{Stands, placed}
 use Rattle.turn_lock.proofs.Lists.{prefix_get, prefix_length, prefix_trans}
 use Rattle.made_blocks.proofs.Lists.{all_front, all_like, all_mapped, all_unmapped}
-use Rattle.ledger_claims.specs.Fits.{RunRecord, HaveOneWorker, greatest, stood_before, told_id, told_ids}
-use Rattle.ledger_claims.specs.SoFar.{InOrder, IsBehind}
-use Rattle.ledger_claims.proofs.Numbers.{transaction_of_id}
+use Rattle.entry_laws.specs.Records.{RunRecord, HaveOneWorker, greatest, stood_before, told_id, told_ids, InOrder, IsBehind}
+use Rattle.entry_laws.proofs.Numbers.{transaction_of_id}
 use Rattle.core_machine.specs.Entries.{Entry, Opening, Reach, begun_at, reach_at, sealed}
 use Rattle.entry_laws.specs.Seen.{blocks_in, reach}
 use Rattle.entry_laws.specs.Alone.{AreNext, EachSpent, HasOneWorker, MeetsNoConflict, OneWorkerInOrder, RunsInOrder, is_spent}

@@ -1,4 +1,10 @@
 pub mod Lists
+pub mod Numbers
+pub mod Places
+pub mod Histories
+pub mod NextBlocks
+pub mod BlocksFit
+pub mod Stored
 pub mod Reaches
 pub mod Makes
 pub mod Grown
@@ -12,15 +18,12 @@ pub mod Owners
 pub mod Order
 pub mod Fitting
 pub mod Tried
-pub mod Earlier
 pub mod Pairs
 pub mod Made
 pub mod NoConflicts
 pub mod InRows
 pub mod InOrder
-pub mod Implied
 pub mod Passes
-pub mod OneList
 pub mod Driving
 pub mod Steps
 mod RunRows

@@ -17,7 +17,7 @@ use Rattle.turn_lock.specs.declared.view.Placed as own
 use Rattle.turn_lock.specs.History.{Stands}
 use Rattle.turn_lock.proofs.Lists.{prefix_self, prefix_trans}
 use Rattle.made_blocks.proofs.Lists.{all_like}
-use Rattle.ledger_claims.specs.Fits.{RunRecord, HasNoBlock, attempts, greatest, stood_before, told_count, told_id}
+use Rattle.entry_laws.specs.Records.{RunRecord, HasNoBlock, attempts, greatest, stood_before, told_count, told_id}
 use Rattle.core_machine.specs.Entries.{Entry, Opening, reach_at}
 use Rattle.entry_laws.specs.Seen.{IsRight, blocks_in, reach}
 use Rattle.entry_laws.specs.Alone.{is_spent}

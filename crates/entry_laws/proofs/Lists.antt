@@ -1,10 +1,29 @@
 -- Beginnings of one list, what stands in a list, and how many numbers a list of them can hold.
-use Rattle.std.proofs.Common.{◌≡◌, ◌⊎◌, ℕ, zero, suc, ◌+◌, ◌<◌, ◌≤◌, ◌==◌, Bool, true, false, not, cond, List, [], ◌∷◌, ◌++◌, map, length, take, slice_get, Some, Contains, sym, refl, ap, ◌∙◌, subst, inl, inr, arith, append_assoc, eqb-true}
+use Rattle.std.proofs.Common.{◌≡◌, ◌⊎◌, ℕ, zero, suc, ◌+◌, ◌<◌, ◌≤◌, ◌==◌, Bool, true, false, not, cond, List, [], ◌∷◌, ◌++◌, map, length, take, drop, slice_get, Some, Contains, sym, refl, ap, ◌∙◌, subst, inl, inr, arith, append_assoc, eqb-true, length-take}
 use Rattle.std.specs.List.{AllByRecursion, filter}
 use Rattle.std.proofs.lemmas.Bool.{eqb-false}
+use Rattle.std.proofs.lemmas.List.{take-append-drop, take-append-le, drop-append-le}
 use mathlib.Core.List.{IsPrefix}
 use Rattle.turn_lock.specs.History.{Stands}
-use Rattle.ledger_claims.proofs.Lists.{slice_get_seam}
+
+pub slice_get_seam : {A : Type 0} (xs : List A) (x : A) (ys : List A) → slice_get (xs ++ x ∷ ys) (length xs) ≡ Some x
+slice_get_seam [] x ys = refl
+slice_get_seam (y ∷ xs) x ys = slice_get_seam xs x ys
+
+-- ---- a list that begins with another one
+
+module _ {A : Type 0} (before after more : List A) (begins : take (length before) after ≡ before) where
+  pub reaches : length before ≤ length after
+  reaches = omega (arith, length-take (length before) after, ap length begins)
+
+  pub whole : before ++ drop (length before) after ≡ after
+  whole = ap (λ xs. xs ++ drop (length before) after) (sym begins) ∙ take-append-drop (length before) after
+
+  pub begins_on : take (length before) (after ++ more) ≡ before
+  begins_on = take-append-le (length before) after more reaches ∙ begins
+
+  pub drop_on : drop (length before) (after ++ more) ≡ drop (length before) after ++ more
+  drop_on = drop-append-le (length before) after more reaches
 
 -- ---- beginnings
 

@@ -7,8 +7,8 @@ use Rattle.ledger_model.specs.declared.outcome.Outcome.TheVariants.{Committed}
 use Rattle.ledger_model.specs.declared.outcome.PlacedOutcome.{PlacedOutcome}
 use Rattle.ledger_model.specs.Script.{Placed}
 use Rattle.turn_lock.specs.History.{Stands}
-use Rattle.ledger_claims.specs.Fits.{RunRecord, IsCommitted, IsOfSomeJob, made}
-use Rattle.entry_laws.specs.Claims.{BlocksAreTold, FitsInterleaved, Holds}
+use Rattle.entry_laws.specs.Records.{RunRecord, IsCommitted, IsOfSomeJob, made}
+use Rattle.entry_laws.specs.Claims.{BlocksAreTold, Fits, Holds}
 use Rattle.entry_laws.specs.Runs.{Served, told_of}
 use Rattle.entry_laws.proofs.Fitting.{contains_stands}
 use Rattle.entry_laws.proofs.Lists.{stands_all, stands_contains, stands_map}
@@ -16,7 +16,7 @@ use Rattle.entry_laws.proofs.Owners.{stands_mapped}
 use Rattle.entry_laws.proofs.Pairs.{AreServed, all_served, get_behind, get_some, got, no_block, once_at}
 use Rattle.entry_laws.proofs.Makes.{is_committed}
 
-module _ (t : RunRecord) (h : FitsInterleaved t) where
+module _ (t : RunRecord) (h : Fits t) where
   pub served : AreServed t [] t.jobs t.outcomes
   served = all_served t [] t.jobs t.outcomes h.outcomes
 

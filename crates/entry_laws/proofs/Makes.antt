@@ -15,7 +15,7 @@ use Rattle.turn_lock.specs.declared.view.Placed as own
 use Rattle.turn_lock.specs.History.{placed}
 use Rattle.turn_lock.proofs.Lists.{prefix_self, prefix_trans}
 use Rattle.made_blocks.proofs.Lists.{all_append, all_like}
-use Rattle.ledger_claims.specs.Fits.{IsOfJob, told_count}
+use Rattle.entry_laws.specs.Records.{IsOfJob, told_count}
 use Rattle.core_machine.specs.Entries.{Entry, Opening, begun_at, failed, sealed, wanted}
 use Rattle.entry_laws.specs.Seen.{blocks_in}
 use Rattle.entry_laws.specs.Attempts.{Adds, Begins, Sees, SendsOwn}

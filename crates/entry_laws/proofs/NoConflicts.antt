@@ -13,14 +13,13 @@ use Rattle.frame_laws.specs.Conflicts.{IsFirst}
 use Rattle.session_driver.specs.Retries.{is_conflict}
 use Rattle.turn_lock.specs.History.{Stands}
 use Rattle.made_blocks.proofs.Lists.{all_like, all_mapped}
-use Rattle.ledger_claims.specs.Fits.{RunRecord, HaveOneWorker}
-use Rattle.ledger_claims.proofs.Lists.{reaches}
+use Rattle.entry_laws.specs.Records.{RunRecord, HaveOneWorker}
+use Rattle.entry_laws.proofs.Lists.{reaches, all_stand, many_stand, stands_all, stands_map}
 use Rattle.entry_laws.specs.Alone.{HasOneWorker, InRow, MeetsNoConflict, NoneConflicts, told_block, told_blocks}
-use Rattle.entry_laws.specs.Claims.{FitsInterleaved, Holds, IsInConflict, RunsBefore}
+use Rattle.entry_laws.specs.Claims.{Fits, Holds, IsInConflict, RunsBefore}
 use Rattle.entry_laws.specs.Runs.{Served, told_of}
 use Rattle.entry_laws.proofs.Grown.{found_first}
 use Rattle.entry_laws.proofs.InRows.{AllLess, Rise, TellsLess, in_row, room_for, told_rise}
-use Rattle.entry_laws.proofs.Lists.{all_stand, many_stand, stands_all, stands_map}
 use Rattle.entry_laws.proofs.Made.{IsMade, holds_of, made_at, served, told_made}
 use Rattle.entry_laws.proofs.Pairs.{AreInOrder, one_first}
 use Rattle.entry_laws.proofs.Told.{IsOne, all_tells, stands_told, tells}
@@ -35,7 +34,7 @@ blocks_told : (ss : List Served) → told_blocks (map told_of ss) ≡ tells told
 blocks_told [] = refl
 blocks_told (s ∷ ss) = ap (λ (xs : List ℕ). told_block s.outcome ++ xs) (blocks_told ss)
 
-module _ (t : RunRecord) (h : FitsInterleaved t) (alone : HasOneWorker t) where
+module _ (t : RunRecord) (h : Fits t) (alone : HasOneWorker t) where
   abbrev all : List Served
   all = (served t h).all
 

@@ -11,8 +11,8 @@ use Rattle.turn_lock.specs.declared.view.Known.{Known}
 use Rattle.turn_lock.specs.History.{Stands}
 use Rattle.turn_lock.proofs.Lists.{prefix_trans}
 use Rattle.made_blocks.proofs.Lists.{all_append, all_like}
-use Rattle.ledger_claims.specs.Fits.{RunRecord, HasNoBlock, HaveOneWorker, attempts, greatest, stood_before, told_id}
-use Rattle.ledger_claims.proofs.Numbers.{transaction_of_id}
+use Rattle.entry_laws.specs.Records.{RunRecord, HasNoBlock, HaveOneWorker, attempts, greatest, stood_before, told_id}
+use Rattle.entry_laws.proofs.Numbers.{transaction_of_id}
 use Rattle.core_machine.specs.Entries.{Entry, Opening, Reach, begun_at, reach_at}
 use Rattle.entry_laws.specs.Seen.{blocks_in, reach}
 use Rattle.entry_laws.specs.Claims.{AllBefore, EachHolds, Holds, RunsBefore, retried, stood_behind}

@@ -6,7 +6,7 @@ use native.Mathlib.Bridge.{le_prop}
 use Rattle.turn_lock.specs.declared.view.Known.{Known}
 use Rattle.turn_lock.specs.declared.view.Placed as own
 use Rattle.turn_lock.specs.History.{Stands, placed}
-use Rattle.ledger_claims.specs.Fits.{RunRecord, attempts, greatest}
+use Rattle.entry_laws.specs.Records.{RunRecord, attempts, greatest}
 use Rattle.core_machine.specs.Entries.{Entry, Opening, reach_at}
 use Rattle.entry_laws.specs.Seen.{reach}
 use Rattle.entry_laws.specs.Runs.{IsRunBy, Served, dealt, is_dealt, opening_of}

@@ -9,7 +9,7 @@ use Rattle.ledger_model.specs.declared.outcome.PlacedOutcome.{PlacedOutcome}
 use Rattle.ledger_model.specs.Script.{Placed}
 use Rattle.turn_lock.specs.History.{Stands}
 use Rattle.made_blocks.proofs.Lists.{all_front, all_like, all_rest}
-use Rattle.ledger_claims.specs.Fits.{RunRecord, Before, HasNoBlock, HaveOneWorker, InSessionOrder}
+use Rattle.entry_laws.specs.Records.{RunRecord, Before, HasNoBlock, HaveOneWorker, InSessionOrder}
 use Rattle.entry_laws.specs.Claims.{AllBefore, EachHolds, Holds, RunsBefore}
 use Rattle.entry_laws.specs.Runs.{Served, told_of}
 use Rattle.entry_laws.proofs.Lists.{stands_all}

@@ -28,10 +28,10 @@ use Rattle.frame_laws.specs.Touches.{conflict}
 use Rattle.session_driver.specs.Retries.{Retried}
 use Rattle.turn_lock.specs.declared.view.Known.{Known}
 use Rattle.turn_lock.specs.History.{Stands, newborn, placed}
-use Rattle.ledger_claims.specs.Fits.{RunRecord, one_time}
+use Rattle.entry_laws.specs.Records.{RunRecord, one_time}
 use Rattle.core_machine.specs.Entries.{Entry, IsRunFrom, Opening, begun_at, reach_at, sealed}
 use Rattle.entry_laws.specs.Attempts.{Attempted}
-use Rattle.entry_laws.specs.Claims.{FitsInterleaved}
+use Rattle.entry_laws.specs.Claims.{Fits}
 use Rattle.entry_laws.specs.Claims as claim
 use Rattle.entry_laws.specs.Runs.{HasWorked, IsRunBy, Served, dealt, opening_of}
 use Rattle.entry_laws.proofs.Fitting.{runs_fit}
@@ -358,7 +358,7 @@ module _ (time : TimeParts) where
       workers = record { worked = worked; seen = seen; owned = owned };
     }
 
-    claimed : FitsInterleaved told
+    claimed : Fits told
     claimed = runs_fit told all_served history pass_of interleaved
 
 -- ---- what the claim refuses

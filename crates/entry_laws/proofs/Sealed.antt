@@ -4,7 +4,7 @@ use Rattle.std.specs.List.{AllByRecursion}
 use mathlib.Core.List.{IsPrefix}
 use Rattle.ledger_model.specs.declared.block.Block.{Block}
 use Rattle.turn_lock.proofs.Lists.{prefix_self, prefix_trans}
-use Rattle.ledger_claims.specs.Fits.{Before, InSessionOrder, mask_of}
+use Rattle.entry_laws.specs.Records.{Before, InSessionOrder, mask_of}
 use Rattle.core_machine.specs.Entries.{Entry, begun_at, failed, sealed, wanted}
 use Rattle.entry_laws.proofs.Reaches.{sealed_in}
 

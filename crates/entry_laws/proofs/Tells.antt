@@ -23,8 +23,8 @@ use Rattle.frame_laws.specs.Touches.{conflict}
 use Rattle.session_driver.specs.Retries.{is_conflict}
 use Rattle.turn_lock.specs.declared.view.Known.{Known}
 use Rattle.turn_lock.proofs.Lists.{prefix_get, prefix_trans}
-use Rattle.ledger_claims.specs.Fits.{RunRecord, HasNoBlock, HasNumber, IsAborted, IsCommitted, IsFresh, IsJournalFull, IsOfJob, IsRefused, IsStoreFault, attempts, greatest, ran_on, stood_before, told_count, told_id}
-use Rattle.ledger_claims.proofs.Lists.{slice_get_seam}
+use Rattle.entry_laws.specs.Records.{RunRecord, HasNoBlock, HasNumber, IsAborted, IsCommitted, IsFresh, IsJournalFull, IsOfJob, IsRefused, IsStoreFault, attempts, greatest, ran_on, stood_before, told_count, told_id}
+use Rattle.entry_laws.proofs.Lists.{slice_get_seam, prefix_front, prefix_take}
 use Rattle.core_machine.specs.Entries.{Entry, Opening, Reach, begun_at, failed, reach_at, sealed, wanted}
 use Rattle.entry_laws.specs.Seen.{IsRight, blocks_in, reach}
 use Rattle.entry_laws.specs.Alone.{is_spent}
@@ -34,7 +34,6 @@ use Rattle.entry_laws.specs.Claims.{Holds, stood_behind}
 use Rattle.entry_laws.specs.Claims as claim
 use Rattle.entry_laws.specs.Runs.{opening_of}
 use Rattle.entry_laws.proofs.Grown.{conflict_on, found_first, stays_full}
-use Rattle.entry_laws.proofs.Lists.{prefix_front, prefix_take}
 use Rattle.entry_laws.proofs.Makes.{IsCommittedAs, IsTriedAs, Makes, Says, adds_later, adds_within, is_committed, makes_both, makes_none, makes_seen, makes_still, makes_two}
 use Rattle.entry_laws.proofs.Reaches.{blocks_on, blocks_sealed, comes_behind, counts_on, fewer_blocks, lasts_on, may_come, run_prefix}
 

@@ -9,9 +9,8 @@ use Rattle.ledger_model.specs.Follows.{all_differ}
 use Rattle.ledger_model.specs.Script.{Placed}
 use Rattle.turn_lock.specs.History.{Stands}
 use Rattle.made_blocks.proofs.Lists.{all_append, all_like, apart}
-use Rattle.ledger_claims.specs.Fits.{greatest_count, told_count, told_counts, told_id, told_ids}
-use Rattle.ledger_claims.specs.SoFar.{InOrder, IsBehind}
-use Rattle.ledger_claims.proofs.Places.{behind_differs}
+use Rattle.entry_laws.specs.Records.{greatest_count, told_count, told_counts, told_id, told_ids, InOrder, IsBehind}
+use Rattle.entry_laws.proofs.Places.{behind_differs}
 use Rattle.entry_laws.specs.Runs.{Served, told_of}
 use Rattle.entry_laws.proofs.Lists.{stands_front, stands_rest}
 

@@ -19,11 +19,10 @@ use Rattle.ledger_model.specs.Script.{Placed}
 use Rattle.turn_lock.specs.declared.view.Known.{Known}
 use Rattle.turn_lock.specs.History.{Stands}
 use Rattle.made_blocks.proofs.Lists.{all_append, all_like}
-use Rattle.ledger_claims.specs.Attempts.{IsNextBlock}
-use Rattle.ledger_claims.specs.Fits.{RunRecord, Before, FitsBlocks, HasTime, IsOfJob, made}
-use Rattle.ledger_claims.specs.SoFar.{IsBehind, standing}
-use Rattle.ledger_claims.proofs.BlocksFit.{FitsBlocks-more}
-use Rattle.ledger_claims.proofs.Lists.{drop_on}
+use Rattle.entry_laws.proofs.NextBlocks.{IsNextBlock, standing}
+use Rattle.entry_laws.specs.Records.{RunRecord, Before, FitsBlocks, HasTime, IsOfJob, made, IsBehind}
+use Rattle.entry_laws.proofs.BlocksFit.{FitsBlocks-more}
+use Rattle.entry_laws.proofs.Lists.{drop_on, one_before, stands_contains, stands_map, stands_parts}
 use Rattle.core_machine.specs.Entries.{Entry, Opening, begun_at, failed, reach_at, sealed, wanted}
 use Rattle.entry_laws.specs.Attempts.{SendsOwn}
 use Rattle.entry_laws.specs.Claims.{IsOfOwnDigest}
@@ -34,7 +33,6 @@ use Rattle.entry_laws.proofs.Dealt.{same_served}
 use Rattle.entry_laws.proofs.Fitting.{blocks_fit, contains_stands, digests, each_made, first, job_there, one_ordered, ordered, owns, same_front, second}
 use Rattle.entry_laws.proofs.Grown.{few_blocks}
 use Rattle.entry_laws.proofs.Links.{Link}
-use Rattle.entry_laws.proofs.Lists.{one_before, stands_contains, stands_map, stands_parts}
 use Rattle.entry_laws.proofs.Makes.{IsCommittedAs, IsTriedAs, Says, is_committed}
 use Rattle.entry_laws.proofs.Owners.{Owner, stands_mapped}
 use Rattle.entry_laws.proofs.Reaches.{reached_blocks, sealed_by, sealed_in}

@@ -1,6 +1,6 @@
 -- Runs of one worker, or of one session: none of its transactions meets a conflict, and its numbers and blocks come in
 -- the script's order (the ledger's own).
-use Rattle.std.specs.Prelude.{◌≡◌, ℕ, ◌+◌, ◌-◌, ◌^◌, ◌≤◌, Bool, true, false, List, [], ◌∷◌, ◌++◌, length, slice_get, None, Some}
+use Rattle.std.specs.Prelude.{◌≡◌, ℕ, ◌+◌, ◌-◌, ◌^◌, ◌≤◌, Bool, true, false, List, [], ◌∷◌, ◌++◌, length}
 use Rattle.std.specs.List.{AllByRecursion}
 use Rattle.ql_types.specs.Ids.{raw_id}
 use Rattle.ledger_model.specs.declared.outcome.Outcome.{Outcome}
@@ -9,13 +9,12 @@ use Rattle.ledger_model.specs.declared.outcome.PlacedOutcome.{PlacedOutcome}
 use Rattle.ledger_model.specs.Script.{Placed}
 use Rattle.session_driver.specs.Retries.{is_conflict}
 use Rattle.turn_lock.specs.declared.view.Known.{Known}
-use Rattle.turn_lock.specs.History.{Stands, placed}
-use Rattle.ledger_claims.specs.Fits.{RunRecord, Fits, HaveOneWorker, greatest, told_ids}
-use Rattle.core_machine.specs.Entries.{Entry, Opening}
-use Rattle.entry_laws.specs.Claims.{FitsInterleaved}
-use Rattle.entry_laws.specs.Runs.{AreWorkers, IsRunBy, Served, Works}
+use Rattle.entry_laws.specs.Records.{RunRecord, HaveOneWorker, greatest, told_ids}
+use Rattle.core_machine.specs.Entries.{Entry}
+use Rattle.entry_laws.specs.Claims.{Fits}
+use Rattle.entry_laws.specs.Runs.{IsRunBy, Served}
 
--- ---- what one job after another meets
+-- ---- no conflict
 
 -- one worker runs all jobs, as where there is one worker or one session
 abbrev pub HasOneWorker : RunRecord → Type 0
@@ -30,17 +29,7 @@ MeetsNoConflict t = AllByRecursion (λ (o : PlacedOutcome). is_conflict o.outcom
 
 -- where one worker runs all jobs, the claim itself leaves no room for a conflict
 abbrev pub NoneConflicts : Type 0
-NoneConflicts = (t : RunRecord) → HasOneWorker t → FitsInterleaved t → MeetsNoConflict t
-
--- ---- one job after another without a lock
-
--- no job sends a digest
-abbrev pub SendsNone : RunRecord → Type 0
-SendsNone t = AllByRecursion (λ (p : Placed). p.job.digest ≡ None) t.jobs
-
--- what is claimed of a run that takes its jobs one after another gives what is claimed of any run
-abbrev pub EarlierFit : Type 0
-EarlierFit = (t : RunRecord) → SendsNone t → Fits t → FitsInterleaved t
+NoneConflicts = (t : RunRecord) → HasOneWorker t → Fits t → MeetsNoConflict t
 
 -- ---- numbers and blocks in the script's order
 
@@ -88,19 +77,3 @@ abbrev pub OneWorkerInOrder : Type 0
 OneWorkerInOrder =
     (t : RunRecord) (ss : List Served) (entries : List Entry) (pass_of : ℕ → Known Entry)
     → IsRunBy t ss entries pass_of → t.workers ≡ 1 → RunsInOrder t
-
--- and what was claimed of runs that take their jobs one after another is claimed of it
-abbrev pub EarlierMet : Type 0
-EarlierMet = (t : RunRecord) → SendsNone t → FitsInterleaved t → RunsInOrder t → Fits t
-
--- ---- one list of entries and no lock
-
--- each entry that it has seen is its own
-abbrev pub OwnsAll : Known Entry → Type 0
-OwnsAll k = (i : ℕ) (e : Entry) → slice_get k.seen i ≡ Some e → Stands (placed i e) k.own
-
--- a worker that runs all jobs with a list of its own is the one worker of a run
-abbrev pub OneListWorks : Type 0
-OneListWorks =
-    (o : Opening) (ss : List Served) (start now : Known Entry)
-    → start.own ≡ [] → Works o ss start now → OwnsAll now → AreWorkers o 1 ss now.seen (λ rest. now)

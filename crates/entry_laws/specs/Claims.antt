@@ -16,7 +16,7 @@ use Rattle.ledger_model.specs.Follows.{all_differ}
 use Rattle.ledger_model.specs.Run.{Progress, ran}
 use Rattle.ledger_model.specs.Script.{Placed}
 use Rattle.frame_laws.specs.Touches.{conflict}
-use Rattle.ledger_claims.specs.Fits.{RunRecord, made, FitsBlocks, HasNumber, HaveOneWorker, IsFresh, HasNoBlock, IsAborted, IsCommitted, IsJournalFull, IsRefused, IsStoreFault, attempts, greatest, greatest_count, ran_on, stood_before, told_counts, told_id, told_ids}
+use Rattle.entry_laws.specs.Records.{RunRecord, made, FitsBlocks, HasNumber, HaveOneWorker, IsFresh, HasNoBlock, IsAborted, IsCommitted, IsJournalFull, IsRefused, IsStoreFault, attempts, greatest, greatest_count, ran_on, stood_before, told_counts, told_id, told_ids}
 use Rattle.entry_laws.specs.Attempts.{SendsOwn}
 
 -- ---- the blocks
@@ -110,7 +110,7 @@ EachHolds t done (p ∷ ps) [] = ⊥
 -- The blocks and the outcomes of the run fit, with any number of workers. No two transactions have one id, no two
 -- outcomes tell one count of failures, and at the end the store has failed as often as the last failure that is told
 -- says, or as at the beginning.
-pub record FitsInterleaved (t : RunRecord) : Type 0 where
+pub record Fits (t : RunRecord) : Type 0 where
   pub blocks : FitsBlocks t
   pub digests : AllByRecursion (IsOfOwnDigest t.jobs) (made t)
   pub outcomes : EachHolds t [] t.jobs t.outcomes
@@ -121,5 +121,5 @@ pub record FitsInterleaved (t : RunRecord) : Type 0 where
 -- each block that was made is told as committed, with its own transaction's id and at its own place
 abbrev pub BlocksAreTold : Type 0
 BlocksAreTold =
-    (t : RunRecord) (k : ℕ) (b : Block) → FitsInterleaved t → length t.before ≤ k → slice_get t.after k ≡ Some b
+    (t : RunRecord) (k : ℕ) (b : Block) → Fits t → length t.before ≤ k → slice_get t.after k ≡ Some b
     → Contains t.outcomes (record { place = b.info.place; outcome = Committed b.header.tx k })

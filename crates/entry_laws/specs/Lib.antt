@@ -1,3 +1,8 @@
+pub mod Calls
+pub mod Records
+pub mod Standings
+pub mod Stores
+pub mod Streams
 pub mod Seen
 pub mod Attempts
 pub mod Claims

@@ -9,12 +9,11 @@ use Rattle.ledger_model.specs.Script.{Placed}
 use Rattle.session_driver.specs.Retries.{Retried}
 use Rattle.turn_lock.specs.declared.view.Known.{Known}
 use Rattle.turn_lock.specs.History.{Stands, placed}
-use Rattle.ledger_claims.specs.Fits.{RunRecord, HasMask, HaveTimes, greatest, made, mask_of}
-use Rattle.ledger_claims.specs.SoFar.{InOrder}
+use Rattle.entry_laws.specs.Records.{RunRecord, HasMask, HaveTimes, greatest, made, mask_of, InOrder}
 use Rattle.core_machine.specs.Entries.{Entry, Opening}
 use Rattle.entry_laws.specs.Seen.{IsRight, blocks_in, reach}
 use Rattle.entry_laws.specs.Attempts.{Attempted}
-use Rattle.entry_laws.specs.Claims.{FitsInterleaved}
+use Rattle.entry_laws.specs.Claims.{Fits}
 
 -- ---- one worker
 
@@ -81,4 +80,4 @@ pub record IsRunBy (t : RunRecord) (ss : List Served) (entries : List Entry) (pa
 abbrev pub RunsFit : Type 0
 RunsFit =
     (t : RunRecord) (ss : List Served) (entries : List Entry) (pass_of : ℕ → Known Entry)
-    → IsRunBy t ss entries pass_of → FitsInterleaved t
+    → IsRunBy t ss entries pass_of → Fits t

@@ -4,7 +4,7 @@ use Rattle.std.specs.Prelude.{◌≡◌, ℕ, List, [], ◌∷◌, ◌++◌, len
 use Rattle.std.specs.List.{AllByRecursion}
 use Rattle.ledger_model.specs.declared.block.Block.{Block}
 use Rattle.ledger_model.specs.Damages.{Undamaged}
-use Rattle.ledger_claims.specs.Fits.{RunRecord, FitsBlocks, HasTime}
+use Rattle.entry_laws.specs.Records.{RunRecord, FitsBlocks, HasTime}
 use Rattle.turn_lock.specs.declared.view.Known.{Known}
 use Rattle.core_machine.specs.Entries.{Entry, begun_at, failed, sealed, wanted}
 use Rattle.entry_laws.specs.Claims.{IsOfOwnDigest}

@@ -2,7 +2,7 @@
 //! outcomes: definitions, and laws of them.
 #![tactic(auto)]
 
-ghost use Rattle.entry_laws.specs.Alone.{EarlierFit, EarlierMet, NoneConflicts, OneListWorks, OneWorkerInOrder};
+ghost use Rattle.entry_laws.specs.Alone.{NoneConflicts, OneWorkerInOrder};
 ghost use Rattle.entry_laws.specs.Claims.{BlocksAreTold};
 ghost use Rattle.entry_laws.specs.Passes.{PassesWork};
 ghost use Rattle.entry_laws.specs.Runs.{RunsFit};
@@ -47,11 +47,6 @@ pub fn blocks_are_told()
     ensures { BlocksAreTold }
 {}
 
-/// What is claimed of a run that takes its jobs one after another, without digests, is claimed of any run.
-pub fn earlier_fit()
-    ensures { EarlierFit }
-{}
-
 /// Where one worker runs all jobs, the claim leaves no room for a conflict.
 pub fn none_conflicts()
     ensures { NoneConflicts }
@@ -60,14 +55,4 @@ pub fn none_conflicts()
 /// A run by one worker has no conflict, and its numbers and its blocks come in the script's order.
 pub fn one_worker_in_order()
     ensures { OneWorkerInOrder }
-{}
-
-/// With that and without digests, the claim of any run gives the claim of a run that takes its jobs one after another.
-pub fn earlier_met()
-    ensures { EarlierMet }
-{}
-
-/// A worker that runs all jobs with a list of its own, without a lock, is the one worker of a run.
-pub fn one_list_works()
-    ensures { OneListWorks }
 {}

@@ -1,5 +1,4 @@
--- What a run claims of the blocks that it leaves and of the outcomes that it tells: the blocks are one serial history,
--- and each outcome is true of it.
+-- The record of a run of many sessions, what is claimed of the blocks that it leaves, and what single outcomes say.
 use Rattle.std.specs.Prelude.{◌≡◌, ℕ, ◌+◌, ◌^◌, ◌%◌, ◌<◌, ◌≤◌, ◌-◌, max, ℤ, List, [], ◌∷◌, ◌++◌, length, take, drop, slice_get, Option, Some, None, IfSome, Contains, true, false}
 use Rattle.std.specs.List.{AllByRecursion}
 use Rattle.ion_values.specs.declared.time.TimeParts.{TimeParts}
@@ -16,7 +15,6 @@ use Rattle.ledger_model.specs.declared.outcome.Refusal.{Refusal}
 use Rattle.ledger_model.specs.State.{state}
 use Rattle.ledger_model.specs.Run.{Progress, Ran, run, ran, refused}
 use Rattle.ledger_model.specs.Legal.{Legal, asked_in}
-use Rattle.ledger_model.specs.Follows.{all_differ}
 use Rattle.ledger_model.specs.Damages.{Undamaged}
 use Rattle.ledger_model.specs.Making.{time_behind}
 use Rattle.ledger_model.specs.Script.{Placed}
@@ -43,11 +41,22 @@ pub record RunRecord : Type 0 where
   pub after : List Block
   pub outcomes : List PlacedOutcome
 
+-- ---- the order of the jobs
+
+-- the job isn't of this place's session, or it has a greater number there
+abbrev pub IsBehind : Place → Placed → Type 0
+IsBehind place p = place.session ≡ p.place.session → place.transaction < p.place.transaction
+
+-- of two jobs of one session the later one has the greater number
+abbrev pub InOrder : List Placed → Type 0
+InOrder [] = Unit {0}
+InOrder (p ∷ ps) = AllByRecursion (IsBehind p.place) ps × InOrder ps
+
+-- ---- the blocks
+
 -- the blocks that the run made
 abbrev pub made : RunRecord → List Block
 made t = drop (length t.before) t.after
-
--- ---- the blocks
 
 -- the mask is what the first block's strand shows, or this one where there is no block
 abbrev pub mask_of : ℕ → List Block → ℕ
@@ -167,19 +176,6 @@ stood_before (DigestDiffers tx since mine given) = Some since
 stood_before (Aborted tx since) = Some since
 stood_before _ = None
 
--- how many stood behind it, its own counted
-abbrev pub stood_behind : Outcome → Option ℕ
-stood_behind (Committed tx block) = Some (block + 1)
-stood_behind other = stood_before other
-
--- Of two transactions the first one was over when the second one began: it has the smaller number, and the second one
--- ran on all blocks that stood behind the first one.
-pub record RunsBefore (mask : ℕ) (first second : Outcome) : Type 0 where
-  pub numbers :
-      AllByRecursion (λ m. AllByRecursion (λ n. transaction_in mask m < transaction_in mask n) (told_id second))
-      (told_id first)
-  pub blocks : IfSome (stood_behind first) (λ m. IfSome (stood_before second) (λ n. m ≤ n))
-
 -- the transaction ran on the first `since` blocks, and those before the run are among them
 pub record IsFresh (t : RunRecord) (since : ℕ) : Type 0 where
   pub from_before : length t.before ≤ since
@@ -241,49 +237,6 @@ pub record IsJournalFull (t : RunRecord) (p : Placed) (tx : TxId) (blocks : ℕ)
   pub told : blocks ≡ 2 ^ 32 - 1
   pub blockless : HasNoBlock t p
 
--- no number is left: the journal and the jobs in front, of which each one uses at most one number, have used all below
--- 2^64
-pub record IsSpent (t : RunRecord) (done : List PlacedOutcome) (p : Placed) (last : ℕ) : Type 0 where
-  pub greatest_last : last ≡ 2 ^ 64 - 1
-  pub used : 2 ^ 64 - 1 ≤ greatest t.mask t.before + length done
-  pub blockless : HasNoBlock t p
-
--- what an outcome says is true, behind the outcomes of the jobs in front; want of memory may come to any transaction.
--- No digest is sent and no two transactions run at once so far.
-abbrev pub Holds : RunRecord → List PlacedOutcome → Placed → Outcome → Type 0
-Holds t done p (Committed tx block) = IsCommitted t p tx block
-Holds t done p (Conflict tx since named) = ⊥
-Holds t done p (Refused tx since statement cause) = IsRefused t p tx since statement cause
-Holds t done p (DigestDiffers tx since mine given) = ⊥
-Holds t done p (StoreFault tx count) = IsStoreFault t p tx count
-Holds t done p (JournalFull tx blocks) = IsJournalFull t p tx blocks
-Holds t done p (IdsSpent last) = IsSpent t done p last
-Holds t done p (Aborted tx since) = IsAborted t p tx since
-Holds t done p OutOfMemory = HasNoBlock t p
-
 -- Of so many workers one runs both of these sessions: the sessions are dealt to the workers in turn.
 abbrev pub HaveOneWorker : ℕ → ℕ → ℕ → Type 0
 HaveOneWorker workers first second = first % workers ≡ second % workers
-
--- the transactions with these outcomes that the job's worker runs ran before the job's own, which has this outcome
-abbrev pub AllBefore : RunRecord → List PlacedOutcome → Placed → Outcome → Type 0
-AllBefore t done p outcome =
-    AllByRecursion
-    (λ o. HaveOneWorker t.workers o.place.session p.place.session → RunsBefore t.mask o.outcome outcome) done
-
--- An outcome for each job, in order, behind those of the jobs in front. Those of the same worker ran before it.
-abbrev pub EachHolds : RunRecord → List PlacedOutcome → List Placed → List PlacedOutcome → Type 0
-EachHolds t done [] [] = Unit {0}
-EachHolds t done (p ∷ ps) (o ∷ os) =
-    (o.place ≡ p.place) × Holds t done p o.outcome × AllBefore t done p o.outcome × EachHolds t (done ++ o ∷ []) ps os
-EachHolds t done [] (o ∷ os) = ⊥
-EachHolds t done (p ∷ ps) [] = ⊥
-
--- The blocks and the outcomes of the run fit. No two transactions have one id, no two outcomes tell one count of
--- failures, and at the end the store has failed as often as the last failure that is told says, or as at the beginning.
-pub record Fits (t : RunRecord) : Type 0 where
-  pub blocks : FitsBlocks t
-  pub outcomes : EachHolds t [] t.jobs t.outcomes
-  pub numbers : all_differ (told_ids t.outcomes) ≡ true
-  pub counts : all_differ (told_counts t.outcomes) ≡ true
-  pub faults : t.closed ≡ greatest_count t.opened (told_counts t.outcomes)

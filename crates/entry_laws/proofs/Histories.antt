@@ -4,9 +4,9 @@ use Rattle.std.specs.List.{AllByRecursion}
 use Rattle.ledger_model.specs.declared.block.Block.{Block}
 use Rattle.ledger_model.specs.State.{State, state, state_from, after}
 use Rattle.ledger_model.specs.Legal.{Means, LegalFrom, Legal}
-use Rattle.ledger_claims.specs.Fits.{mask_of, Times, HasTime, HaveTimes, Before, InSessionOrder}
+use Rattle.entry_laws.specs.Records.{mask_of, Times, HasTime, HaveTimes, Before, InSessionOrder}
 use Rattle.made_blocks.proofs.Lists.{all_append}
-use Rattle.ledger_claims.proofs.Lists.{whole, begins_on, drop_on}
+use Rattle.entry_laws.proofs.Lists.{whole, begins_on, drop_on}
 
 -- ---- what stands behind the last block
 

@@ -1,11 +1,10 @@
 -- The order of the jobs of a script.
-use Rattle.std.proofs.Common.{◌≡◌, ℕ, ◌+◌, ◌<◌, ◌≤◌, List, [], ◌∷◌, ◌++◌, sym, ap, subst, arith}
+use Rattle.std.proofs.Common.{◌≡◌, ℕ, ◌+◌, ◌<◌, ◌≤◌, List, [], ◌∷◌, ◌++◌, ap, arith}
 use Rattle.std.specs.List.{AllByRecursion}
 use Rattle.ql_types.specs.declared.Place.{Place}
-use Rattle.ledger_model.specs.declared.block.Block.{Block}
 use Rattle.ledger_model.specs.declared.script.Job.{Job}
 use Rattle.ledger_model.specs.Script.{Placed, placed_from, all_placed_from, all_placed}
-use Rattle.ledger_claims.specs.SoFar.{IsBehind, InOrder, AreBehind}
+use Rattle.entry_laws.specs.Records.{IsBehind, InOrder}
 use Rattle.made_blocks.proofs.Lists.{all_append, all_like}
 
 -- ---- the jobs of a script are in order
@@ -73,32 +72,10 @@ sessions-InOrder session (jobs ∷ more) =
 pub InOrder-all_placed : (script : List (List Job)) → InOrder (all_placed script)
 InOrder-all_placed script = sessions-InOrder 1 script
 
--- ---- one job among others
-
-pub InOrder-rest : (ps qs : List Placed) → InOrder (ps ++ qs) → InOrder qs
-InOrder-rest [] qs order = order
-InOrder-rest (p ∷ ps) qs order = InOrder-rest ps qs order.1
-
-first_behind : (P : Placed → Type 0) (ps : List Placed) (q : Placed) (qs : List Placed)
-    → AllByRecursion P (ps ++ q ∷ qs) → P q
-first_behind P [] q qs h = h.0
-first_behind P (p ∷ ps) q qs h = first_behind P ps q qs h.1
-
--- the job is behind each one in front of it
-pub InOrder-front : (ps : List Placed) (q : Placed) (qs : List Placed) → InOrder (ps ++ q ∷ qs)
-    → AllByRecursion (λ p. IsBehind p.place q) ps
-InOrder-front [] q qs order = tt
-InOrder-front (p ∷ ps) q qs order = (first_behind (IsBehind p.place) ps q qs order.0, InOrder-front ps q qs order.1)
+-- ---- places
 
 pub behind_differs : (place : Place) (p : Placed) → IsBehind place p → place ≡ p.place → ⊥
 behind_differs place p behind same =
     let less : place.transaction < p.place.transaction = behind (ap (λ (x : Place). x.session) same) in
     let e : place.transaction ≡ p.place.transaction = ap (λ (x : Place). x.transaction) same in
     omega arith
-
--- blocks of the job itself have those behind it behind them
-pub behind_own : (p : Placed) (rest : List Placed) (bs : List Block) → InOrder (p ∷ rest)
-    → AllByRecursion (λ b. b.info.place ≡ p.place) bs → AreBehind bs rest
-behind_own p rest bs order own =
-    all_like (λ (b : Block). b.info.place ≡ p.place) (λ b. AllByRecursion (IsBehind b.info.place) rest)
-    (λ b is. subst (λ (x : Place). AllByRecursion (IsBehind x) rest) (sym is) order.0) bs own

@@ -1,18 +1,19 @@
--- The blocks of a run fit its jobs before the first job, and after each block that is appended.
+-- The blocks of a run fit its jobs still where a block is appended.
 use Rattle.std.proofs.Common.{◌≡◌, ℕ, ◌<◌, List, [], ◌∷◌, ◌++◌, length, drop, sym, subst, Contains}
 use Rattle.std.specs.List.{AllByRecursion}
 use Rattle.ion_values.specs.declared.time.TimeParts.{TimeParts}
 use Rattle.ledger_model.specs.declared.block.Block.{Block}
 use Rattle.ledger_model.specs.declared.outcome.PlacedOutcome.{PlacedOutcome}
 use Rattle.ledger_model.specs.Script.{Placed}
-use Rattle.ledger_claims.specs.Fits.{RunRecord, made, IsTimeIn, HasTime, HaveTimes, Before, IsOfSomeJob, InSessionOrder, FitsBlocks}
-use Rattle.ledger_claims.specs.Attempts.{IsNextBlock}
-use Rattle.ledger_claims.specs.SoFar.{IsBehind, AreBehind, SoFar, standing}
 use Rattle.made_blocks.proofs.Lists.{all_append, all_like}
-use Rattle.ledger_claims.proofs.Lists.{Contains_seam, whole, begins_on, drop_on}
-use Rattle.ledger_claims.proofs.Histories.{Legal-more, strand_more, times_more, once_more}
-use Rattle.ledger_claims.proofs.NextBlocks.{next-Means, next-strand, next-time, next-place, next-IsOfJob}
-use Rattle.ledger_claims.proofs.Growing.{grown}
+use Rattle.entry_laws.specs.Records.{RunRecord, made, IsBehind, IsTimeIn, HasTime, HaveTimes, Before, IsOfSomeJob, InSessionOrder, FitsBlocks}
+use Rattle.entry_laws.proofs.Histories.{Legal-more, strand_more, times_more, once_more}
+use Rattle.entry_laws.proofs.Lists.{whole, begins_on, drop_on}
+use Rattle.entry_laws.proofs.NextBlocks.{IsNextBlock, next-IsOfJob, next-Means, next-place, next-strand, next-time, standing}
+
+-- the record with these blocks, outcomes and count of failures
+abbrev pub grown : RunRecord → List Block → List PlacedOutcome → ℕ → RunRecord
+grown t blocks outcomes closed = record t { after = blocks; outcomes = outcomes; closed = closed }
 
 -- ---- no block more
 
@@ -29,12 +30,6 @@ FitsBlocks-same t outcomes closed h = record {
   of_jobs = h.of_jobs;
   once = h.once;
 }
-
-pub FitsBlocks-kept : (t : RunRecord) (blocks : List Block) (outcomes : List PlacedOutcome) (closed : ℕ)
-    → blocks ≡ t.after → FitsBlocks t
-    → FitsBlocks (grown t blocks outcomes closed)
-FitsBlocks-kept t blocks outcomes closed same h =
-    subst (λ (x : List Block). FitsBlocks (grown t x outcomes closed)) (sym same) (FitsBlocks-same t outcomes closed h)
 
 -- ---- one block more
 
@@ -84,30 +79,3 @@ module _ (t : RunRecord) (time : TimeParts) (among : IsTimeIn t.times time) (p :
     of_jobs = of_jobs_on among;
     once = once_on behind;
   }
-
--- ---- of the job that comes next
-
-pub job_among : (t : RunRecord) (done : List Placed) (p : Placed) (rest : List Placed) → t.jobs ≡ done ++ p ∷ rest
-    → Contains t.jobs p
-job_among t done p rest jobs = subst (λ (x : List Placed). Contains x p) (sym jobs) (Contains_seam done p rest)
-
-pub each_behind : (p : Placed) (rest : List Placed) (bs : List Block) → AreBehind bs (p ∷ rest)
-    → AllByRecursion (λ c. IsBehind c.info.place p) bs
-each_behind p rest bs behind =
-    all_like (λ (c : Block). AllByRecursion (IsBehind c.info.place) (p ∷ rest)) (λ c. IsBehind c.info.place p)
-    (λ c h. h.0) bs behind
-
-pub others_behind : (p : Placed) (rest : List Placed) (bs : List Block) → AreBehind bs (p ∷ rest) → AreBehind bs rest
-others_behind p rest bs behind =
-    all_like (λ (c : Block). AllByRecursion (IsBehind c.info.place) (p ∷ rest))
-    (λ c. AllByRecursion (IsBehind c.info.place) rest) (λ c h. h.1) bs behind
-
--- with the block that the next job becomes, whatever is told
-pub FitsBlocks-next : (t : RunRecord) (time : TimeParts) → IsTimeIn t.times time
-    → (done : List Placed) (p : Placed) (rest : List Placed) (last : ℕ)
-    (b : Block) (outcomes : List PlacedOutcome) (closed : ℕ) → SoFar t done (p ∷ rest) last
-    → IsNextBlock (standing t last) time p b
-    → FitsBlocks (grown t (t.after ++ b ∷ []) outcomes closed)
-FitsBlocks-next t time among done p rest last b outcomes closed so next =
-    FitsBlocks-more t time among p b last so.blocks next outcomes closed (job_among t done p rest so.jobs)
-    (each_behind p rest (made t) so.behind)

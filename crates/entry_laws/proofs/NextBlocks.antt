@@ -1,7 +1,6 @@
 -- What holds of the block that a job becomes as the next transaction.
 use Rattle.std.proofs.Common.{◌≡◌, ◌+◌, List, [], ◌∷◌, map, refl, sym, ap, subst, ◌∙◌}
 use Rattle.ion_values.specs.declared.time.TimeParts.{TimeParts}
-use Rattle.ql_types.specs.Ids.{raw_id}
 use Rattle.ql_types.specs.declared.Place.{Place}
 use Rattle.ledger_model.specs.declared.block.Block.{Block}
 use Rattle.ledger_model.specs.declared.block.Draft.{Draft}
@@ -14,8 +13,20 @@ use Rattle.ledger_model.specs.Legal.{asked_in, Means}
 use Rattle.ledger_model.specs.Making.{block_of, header_of, revision_of, time_behind}
 use Rattle.ledger_model.specs.Script.{Placed}
 use Rattle.ledger_model.proofs.SaidLemmas.{said_of_run}
-use Rattle.ledger_claims.specs.Fits.{IsOfJob}
-use Rattle.ledger_claims.specs.Attempts.{Standing, IsNextBlock, next}
+use Rattle.entry_laws.specs.Records.{RunRecord, IsOfJob}
+use Rattle.entry_laws.specs.Standings.{Standing, next}
+
+-- what the ledger stands for behind the run's blocks, where this number was the last one
+abbrev pub standing : RunRecord → ℕ → Standing
+standing t last = record { mask = t.mask; last = last; blocks = t.after }
+
+-- the block that the job becomes as the next transaction, behind the blocks so far
+pub record IsNextBlock (s : Standing) (time : TimeParts) (p : Placed) (b : Block) : Type 0 where
+  pub made : IsMadeOf (next s) s.blocks p.place time p.job.statements b
+  pub undamaged : Undamaged (s.blocks ++ b ∷ [])
+  pub commits : p.job.abort ≡ false
+  pub room : length s.blocks < 2 ^ 32 - 1
+  pub counted : s.last + 1 < 2 ^ 64
 
 -- ---- its revisions
 
@@ -56,9 +67,6 @@ module _ (s : Standing) (time : TimeParts) (p : Placed) (b : Block) (is : IsNext
 
   pub next-place : b.info.place ≡ p.place
   next-place = ap (λ (x : Block). x.info.place) block_is
-
-  pub next-id : b.header.tx.raw ≡ raw_id s.mask (s.last + 1) 0
-  next-id = ap (λ (x : Block). x.header.tx.raw) block_is
 
   pub next-strand : b.header.address.strand.raw ≡ s.mask
   next-strand = ap (λ (x : Block). x.header.address.strand.raw) block_is

@@ -13,6 +13,10 @@ HasJournal blocks held = IfSome held (λ bytes. (rest : List ℕ) × IsJournal b
 abbrev pub Holding : List Block → Option (List ℕ) → Type 0
 Holding blocks held = IfSome held (λ bytes. bytes ≡ journal_bytes blocks)
 
+-- the store holds the lines of these blocks, and behind them these bytes
+abbrev pub HoldsBehind : List Block → List ℕ → Option (List ℕ) → Type 0
+HoldsBehind blocks rest held = IfSome held (λ bytes. bytes ≡ journal_bytes blocks ++ rest)
+
 -- all bytes of the store are synced
 abbrev pub IsSynced : StoreTold → Type 0
 IsSynced told = IfSome told.content (λ content. content.synced ≡ length content.bytes)
