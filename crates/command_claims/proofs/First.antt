@@ -8,8 +8,8 @@ use Rattle.ledger_model.specs.declared.outcome.Outcome.TheVariants.{Committed}
 use Rattle.ledger_model.specs.declared.outcome.PlacedOutcome.{PlacedOutcome}
 use Rattle.ledger_model.specs.Script.{Placed}
 use Rattle.turn_lock.specs.History.{Stands}
-use Rattle.ledger_claims.specs.Fits.{RunRecord, InSessionOrder, IsOfSomeJob}
-use Rattle.entry_laws.specs.Claims.{EachHolds, FitsInterleaved, Holds}
+use Rattle.entry_laws.specs.Records.{RunRecord, InSessionOrder, IsOfSomeJob}
+use Rattle.entry_laws.specs.Claims.{EachHolds, Fits, Holds}
 use Rattle.entry_laws.proofs.Fitting.{contains_stands}
 use Rattle.entry_laws.proofs.Lists.{stands_all}
 use Rattle.entry_laws.proofs.Made.{blocks_are_told}
@@ -57,8 +57,8 @@ place_of t done (p ∷ ps) (o ∷ os) x h (inr among) =
 
 module _ (t alone : RunRecord) (p : Placed) (jobs : List Placed) (o : PlacedOutcome) (os : List PlacedOutcome) (none : t.before ≡ [])
     (jobs_are : t.jobs ≡ p ∷ jobs) (outcomes_are : t.outcomes ≡ o ∷ os)
-    (behind : AllByRecursion (λ (q : Placed). 0 < q.place.session) jobs) (fits : FitsInterleaved t) (before_none : alone.before ≡ [])
-    (job_is : alone.jobs ≡ p ∷ []) (outcome_is : alone.outcomes ≡ o ∷ []) (alone_fits : FitsInterleaved alone) where
+    (behind : AllByRecursion (λ (q : Placed). 0 < q.place.session) jobs) (fits : Fits t) (before_none : alone.before ≡ [])
+    (job_is : alone.jobs ≡ p ∷ []) (outcome_is : alone.outcomes ≡ o ∷ []) (alone_fits : Fits alone) where
   all_hold : EachHolds t [] (p ∷ jobs) (o ∷ os)
   all_hold =
       subst (λ (ps : List Placed). EachHolds t [] ps (o ∷ os)) jobs_are

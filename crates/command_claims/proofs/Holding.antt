@@ -3,9 +3,9 @@ use Rattle.std.proofs.Common.{ℕ, List}
 use Rattle.ledger_model.specs.Script.{Placed}
 use Rattle.command_words.specs.declared.MakeOptions.{MakeOptions}
 use Rattle.outside.specs.Told.{StoreTold, held}
-use Rattle.ledger_claims.specs.Calls.{Span}
-use Rattle.ledger_claims.specs.Fits.{RunRecord}
-use Rattle.ledger_claims.proofs.Left.{all-HoldingWithRest}
+use Rattle.entry_laws.specs.Calls.{Span}
+use Rattle.entry_laws.specs.Records.{RunRecord}
+use Rattle.entry_laws.proofs.Stored.{all-HoldingWithRest}
 use Rattle.command_claims.specs.Clocks.{Answers}
 use Rattle.command_claims.specs.Making.{IsSummaryOf, made_jobs, made_terms}
 use Rattle.command_claims.specs.Runs.{Terms, IsDone, IsLeft, IsReportOf, HoldsRun}

@@ -2,7 +2,7 @@
 use Rattle.std.specs.Prelude.{ℤ, List, Option, String}
 use Rattle.std.specs.declared.alloc.Global.{Global}
 use Rattle.outside.specs.Told.{SourceTold, SinkTold, StoreTold}
-use Rattle.ledger_claims.specs.Calls.{Span}
+use Rattle.entry_laws.specs.Calls.{Span}
 
 -- what the source and the store told at entry and at the end, and the answers that the clock had given, where it tells
 -- them

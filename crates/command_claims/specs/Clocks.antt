@@ -6,8 +6,8 @@ use Rattle.ion_time.specs.Millis.{BeginsAt, nearest}
 use Rattle.ion_values.specs.declared.time.TimeParts.{TimeParts}
 use Rattle.command_words.specs.declared.IdSource.{IdSource}
 use Rattle.command_words.specs.declared.IdSource.TheVariants as ids
-use Rattle.ledger_claims.specs.Calls.{Span}
-use Rattle.ledger_claims.specs.Fits.{Times, one_time, answered, untold}
+use Rattle.entry_laws.specs.Calls.{Span}
+use Rattle.entry_laws.specs.Records.{Times, one_time, answered, untold}
 
 -- the answers that a clock has given, where it tells them
 abbrev pub Answers : Type 0

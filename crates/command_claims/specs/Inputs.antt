@@ -6,8 +6,8 @@ use Rattle.ion_values.specs.declared.value.Value.{Value}
 use Rattle.ledger_model.specs.declared.script.Job.{Job}
 use Rattle.ledger_model.specs.Judging.{Judged, faulty, misspelt, scripted, judged}
 use Rattle.outside.specs.Told.{SourceTold}
-use Rattle.ledger_claims.specs.Calls.{Span}
-use Rattle.ledger_claims.specs.Streams.{Taken, WasRead}
+use Rattle.entry_laws.specs.Calls.{Span}
+use Rattle.entry_laws.specs.Streams.{Taken, WasRead}
 use Rattle.command_claims.specs.Lines.{BadInput}
 use Rattle.command_claims.specs.Lines as bad
 

@@ -13,8 +13,8 @@ use Rattle.proof_forms.specs.Issued.{IsDigest, proof_for}
 use Rattle.proof_forms.specs.Verified.{Verified}
 use Rattle.proof_issue.specs.declared.NoSuch.{NoSuch}
 use Rattle.proof_issue.specs.Refusals.{past_end, refusal}
-use Rattle.ledger_claims.specs.Calls.{Span}
-use Rattle.ledger_claims.specs.Stores.{HasJournal}
+use Rattle.entry_laws.specs.Calls.{Span}
+use Rattle.entry_laws.specs.Stores.{HasJournal}
 use Rattle.command_claims.specs.Outputs.{digest_text, bundle_text, counts_text}
 
 -- ---- the store

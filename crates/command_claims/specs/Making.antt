@@ -10,8 +10,8 @@ use Rattle.made_workload.specs.Sums.{summary, summary_text}
 use Rattle.made_workload.specs.declared.totals.Totals.{Totals}
 use Rattle.outside.specs.Told.{StoreTold, held}
 use Rattle.command_words.specs.declared.MakeOptions.{MakeOptions}
-use Rattle.ledger_claims.specs.Calls.{Span}
-use Rattle.ledger_claims.specs.Fits.{RunRecord}
+use Rattle.entry_laws.specs.Calls.{Span}
+use Rattle.entry_laws.specs.Records.{RunRecord}
 use Rattle.command_claims.specs.Calls.{Outside}
 use Rattle.command_claims.specs.Clocks.{Answers, times_between}
 use Rattle.command_claims.specs.Runs.{Terms, IsDone, HoldsRun}

@@ -7,11 +7,11 @@ use Rattle.ledger_model.specs.Script.{Placed, all_placed}
 use Rattle.ledger_model.specs.Report.{report}
 use Rattle.outside.specs.Told.{StoreTold, held}
 use Rattle.command_words.specs.declared.RunOptions.{RunOptions}
-use Rattle.ledger_claims.specs.Calls.{Span}
-use Rattle.ledger_claims.specs.Fits.{RunRecord, Times, FitsBlocks, made}
-use Rattle.ledger_claims.specs.Stores.{HasJournal, Holding, IsSynced, HoldingWithRest}
+use Rattle.entry_laws.specs.Calls.{Span}
+use Rattle.entry_laws.specs.Records.{RunRecord, Times, FitsBlocks, made}
+use Rattle.entry_laws.specs.Stores.{HasJournal, Holding, IsSynced, HoldingWithRest}
 use Rattle.entry_laws.specs.Alone.{RunsInOrder}
-use Rattle.entry_laws.specs.Claims.{FitsInterleaved, IsOfOwnDigest}
+use Rattle.entry_laws.specs.Claims.{Fits, IsOfOwnDigest}
 use Rattle.command_claims.specs.Calls.{Outside}
 use Rattle.command_claims.specs.Clocks.{Answers, given_by, AreTimes, GaveFirst}
 use Rattle.command_claims.specs.Inputs.{HasScript}
@@ -43,7 +43,7 @@ pub record IsOfRun (terms : Terms) (workers : ℕ) (jobs : List Placed) (store :
 pub record IsDone (terms : Terms) (workers : ℕ) (jobs : List Placed) (store : Span StoreTold) (t : RunRecord)
     : Type 0 where
   pub of_run : IsOfRun terms workers jobs store t
-  pub fits : FitsInterleaved t
+  pub fits : Fits t
   pub in_order : t.workers ≡ 1 → RunsInOrder t
   pub holding : Holding t.after (held store.after)
   pub synced : IsSynced store.before → IsSynced store.after

@@ -11,8 +11,8 @@ use Rattle.command_words.specs.declared.Command.TheVariants as command
 use Rattle.command_words.specs.declared.IdSource.{IdSource}
 use Rattle.command_words.specs.declared.IdSource.TheVariants as ids
 use Rattle.outside.specs.Told.{SinkTold}
-use Rattle.ledger_claims.specs.Calls.{Span}
-use Rattle.ledger_claims.specs.Streams.{TakesFew, Writes, WritesPart, BreaksOff, WritesLine}
+use Rattle.entry_laws.specs.Calls.{Span}
+use Rattle.entry_laws.specs.Streams.{TakesFew, Writes, WritesPart, BreaksOff, WritesLine}
 use Rattle.command_claims.specs.Bundles.{IsAccepted, IsNotAccepted}
 use Rattle.command_claims.specs.Calls.{Outside, Call}
 use Rattle.command_claims.specs.Inputs.{IsIdle, SourceFailed, SpellsScript, IsNoScript, HasValues, IsNoText}

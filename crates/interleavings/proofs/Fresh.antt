@@ -3,8 +3,8 @@ use Rattle.std.proofs.Common.{◌≡◌, ℕ, ◌+◌, Bool, List, [], ◌∷◌
 use Rattle.ion_forms.specs.Write.{value_text}
 use Rattle.ledger_model.specs.declared.block.Block.{Block}
 use Rattle.ledger_model.specs.Journal.{block_value, journal_bytes, line}
-use Rattle.ledger_claims.specs.Attempts.{Standing}
-use Rattle.ledger_claims.specs.Fits.{greatest, mask_of}
+use Rattle.entry_laws.specs.Standings.{Standing}
+use Rattle.entry_laws.specs.Records.{greatest, mask_of}
 use Rattle.outside.specs.Clocks.{ClockHeld}
 use Rattle.outside.specs.FailPlan.{FailPlan}
 use Rattle.outside.specs.StoreForms.{StoreHeld, store_of}

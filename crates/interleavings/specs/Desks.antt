@@ -10,7 +10,7 @@ use Rattle.outside.specs.Clocks.{ClockHeld, told_answers}
 use Rattle.outside.specs.StoreForms.{StoreHeld}
 use Rattle.pql_model.specs.declared.Answer.{Answer}
 use Rattle.ledger_model.specs.declared.outcome.Refusal.{Refusal}
-use Rattle.ledger_claims.specs.Attempts.{Standing}
+use Rattle.entry_laws.specs.Standings.{Standing}
 use Rattle.txn_core.specs.Opened.{Executed, Opened, asked}
 use Rattle.ledger_core.specs.declared.appending.Receipt.{Receipt}
 use Rattle.ledger_core.specs.declared.commit.CommitFault.{CommitFault}

@@ -8,7 +8,7 @@ use Rattle.proof_issue.specs.declared.NoSuch.TheVariants as none_such
 use Rattle.proof_issue.specs.Refusals.{IsRefused}
 use Rattle.command_words.specs.declared.Command.{Command}
 use Rattle.command_words.specs.declared.Command.TheVariants as command
-use Rattle.ledger_claims.specs.Calls.{Span}
+use Rattle.entry_laws.specs.Calls.{Span}
 use Rattle.command_claims.specs.Calls.{Outside}
 use Rattle.command_claims.specs.Inputs.{IsIdle}
 use Rattle.command_claims.specs.Journals.{Question, Answers, HasNone, IsUnchanged, Reads}

@@ -11,8 +11,8 @@ use Rattle.command_words.specs.declared.IdSource.{IdSource}
 use Rattle.command_words.specs.declared.IdSource.TheVariants as ids
 use Rattle.command_words.specs.declared.RunOptions.{RunOptions}
 use Rattle.command_claims.specs.Top.{is_first_answer}
-use Rattle.ledger_claims.specs.Calls.{Span, span}
-use Rattle.ledger_claims.specs.Fits.{one_time}
+use Rattle.entry_laws.specs.Calls.{Span, span}
+use Rattle.entry_laws.specs.Records.{one_time}
 use Rattle.command_claims.specs.Calls.{Outside}
 use Rattle.command_claims.specs.Clocks.{Answers, GaveFirst, given_by, times_between}
 use Rattle.command_claims.specs.Inputs.{HasScript}

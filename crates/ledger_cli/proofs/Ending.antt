@@ -6,8 +6,8 @@ use Rattle.outside.specs.Store.{Content}
 use Rattle.outside.specs.Told.{SourceTold, SinkTold, StoreTold, held}
 use Rattle.command_words.specs.declared.Command.{Command}
 use Rattle.command_words.specs.declared.Command.TheVariants as command
-use Rattle.ledger_claims.specs.Calls.{Span, span}
-use Rattle.ledger_claims.specs.Streams.{TakesFew, Writes, WritesPart, BreaksOff, WritesLine}
+use Rattle.entry_laws.specs.Calls.{Span, span}
+use Rattle.entry_laws.specs.Streams.{TakesFew, Writes, WritesPart, BreaksOff, WritesLine}
 use Rattle.command_claims.specs.Calls.{Outside, Call}
 use Rattle.command_claims.specs.Inputs.{IsIdle}
 use Rattle.command_claims.specs.Journals.{IsUncalled}

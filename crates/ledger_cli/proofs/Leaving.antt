@@ -10,10 +10,8 @@ use Rattle.ledger_model.specs.Damages.{Undamaged}
 use Rattle.ledger_model.specs.Journal.{block_value, line, journal_bytes}
 use Rattle.ledger_model.specs.Recovered.{has_no_line_feed}
 use Rattle.outside.specs.Told.{StoreTold}
-use Rattle.ledger_claims.specs.Attempts.{HoldsBehind}
-use Rattle.ledger_claims.specs.Stores.{HasJournal, Holding, HoldingWithRest, IsSynced}
-use Rattle.ledger_claims.proofs.Left.{all-HoldingWithRest, journal-HoldingWithRest}
-use Rattle.ledger_claims.proofs.Parts.{part_of_line}
+use Rattle.entry_laws.specs.Stores.{HoldsBehind, HasJournal, Holding, HoldingWithRest, IsSynced}
+use Rattle.entry_laws.proofs.Stored.{all-HoldingWithRest, journal-HoldingWithRest, part_of_line}
 use Rattle.ledger_core.specs.Loads.{IsLoaded}
 use Rattle.ledger_shared.specs.Rests.{HoldsRest}
 

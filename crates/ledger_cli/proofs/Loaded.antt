@@ -15,17 +15,16 @@ use Rattle.ledger_model.specs.State.{state}
 use Rattle.ledger_model.specs.Script.{Placed}
 use Rattle.outside.specs.Store.{Content}
 use Rattle.outside.specs.Told.{StoreTold, held}
-use Rattle.ledger_claims.specs.Attempts.{Standing}
-use Rattle.ledger_claims.specs.Calls.{span}
-use Rattle.ledger_claims.specs.Fits.{RunRecord, FitsBlocks, HaveTimes, InSessionOrder, IsOfSomeJob}
-use Rattle.ledger_claims.specs.SoFar.{InOrder}
-use Rattle.ledger_claims.specs.Stores.{HasJournal, HoldingWithRest, IsSynced}
-use Rattle.ledger_claims.proofs.BlocksFit.{FitsBlocks-same}
-use Rattle.ledger_claims.proofs.Left.{all-HoldingWithRest}
+use Rattle.entry_laws.specs.Standings.{Standing}
+use Rattle.entry_laws.specs.Calls.{span}
+use Rattle.entry_laws.specs.Records.{RunRecord, FitsBlocks, HaveTimes, InSessionOrder, IsOfSomeJob, InOrder}
+use Rattle.entry_laws.specs.Stores.{HasJournal, HoldingWithRest, IsSynced}
+use Rattle.entry_laws.proofs.BlocksFit.{FitsBlocks-same}
+use Rattle.entry_laws.proofs.Stored.{all-HoldingWithRest}
 use Rattle.command_claims.specs.Runs.{Terms, IsDone, IsOfRun, IsReportOf, HoldsRun}
 use Rattle.command_claims.proofs.Holding.{done_leaves}
 use Rattle.entry_laws.specs.Alone.{RunsInOrder}
-use Rattle.entry_laws.specs.Claims.{FitsInterleaved, IsOfOwnDigest}
+use Rattle.entry_laws.specs.Claims.{Fits, IsOfOwnDigest}
 use Rattle.entry_laws.specs.Tried.{tried_in}
 use Rattle.ledger_core.specs.Faults.{IsSettleFault}
 use Rattle.ledger_core.specs.Loads.{IsCause}
@@ -168,7 +167,7 @@ module _ {S C : Type 0} (told : S → StoreTold) (answers : C → Option (List �
       abbrev failed : ℕ
       failed = (told ran.store).faults
 
-      fits : FitsInterleaved (run_of ran.standing.blocks outcomes failed)
+      fits : Fits (run_of ran.standing.blocks outcomes failed)
       fits = run_fits told answers always given before opened has workers some jobs in_order terms masks ran outcomes all covered
 
       ordered : workers ≡ 1 → RunsInOrder (run_of ran.standing.blocks outcomes failed)
@@ -188,7 +187,7 @@ module _ {S C : Type 0} (told : S → StoreTold) (answers : C → Option (List �
         is_done : IsDone terms workers jobs (span before (told now.store)) (run_of now.standing.blocks outcomes (told now.store).faults)
         is_done = record {
           of_run = of_run (told now.store) now.standing.blocks outcomes;
-          fits = as_settled FitsInterleaved fits;
+          fits = as_settled Fits fits;
           in_order = λ one. as_settled RunsInOrder (ordered one);
           holding = settled.holds;
           synced = λ was. settled.synced (all.keeps.synced (λ unmarked. synced_content before (told opened.store) has.content was));

@@ -22,10 +22,9 @@ use Rattle.outside.specs.Told.{SourceTold, StoreTold, held}
 use Rattle.command_words.specs.declared.Command.TheVariants as command
 use Rattle.command_words.specs.declared.MakeOptions.{MakeOptions}
 use Rattle.turn_lock.specs.History.{Stands}
-use Rattle.ledger_claims.specs.Calls.{Span, span}
-use Rattle.ledger_claims.specs.Fits.{RunRecord, IsOfSomeJob, made, untold}
-use Rattle.ledger_claims.specs.SoFar.{InOrder, IsBehind}
-use Rattle.ledger_claims.proofs.Places.{InOrder-all_placed}
+use Rattle.entry_laws.specs.Calls.{Span, span}
+use Rattle.entry_laws.specs.Records.{RunRecord, IsOfSomeJob, made, untold, InOrder, IsBehind}
+use Rattle.entry_laws.proofs.Places.{InOrder-all_placed}
 use Rattle.command_claims.proofs.First.{comes_first}
 use Rattle.command_claims.proofs.Holding.{done_leaves, summarized_holds}
 use Rattle.command_claims.specs.Making.{IsSummaryOf, LeavesWorkload, made_jobs, made_terms}

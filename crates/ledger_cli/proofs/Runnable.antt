@@ -17,8 +17,8 @@ use Rattle.std.proofs.lemmas.Bool.Decides.{leb_tells}
 use Rattle.ion_values.specs.declared.fault.IonFault.{IonFault}
 use Rattle.script_form.specs.Answers.{IsCountable}
 use Rattle.outside.specs.Told.{SourceTold}
-use Rattle.ledger_claims.specs.Calls.{Span}
-use Rattle.ledger_claims.specs.Streams.{Taken, WasRead}
+use Rattle.entry_laws.specs.Calls.{Span}
+use Rattle.entry_laws.specs.Streams.{Taken, WasRead}
 use Rattle.ledger_cli.specs.declared.lines.BadInput.TheVariants as cause
 use Rattle.ledger_cli.specs.declared.stop.Stop.{Stop}
 use Rattle.ledger_cli.specs.declared.stop.Stop.TheVariants as stop

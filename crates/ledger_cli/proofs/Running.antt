@@ -9,12 +9,11 @@ use Rattle.ledger_model.specs.Damages.{Undamaged}
 use Rattle.ledger_model.specs.Script.{Placed}
 use Rattle.outside.specs.Told.{StoreTold}
 use Rattle.turn_lock.specs.History.{Stands}
-use Rattle.ledger_claims.specs.Fits.{RunRecord, FitsBlocks, HasMask, HasTime, HaveTimes, IsTimeIn, Times, made, mask_of}
-use Rattle.ledger_claims.specs.SoFar.{InOrder}
+use Rattle.entry_laws.specs.Records.{RunRecord, FitsBlocks, HasMask, HasTime, HaveTimes, IsTimeIn, Times, made, mask_of, InOrder}
 use Rattle.command_claims.specs.Runs.{Terms}
 use Rattle.core_machine.specs.Entries.{Entry, Opening, Reach, begun_at, comes, failed, reach_at, reached, sealed, wanted}
 use Rattle.entry_laws.specs.Alone.{RunsInOrder}
-use Rattle.entry_laws.specs.Claims.{FitsInterleaved, IsOfOwnDigest}
+use Rattle.entry_laws.specs.Claims.{Fits, IsOfOwnDigest}
 use Rattle.entry_laws.specs.Runs.{AreWorkers, IsRunBy, opening_of}
 use Rattle.entry_laws.specs.Seen.{IsRight, blocks_in, reach}
 use Rattle.entry_laws.specs.Tried.{tried_behind, tried_in}
@@ -153,7 +152,7 @@ module _ {S C : Type 0} (told : S → StoreTold) (answers : C → Option (List �
       workers = subst (λ (x : Opening). AreWorkers x workers all.served all.entries all.pass_of) same_opening all.workers_are;
     }
 
-    pub run_fits : FitsInterleaved t
+    pub run_fits : Fits t
     run_fits = runs_fit t all.served all.entries all.pass_of is_run
 
     pub run_in_order : workers ≡ 1 → RunsInOrder t

@@ -10,8 +10,8 @@ use Rattle.proof_verify.specs.Faults.{fault_of, IsRefused}
 use Rattle.proof_verify.specs.declared.ProofFault.{ProofFault}
 use Rattle.proof_verify.specs.declared.ProofFault.TheVariants as fault
 use Rattle.command_words.specs.declared.Command.TheVariants as command
-use Rattle.ledger_claims.specs.Calls.{Span}
-use Rattle.ledger_claims.specs.Streams.{Taken, WasRead}
+use Rattle.entry_laws.specs.Calls.{Span}
+use Rattle.entry_laws.specs.Streams.{Taken, WasRead}
 use Rattle.command_claims.specs.Bundles.{IsNotAccepted}
 use Rattle.command_claims.specs.Calls.{Outside}
 use Rattle.command_claims.specs.Inputs.{longest}

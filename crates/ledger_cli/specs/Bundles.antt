@@ -5,7 +5,7 @@ use Rattle.ion_values.specs.declared.value.Value.{Value}
 use Rattle.outside.specs.Told.{SourceTold}
 use Rattle.proof_verify.specs.declared.ProofFault.{ProofFault}
 use Rattle.proof_verify.specs.declared.ProofFault.TheVariants as fault
-use Rattle.ledger_claims.specs.Calls.{Span}
+use Rattle.entry_laws.specs.Calls.{Span}
 use Rattle.command_claims.specs.Bundles.{IsAccepted, IsNotAccepted}
 use Rattle.command_claims.specs.Inputs.{HasValues, IsNoText, deepest}
 use Rattle.command_claims.specs.Outputs.{verified_text}

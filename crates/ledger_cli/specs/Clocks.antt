@@ -4,8 +4,8 @@ use Rattle.ion_time.specs.Millis.{BeginsAt, nearest}
 use Rattle.ion_values.specs.declared.time.TimeParts.{TimeParts}
 use Rattle.command_words.specs.declared.IdSource.{IdSource}
 use Rattle.command_words.specs.declared.IdSource.TheVariants as ids
-use Rattle.ledger_claims.specs.Calls.{span}
-use Rattle.ledger_claims.specs.Fits.{Times, IsTimeIn}
+use Rattle.entry_laws.specs.Calls.{span}
+use Rattle.entry_laws.specs.Records.{Times, IsTimeIn}
 use Rattle.command_claims.specs.Clocks.{Answers, AreTimes}
 use Rattle.command_claims.specs.Runs.{Terms}
 

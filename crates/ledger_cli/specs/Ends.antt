@@ -3,8 +3,8 @@ use Rattle.std.specs.Prelude.{◌≡◌, ℕ, ◌<◌, ◌⊎◌, List, [], ◌�
 use Rattle.std.specs.Fmt.{decimal}
 use Rattle.outside.specs.Told.{SinkTold}
 use Rattle.command_words.specs.declared.Command.{Command}
-use Rattle.ledger_claims.specs.Calls.{Span}
-use Rattle.ledger_claims.specs.Streams.{Writes, WritesPart, BreaksOff, WritesLine}
+use Rattle.entry_laws.specs.Calls.{Span}
+use Rattle.entry_laws.specs.Streams.{Writes, WritesPart, BreaksOff, WritesLine}
 use Rattle.command_claims.specs.Calls.{Outside}
 use Rattle.command_claims.specs.Lines.{memory_line, input_line, no_such_line, not_empty_line, damaged_line, faults_line, proof_fault_line}
 use Rattle.command_claims.specs.Top.{Gives, Refuses}

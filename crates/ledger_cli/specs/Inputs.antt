@@ -2,7 +2,7 @@
 use Rattle.std.specs.Prelude.{◌≡◌, ◌<◌, List, Result, Ok, Err}
 use Rattle.ledger_model.specs.declared.script.Job.{Job}
 use Rattle.outside.specs.Told.{SourceTold}
-use Rattle.ledger_claims.specs.Calls.{Span}
+use Rattle.entry_laws.specs.Calls.{Span}
 use Rattle.command_claims.specs.Inputs.{HasScript, IsNoScript}
 use Rattle.ledger_shared.specs.Sessions.{AreNumbered}
 use Rattle.ledger_cli.specs.Judgements.{cause_of}

@@ -8,7 +8,7 @@ use Rattle.made_workload.specs.Made.{made_first, made_sessions}
 use Rattle.made_workload.specs.Sums.{summary, summary_text}
 use Rattle.outside.specs.Told.{StoreTold}
 use Rattle.command_words.specs.declared.MakeOptions.{MakeOptions}
-use Rattle.ledger_claims.specs.Calls.{Span}
+use Rattle.entry_laws.specs.Calls.{Span}
 use Rattle.command_claims.specs.Clocks.{Answers}
 use Rattle.command_claims.specs.Journals.{Reads}
 use Rattle.command_claims.specs.Making.{IsSummaryOf, LeavesWorkload}

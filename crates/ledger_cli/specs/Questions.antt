@@ -2,7 +2,7 @@
 use Rattle.std.specs.Prelude.{List, ℕ, Result, Ok, Err}
 use Rattle.ledger_model.specs.declared.block.Block.{Block}
 use Rattle.outside.specs.Told.{StoreTold}
-use Rattle.ledger_claims.specs.Calls.{Span}
+use Rattle.entry_laws.specs.Calls.{Span}
 use Rattle.command_claims.specs.Journals.{Question, Answers, HasNone, HasFailed, IsUnchanged, Reads, ReadsDamage}
 use Rattle.ledger_cli.specs.declared.stop.Stop.{Stop}
 use Rattle.ledger_cli.specs.declared.stop.Stop.TheVariants as stop

@@ -3,7 +3,7 @@ ghost use Rattle.std.specs.Prelude.{◌≡◌, ◌<◌, [], Err, IfOk};
 ghost use Rattle.id_seed.specs.Seed.{mask_of};
 ghost use Rattle.ledger_model.specs.Script.{all_placed};
 ghost use Rattle.outside.specs.Told.{StoreTold};
-ghost use Rattle.ledger_claims.specs.Calls.{span};
+ghost use Rattle.entry_laws.specs.Calls.{span};
 ghost use Rattle.ledger_shared.specs.Sessions.{AreNumbered};
 ghost use Rattle.ledger_cli.specs.Making.{IsWorkload, Makes, MakesAll, SumsUp, at_first};
 ghost use Rattle.ledger_cli.specs.Runs.{HasLoaded};

@@ -2,7 +2,7 @@
 ghost use Rattle.std.specs.Prelude.{◌≡◌, IfSome};
 ghost use Rattle.ion_time.specs.Millis.{BeginsAt, nearest};
 ghost use Rattle.ion_values.specs.declared.time.TimeParts.{TimeParts};
-ghost use Rattle.ledger_claims.specs.Calls.{span};
+ghost use Rattle.entry_laws.specs.Calls.{span};
 ghost use Rattle.command_claims.specs.Clocks.{Answers, GaveFirst, given_by};
 ghost use Rattle.ledger_cli.specs.Clocks.{Extends, IsAsked};
 

@@ -1,7 +1,7 @@
 //! The top call.
 ghost use Rattle.std.specs.Prelude.{◌≡◌, Some, false, map, string_bytes};
-ghost use Rattle.ledger_claims.specs.Calls.{span};
-ghost use Rattle.ledger_claims.specs.Streams.{TakesFew};
+ghost use Rattle.entry_laws.specs.Calls.{span};
+ghost use Rattle.entry_laws.specs.Streams.{TakesFew};
 ghost use Rattle.command_claims.specs.Calls.{outside};
 ghost use Rattle.command_claims.specs.Top.{Does, Ends, Keeps, asks_clock};
 ghost use Rattle.command_claims.specs.Top as top;

@@ -1,7 +1,7 @@
 //! The verdict on a bundle.
 ghost use Rattle.std.specs.Prelude.{◌≡◌, IfOk, IfErr};
-ghost use Rattle.ledger_claims.specs.Calls.{span};
-ghost use Rattle.ledger_claims.specs.Streams.{TakesFew};
+ghost use Rattle.entry_laws.specs.Calls.{span};
+ghost use Rattle.entry_laws.specs.Streams.{TakesFew};
 ghost use Rattle.command_claims.specs.Bundles.{IsAccepted};
 ghost use Rattle.ledger_cli.specs.Bundles.{Decides, IsUnproved, ReadsValues, Verifies};
 

@@ -1,7 +1,7 @@
 //! What the commands come to: an output, or why there is none.
 ghost use Rattle.std.specs.Prelude.{◌≡◌, ◌<◌, Err, Some, false};
-ghost use Rattle.ledger_claims.specs.Calls.{span};
-ghost use Rattle.ledger_claims.specs.Streams.{TakesFew};
+ghost use Rattle.entry_laws.specs.Calls.{span};
+ghost use Rattle.entry_laws.specs.Streams.{TakesFew};
 ghost use Rattle.command_claims.specs.Calls.{outside};
 ghost use Rattle.command_claims.specs.Journals as asks;
 ghost use Rattle.command_claims.specs.Top.{Keeps, asks_clock};

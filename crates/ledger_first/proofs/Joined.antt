@@ -10,8 +10,7 @@ use Rattle.ledger_model.specs.Script.{Placed}
 use Rattle.outside.specs.Told.{StoreTold, held}
 use Rattle.turn_lock.specs.History.{Stands}
 use Rattle.turn_lock.proofs.Lists.{prefix_trans}
-use Rattle.ledger_claims.specs.Attempts.{HoldsBehind}
-use Rattle.ledger_claims.specs.Stores.{Holding}
+use Rattle.entry_laws.specs.Stores.{HoldsBehind, Holding}
 use Rattle.core_machine.specs.Entries.{Entry, Opening, Reach, begun_at, comes, failed, reach_at, reached, sealed, wanted}
 use Rattle.entry_laws.specs.Runs.{AreWorkers, Served, told_of}
 use Rattle.entry_laws.specs.Seen.{reach}

@@ -16,7 +16,7 @@ use Rattle.ledger_model.specs.Legal.{LegalFrom, asked_in}
 use Rattle.ledger_model.specs.Script.{Placed}
 use Rattle.ledger_model.specs.State.{State, after, all_changed, empty, state}
 use Rattle.ledger_model.specs.Views.{latest}
-use Rattle.ledger_claims.specs.Fits.{RunRecord, Before, FitsBlocks, InSessionOrder, IsOfSomeJob}
+use Rattle.entry_laws.specs.Records.{RunRecord, Before, FitsBlocks, InSessionOrder, IsOfSomeJob}
 use Rattle.made_workload.specs.Laws.{made_documents, made_total, values_of}
 use Rattle.made_workload.specs.Made.{made_first, made_placed}
 use Rattle.made_workload.specs.Sums.{made_rows, summary}

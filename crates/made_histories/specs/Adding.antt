@@ -1,6 +1,6 @@
 -- What the history of a made workload's run adds up to (the ledger's own).
 use Rattle.std.specs.Prelude.{◌≡◌, ℕ, ◌+◌, ◌*◌, [], length}
-use Rattle.ledger_claims.specs.Fits.{RunRecord, FitsBlocks}
+use Rattle.entry_laws.specs.Records.{RunRecord, FitsBlocks}
 use Rattle.made_workload.specs.Laws.{made_total}
 use Rattle.made_workload.specs.Made.{made_placed}
 use Rattle.made_workload.specs.Sums.{summary}

@@ -1,5 +1,5 @@
 use Rattle.std.proofs.Common.{Err, codes, sym, subst, ap}
-use Rattle.ledger_claims.specs.Calls.{span}
+use Rattle.entry_laws.specs.Calls.{span}
 use Rattle.command_claims.specs.Lines.{faults_line}
 use Rattle.ledger_cli.specs.declared.ends.Status.TheVariants as status
 use Rattle.ledger_cli.specs.declared.stop.Stop.{Stop}

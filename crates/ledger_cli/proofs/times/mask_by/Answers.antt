@@ -3,7 +3,7 @@ use Rattle.std.specs.Prelude.{IfSome}
 use Rattle.std.specs.Int.{cast_unsigned}
 use Rattle.id_seed.specs.Seed.{mask_of}
 use Rattle.command_words.specs.declared.IdSource.{IdSource}
-use Rattle.ledger_claims.specs.Calls.{span}
+use Rattle.entry_laws.specs.Calls.{span}
 use Rattle.command_claims.specs.Clocks.{GaveFirst, given_by, mask_between, seed_of}
 use Rattle.ledger_cli.proofs.Clocks.{first_answered, first_given}
 use Rattle.ledger_cli.proofs.times.mask_by.Goals as goal

@@ -1,6 +1,6 @@
 use Rattle.std.proofs.Common.{List, subst, sym}
 use Rattle.ledger_model.specs.declared.block.Block.{Block}
-use Rattle.ledger_claims.specs.Calls.{span}
+use Rattle.entry_laws.specs.Calls.{span}
 use Rattle.command_claims.specs.Journals.{Reads}
 use Rattle.command_claims.specs.Journals as asks
 use Rattle.ledger_cli.proofs.Answering.{answered_so, unread_so}

@@ -1,4 +1,4 @@
-use Rattle.ledger_claims.specs.Calls.{span}
+use Rattle.entry_laws.specs.Calls.{span}
 use Rattle.command_claims.specs.Journals as asks
 use Rattle.ledger_cli.proofs.Answering.{answered_so, unread_so}
 use Rattle.ledger_cli.proofs.work.digest.Goals as goal

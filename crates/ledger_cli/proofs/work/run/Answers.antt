@@ -1,5 +1,5 @@
 use Rattle.std.proofs.Common.{◌≡◌, refl}
-use Rattle.ledger_claims.specs.Calls.{span}
+use Rattle.entry_laws.specs.Calls.{span}
 use Rattle.command_claims.specs.Calls.{outside}
 use Rattle.ledger_cli.proofs.Asked.{keeps_run, unasked, works_run, works_unread}
 use Rattle.ledger_cli.proofs.Ending.{keeps_run_all}

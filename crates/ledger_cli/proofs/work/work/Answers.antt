@@ -1,6 +1,6 @@
 use Rattle.std.proofs.Common.{◌≡◌, Some, refl, sym, subst}
 use Rattle.command_words.specs.declared.Command.{Command}
-use Rattle.ledger_claims.specs.Calls.{span}
+use Rattle.entry_laws.specs.Calls.{span}
 use Rattle.command_claims.specs.Calls.{outside}
 use Rattle.command_claims.specs.Top.{Keeps}
 use Rattle.ledger_cli.specs.Ends.{Works}
