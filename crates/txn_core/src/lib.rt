@@ -28,7 +28,7 @@ mod transaction;
 mod values;
 mod views;
 
-pub use runs::{Ran, run_statements};
+pub use runs::Ran;
 pub use stopped::Stopped;
 pub use table_views::TableViews;
 pub use transaction::{Finished, Txn, start_txn};
