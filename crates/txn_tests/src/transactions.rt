@@ -9,7 +9,7 @@ use ql_types::{IdMask, Place};
 use script_form::put_cause;
 use std::alloc::Global;
 use std::marker::Model;
-use txn_core::{Finished, Ran, Txn, run_statements, start_txn};
+use txn_core::{Finished, Stopped, Txn, start_txn};
 
 const MASK: IdMask = IdMask { bits: 0 };
 
@@ -101,6 +101,21 @@ fn refused(alloc: Global, statement: u32, cause: &Refusal) -> Option<End> {
     Some(End::Refused(told))
 }
 
+/// Does the statements one after another, as a worker does. None comes for want of memory alone.
+fn performed(alloc: Global, txn: Txn, asked: &[Request]) -> Option<End> {
+    let mut txn = txn;
+    let mut statement: u32 = 0;
+    for request in asked {
+        statement = statement.checked_add(1)?;
+        match txn.perform(alloc, request.text.as_str(), request.params.as_slice()) {
+            Ok(()) => {}
+            Err(Stopped::Refused(cause)) => return refused(alloc, statement, &cause),
+            Err(Stopped::OutOfMemory) => return None,
+        }
+    }
+    done(alloc, txn)
+}
+
 /// How the transaction of this number on this version ends.
 pub(crate) fn ended(
     alloc: Global,
@@ -112,11 +127,7 @@ pub(crate) fn ended(
         return None;
     };
     let txn = start_txn(alloc, base, 0, MASK, number, PLACE);
-    match run_statements(alloc, txn, asked) {
-        Ok(Ran::Done(txn)) => done(alloc, txn),
-        Ok(Ran::Refused { statement, cause }) => refused(alloc, statement, &cause),
-        Err(_) => None,
-    }
+    performed(alloc, txn, asked)
 }
 
 /// What the transaction of this number becomes a block of, where none of its statements is refused.
