@@ -8,7 +8,7 @@ use Rattle.ql_types.specs.declared.Place.{Place}
 use Rattle.ledger_model.specs.declared.block.Block.{Block}
 use Rattle.ledger_model.specs.Whole.{place_fits}
 use Rattle.made_blocks.specs.Makes.{IsWithinAll}
-use Rattle.ledger_claims.specs.Attempts.{Standing, IsStanding}
+use Rattle.entry_laws.specs.Standings.{Standing, IsStanding}
 use Rattle.outside.specs.Told.{StoreTold, held}
 use Rattle.txn_core.specs.Opened.{Opened}
 use Rattle.ledger_core.specs.declared.appending.Receipt.{Receipt}
@@ -16,7 +16,7 @@ use Rattle.ledger_core.specs.declared.commit.CommitFault.{CommitFault}
 use Rattle.ledger_core.specs.declared.commit.CommitFault.TheVariants.{EndedTxn, DigestDiffers, Conflict, JournalFull, StoreFault, OutOfMemory}
 use Rattle.ledger_core.specs.declared.keeping.SettleFault.{SettleFault}
 use Rattle.ledger_core.specs.declared.keeping.SettleFault.TheVariants as settle
-use Rattle.ledger_core.specs.Attempting.{next_block, receipt_of}
+use Rattle.ledger_core.specs.NextBlock.{next_block, receipt_of}
 use Rattle.ledger_core.specs.Committing.{CommitEnds, ComesTo, IsAnswer, IsOpenOn, IsTried, MayHoldPartOf, PassesChecks, Seals, fault_of}
 use Rattle.ledger_core.specs.Faults.{IsTriedWith}
 use Rattle.ledger_core.specs.Tails.{MayHoldPart, TailHeld, joined}

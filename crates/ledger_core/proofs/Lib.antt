@@ -1,9 +1,7 @@
-pub mod Attempts
 pub mod Bounds
 pub mod Commits
 pub mod Digests
 pub mod Drawn
-pub mod Entering
 mod Joined
 mod Kept
 pub mod LastBlock

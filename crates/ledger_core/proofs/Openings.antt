@@ -23,12 +23,12 @@ use Rattle.made_blocks.specs.Makes.{CanMake, IsWithinAll}
 use Rattle.made_blocks.proofs.Further.{few_made, still_unused}
 use Rattle.made_blocks.proofs.Undamaged.{made_is_undamaged}
 use Rattle.core_machine.proofs.Fronts.{front_strand, front_undamaged, front_unused, stands_in_none, strand_framed}
-use Rattle.ledger_claims.specs.Attempts.{Standing, IsStanding}
-use Rattle.ledger_claims.specs.Fits.{greatest, mask_of}
-use Rattle.ledger_claims.proofs.Histories.{strand_more}
-use Rattle.ledger_claims.proofs.Numbers.{greatest-append, transaction_of_id}
+use Rattle.entry_laws.specs.Standings.{Standing, IsStanding}
+use Rattle.entry_laws.specs.Records.{greatest, mask_of}
+use Rattle.entry_laws.proofs.Histories.{strand_more}
+use Rattle.entry_laws.proofs.Numbers.{greatest-append, transaction_of_id}
 use Rattle.txn_core.specs.Opened.{Executed, Opened, Steps}
-use Rattle.ledger_core.specs.Attempting.{HasRoom, next_block}
+use Rattle.ledger_core.specs.NextBlock.{HasRoom, next_block}
 use Rattle.ledger_core.specs.Beginning.{begun_on, drawn}
 use Rattle.ledger_core.specs.Committing.{IsOpenOn, conflict_of}
 use Rattle.ledger_core.specs.Tails.{joined}
@@ -219,19 +219,3 @@ executed_open s t now r (Err cause) (inl e) o = same-open s t now e.2 o
 executed_open s t now r (Err cause) (inr (inl e)) o = same-open s t now e.2 o
 executed_open s t now r (Err cause) (inr (inr e)) o =
     same-open s (record t { ended = true }) now e.2 (ended-open s t o)
-
--- so it is behind all statements of a run
-pub run_open : (s : Standing) (x t : Opened) (asked : List Request) → run x.begun x.base asked ≡ ran t.done → t ≡ record x { done = t.done }
-    → IsOpenOn s x → IsOpenOn s t
-run_open s x t asked runs is o =
-    subst (λ (y : Opened). IsOpenOn s y) (sym is)
-    (record {
-      mask = o.mask;
-      first = o.first;
-      drawn = o.drawn;
-      unused = o.unused;
-      stood = o.stood;
-      base = o.base;
-      asked = asked;
-      runs = runs;
-    })

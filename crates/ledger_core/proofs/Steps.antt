@@ -25,12 +25,12 @@ use Rattle.ledger_model.specs.State.{state}
 use Rattle.frame_laws.specs.Touches.{conflict}
 use Rattle.core_machine.specs.Machine.{Commit, Ending, Machine, Service, Step, Transaction, asked_more, begin, begun, closes, commit, commits, conflicts, differs, draws, ended, ending, ends, ends_by, execute, executes, executes_on, fails, full, happens, if_open, last_rows, named, no_memory, refuses, replaced, rows, seals, served, spent, store_failed, told, unless_conflict, unless_differs, unless_full, without}
 use Rattle.core_machine.specs.Machine as machine
-use Rattle.ledger_claims.specs.Attempts.{Standing}
+use Rattle.entry_laws.specs.Standings.{Standing}
 use Rattle.txn_core.specs.Opened.{Executed, Opened}
 use Rattle.ledger_core.specs.declared.appending.Receipt.{Receipt}
 use Rattle.ledger_core.specs.declared.commit.CommitFault.{CommitFault}
 use Rattle.ledger_core.specs.declared.commit.CommitFault.TheVariants as fault
-use Rattle.ledger_core.specs.Attempting.{next_block}
+use Rattle.ledger_core.specs.NextBlock.{next_block}
 use Rattle.ledger_core.specs.Beginning.{begun_on, drawn}
 use Rattle.ledger_core.specs.Committing.{CommitEnds, ComesTo, IsAnswer, conflict_of, own_digest}
 use Rattle.ledger_core.specs.Steps.{Began, BeginIsStep, CameTo, CommitIsStep, Ended, ExecuteIsStep, IsAnswered, IsUnderway, SpentIsStep, StandsFor, TellsEnd}

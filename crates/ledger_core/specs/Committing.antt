@@ -18,7 +18,7 @@ use Rattle.ledger_model.specs.Making.{IsMadeOf}
 use Rattle.ledger_model.specs.Run.{ran, run}
 use Rattle.ledger_model.specs.State.{state}
 use Rattle.frame_laws.specs.Touches.{conflict}
-use Rattle.ledger_claims.specs.Attempts.{Standing}
+use Rattle.entry_laws.specs.Standings.{Standing}
 use Rattle.txn_core.specs.Opened.{Opened}
 use Rattle.ledger_core.specs.declared.appending.Receipt.{Receipt}
 use Rattle.ledger_core.specs.declared.commit.CommitFault.{CommitFault}
@@ -28,7 +28,7 @@ use Rattle.ledger_core.specs.declared.keeping.SettleFault.{SettleFault}
 use Rattle.ledger_core.specs.declared.keeping.SettleFault.TheVariants as settle
 use Rattle.outside.specs.Told.{StoreTold}
 use Rattle.ledger_core.specs.Faults.{IsStoreFault}
-use Rattle.ledger_core.specs.Attempting.{HasRoom, next_block, receipt_of}
+use Rattle.ledger_core.specs.NextBlock.{HasRoom, next_block, receipt_of}
 use Rattle.ledger_core.specs.Tails.{MayHoldPart, joined}
 
 -- ---- the transaction

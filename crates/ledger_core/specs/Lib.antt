@@ -1,10 +1,9 @@
-pub mod Attempting
 pub mod Beginning
 pub mod Committing
-pub mod Entering
 pub mod Faults
 pub mod Known
 pub mod Loads
+pub mod NextBlock
 pub mod Outcomes
 pub mod Steps
 pub mod Tails

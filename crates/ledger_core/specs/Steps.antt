@@ -13,13 +13,13 @@ use Rattle.ledger_model.specs.Legal.{asked_in}
 use Rattle.ledger_model.specs.Run.{Ran, ran, refused}
 use Rattle.ledger_model.specs.State.{state}
 use Rattle.core_machine.specs.Machine.{Answer, Commit, Machine, Transaction, begin, begun, commit, conflicts, differs, ended, ends, execute, fails, full, happens, named, refuses, rows, seals, spent}
-use Rattle.ledger_claims.specs.Attempts.{Standing}
+use Rattle.entry_laws.specs.Standings.{Standing}
 use Rattle.txn_core.specs.Opened.{Executed, Opened}
 use Rattle.ledger_core.specs.declared.appending.Receipt.{Receipt}
 use Rattle.ledger_core.specs.declared.begin.BeginFault.TheVariants as begins
 use Rattle.ledger_core.specs.declared.commit.CommitFault.{CommitFault}
 use Rattle.ledger_core.specs.declared.commit.CommitFault.TheVariants as fault
-use Rattle.ledger_core.specs.Attempting.{receipt_of}
+use Rattle.ledger_core.specs.NextBlock.{receipt_of}
 use Rattle.ledger_core.specs.Beginning.{IsBeginFault, begun_on, drawn}
 use Rattle.ledger_core.specs.Committing.{CommitEnds, IsAnswer}
 

@@ -1,13 +1,12 @@
 -- The tail of a journal: the blocks that its store has taken, the numbers that its transactions have, and what stands behind
 -- the lines of the blocks in the store. A store keeps the journal as the lines of its blocks, one behind another.
-use Rattle.std.specs.Prelude.{◌≡◌, ◌⊎◌, ℕ, Bool, true, false, refl, List, [], ◌∷◌, ◌++◌, length, take, Option, Some, None, IfSome, option_map, if◌then◌else◌}
+use Rattle.std.specs.Prelude.{◌≡◌, ◌⊎◌, ℕ, Bool, false, refl, List, [], ◌∷◌, ◌++◌, length, take, Option, Some, None, IfSome, option_map, if◌then◌else◌}
 use Rattle.std.specs.Coded.{Coded, code_by, coded×, coded_ℕ, coded_bool, coded_list}
 use Rattle.ledger_model.specs.declared.block.Block.{Block}
 use Rattle.ledger_model.specs.contracts.block.Block as block
 use Rattle.ledger_model.specs.Journal.{line, journal_bytes}
-use Rattle.ledger_claims.specs.Attempts.{Standing, IsStanding, HoldsBehind}
-use Rattle.ledger_claims.specs.Stores.{IsSynced}
-use Rattle.outside.specs.Told.{StoreTold}
+use Rattle.entry_laws.specs.Standings.{Standing, IsStanding}
+use Rattle.entry_laws.specs.Stores.{HoldsBehind}
 
 -- the store and the clock, what the ledger stands for between two transactions, and whether the store is to be cut to the
 -- lines of the blocks before it takes another one
@@ -61,7 +60,3 @@ MayHoldPart blocks b before now = (now ≡ before) ⊎ ((kept : ℕ) × HoldsBeh
 abbrev pub Leaves : List Block → Option Block → Option (List ℕ) → Option (List ℕ) → Type 0
 Leaves blocks None before now = now ≡ before
 Leaves blocks (Some tried) before now = MayHoldPart blocks tried before now
-
--- after a call nothing of the store was changed, a cut is marked, or all bytes are synced
-abbrev pub EndsSynced : Bool → StoreTold → Bool → StoreTold → Type 0
-EndsSynced was before marked after = ((marked ≡ was) × (after ≡ before)) ⊎ (marked ≡ true) ⊎ IsSynced after

@@ -2,19 +2,18 @@
 #![tactic(auto)]
 
 mod appending;
-mod attempt;
 mod begin;
 mod chain;
 mod commit;
 mod keeping;
 mod laws;
+mod outcomes;
 mod reload;
 mod sealing;
 mod settle;
 mod tail;
 
 pub use appending::Receipt;
-pub use attempt::outcome_of;
 pub use begin::BeginFault;
 pub use commit::{CommitFault, Uncommitted};
 pub use core_machine::{commits_stand_once, conflict_comes_exactly, history_stays_legal};
@@ -22,5 +21,6 @@ pub use keeping::SettleFault;
 pub use laws::{
     begins_are_steps, commits_are_steps, spent_numbers_are_steps, statements_are_steps,
 };
+pub use outcomes::outcome_of;
 pub use reload::{LoadCause, LoadFault};
 pub use tail::Tail;

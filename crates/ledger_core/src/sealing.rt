@@ -4,7 +4,7 @@ ghost use Rattle.ion_values.specs.Time.{instant_of};
 ghost use Rattle.ledger_model.specs.Journal.{line, revision_value};
 ghost use Rattle.ledger_model.specs.Legal.{last_hash};
 ghost use Rattle.ledger_model.specs.Making.{revision_of, time_behind};
-ghost use Rattle.ledger_core.specs.Attempting.{next_block};
+ghost use Rattle.ledger_core.specs.NextBlock.{next_block};
 
 use block_form::{seal_revision, seal_with_value, strand_hash};
 use ion_values::{IonTime, OutOfMemory, Text, Value, Values};

@@ -2,8 +2,8 @@
 ghost use Rattle.std.specs.Prelude.{◌≡◌, ◌-◌, [], length, IfOk, OnErr, OnOk, IfErr, MatchOption, ◌<◌, ◌^◌, ◌≤◌, ◌⊎◌, true, false, option_map};
 ghost use Rattle.ledger_model.specs.Journal.{line};
 ghost use Rattle.ledger_model.specs.State.{state};
-ghost use Rattle.ledger_claims.specs.Attempts.{IsStanding};
-ghost use Rattle.ledger_claims.specs.Stores.{Holding, IsSynced};
+ghost use Rattle.entry_laws.specs.Standings.{IsStanding};
+ghost use Rattle.entry_laws.specs.Stores.{Holding, IsSynced};
 ghost use Rattle.outside.specs.Told.{held};
 ghost use Rattle.proof_forms.specs.Issued.{block_hashes, IsDigest};
 ghost use Rattle.ledger_core.specs.Faults.{IsSettleFault, IsTriedWith};

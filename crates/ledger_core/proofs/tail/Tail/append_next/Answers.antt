@@ -6,7 +6,7 @@ use Rattle.ledger_core.specs.declared.appending.Receipt.{Receipt}
 use Rattle.ledger_core.specs.declared.appending.Unkept.{Unkept}
 use Rattle.ledger_core.specs.Faults.{IsTriedWith}
 use Rattle.ledger_core.specs.Tails.{MayHoldPart}
-use Rattle.ledger_core.specs.Attempting.{next_block}
+use Rattle.ledger_core.specs.NextBlock.{next_block}
 use Rattle.ledger_core.proofs.Joined.{on-err}
 use Rattle.ledger_core.proofs.tail.Tail.append_next.Goals as goal
 
