@@ -1,6 +1,6 @@
 -- The tail behind one entry more.
 use Rattle.std.proofs.Common.{◌≡◌, ℕ, ◌≤◌, ◌<◌, List, [], ◌∷◌, ◌++◌, refl, sym, ap, ◌∙◌, subst, arith, length, take}
-use Rattle.ledger_claims.specs.Attempts.{Standing}
+use Rattle.entry_laws.specs.Standings.{Standing}
 use Rattle.core_machine.specs.Entries.{Entry, MayCome, Opening, Reach, comes, reach_at}
 use Rattle.core_machine.proofs.Entries.{run_joined}
 use Rattle.entry_laws.specs.Seen.{blocks_in, reach}

@@ -6,7 +6,7 @@ use Rattle.ledger_model.specs.declared.block.Block.{Block}
 use Rattle.ledger_model.specs.declared.script.Request.{Request}
 use Rattle.ledger_model.specs.Making.{IsMadeOf}
 use Rattle.frame_laws.specs.Touches.{conflict}
-use Rattle.ledger_claims.specs.Attempts.{Standing}
+use Rattle.entry_laws.specs.Standings.{Standing}
 use Rattle.outside.specs.Told.{StoreTold}
 use Rattle.core_machine.specs.Entries.{Entry, MayMake, Opening, failed, reach_at, sealed, wanted}
 use Rattle.entry_laws.specs.Attempts.{begun_as}

@@ -6,7 +6,7 @@ use Rattle.ql_types.specs.declared.Place.{Place}
 use Rattle.ql_types.specs.declared.TxId.{TxId}
 use Rattle.ledger_model.specs.declared.block.Block.{Block}
 use Rattle.ledger_model.specs.State.{state}
-use Rattle.ledger_claims.specs.Attempts.{Standing}
+use Rattle.entry_laws.specs.Standings.{Standing}
 use Rattle.core_machine.specs.Entries.{Entry, Opening, begun_at, reach_at, sealed}
 use Rattle.entry_laws.specs.Seen.{reach}
 use Rattle.entry_laws.proofs.Reaches.{reached_mask}

@@ -5,7 +5,7 @@ use Rattle.std.specs.List.{AllByRecursion}
 use Rattle.ql_types.specs.Ids.{raw_id, transaction_in}
 use Rattle.ql_types.specs.declared.Place.{Place}
 use Rattle.ledger_model.specs.declared.block.Block.{Block}
-use Rattle.ledger_claims.specs.Fits.{greatest}
+use Rattle.entry_laws.specs.Records.{greatest}
 use Rattle.made_blocks.specs.Before.{IsUnused}
 use Rattle.ql_types.proofs.Masks.{unmasked}
 use Rattle.core_machine.specs.Entries.{Entry, IsAmong, IsRunFrom, MayCome, MayMake, Reach, Unused, begun_at, comes, failed, reached, sealed, used, wanted}

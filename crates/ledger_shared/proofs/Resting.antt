@@ -7,8 +7,8 @@ use Rattle.ql_types.specs.declared.Hash32.{Hash32}
 use Rattle.ql_types.specs.declared.Place.{Place}
 use Rattle.ledger_model.specs.declared.block.Block.{Block}
 use Rattle.ledger_model.specs.Damages.{Undamaged}
-use Rattle.ledger_claims.specs.Attempts.{Standing}
-use Rattle.ledger_claims.specs.Stores.{Holding}
+use Rattle.entry_laws.specs.Standings.{Standing}
+use Rattle.entry_laws.specs.Stores.{Holding}
 use Rattle.core_machine.specs.Entries.{Entry, begun_at, failed, wanted}
 use Rattle.txn_core.specs.Opened.{Opened}
 use Rattle.ledger_core.specs.declared.commit.CommitFault.{CommitFault}

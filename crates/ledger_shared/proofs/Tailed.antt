@@ -7,7 +7,7 @@ use Rattle.ql_types.specs.declared.TxId.{TxId}
 use Rattle.ledger_model.specs.declared.block.Block.{Block}
 use Rattle.ledger_model.specs.Damages.{Undamaged}
 use Rattle.outside.specs.Told.{StoreTold, held}
-use Rattle.ledger_claims.specs.Attempts.{IsStanding}
+use Rattle.entry_laws.specs.Standings.{IsStanding}
 use Rattle.core_machine.specs.Entries.{Entry, Opening}
 use Rattle.txn_core.specs.Opened.{Opened}
 use Rattle.ledger_core.specs.Beginning.{IsBeginFault, begun_on, drawn}

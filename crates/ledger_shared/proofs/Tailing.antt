@@ -5,8 +5,8 @@ use Rattle.ql_types.specs.declared.Hash32.{Hash32}
 use Rattle.ql_types.specs.declared.TxId.{TxId}
 use Rattle.ion_values.specs.declared.time.TimeParts.{TimeParts}
 use Rattle.ledger_model.specs.declared.block.Block.{Block}
-use Rattle.ledger_claims.specs.Attempts.{Standing}
-use Rattle.ledger_claims.specs.Stores.{Holding, IsSynced}
+use Rattle.entry_laws.specs.Standings.{Standing}
+use Rattle.entry_laws.specs.Stores.{Holding, IsSynced}
 use Rattle.outside.specs.Told.{StoreTold, held}
 use Rattle.core_machine.specs.Entries.{Entry, Opening, sealed}
 use Rattle.txn_core.specs.Opened.{Opened}

@@ -4,7 +4,7 @@ use Rattle.ion_values.specs.declared.time.TimeParts.{TimeParts}
 use Rattle.ql_types.specs.declared.Hash32.{Hash32}
 use Rattle.ledger_model.specs.declared.block.Block.{Block}
 use Rattle.ledger_model.specs.Making.{time_behind}
-use Rattle.ledger_claims.specs.Attempts.{Standing}
+use Rattle.entry_laws.specs.Standings.{Standing}
 use Rattle.core_machine.specs.Entries.{Entry, Opening, failed, reach_at, wanted}
 use Rattle.entry_laws.specs.Seen.{blocks_in}
 use Rattle.txn_core.specs.Opened.{Opened}

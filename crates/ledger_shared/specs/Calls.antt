@@ -14,7 +14,7 @@ use Rattle.core_machine.specs.Entries.{Entry, Opening, begun_at, failed, sealed,
 use Rattle.entry_laws.specs.Attempts.{begun_as}
 use Rattle.entry_laws.specs.Seen.{blocks_in, reach}
 use Rattle.txn_core.specs.Opened.{Opened}
-use Rattle.ledger_core.specs.Attempting.{receipt_of}
+use Rattle.ledger_core.specs.NextBlock.{receipt_of}
 use Rattle.ledger_core.specs.Committing.{is_own, own_digest}
 use Rattle.ledger_core.specs.declared.appending.Receipt.{Receipt}
 use Rattle.ledger_core.specs.declared.begin.BeginFault.{BeginFault}

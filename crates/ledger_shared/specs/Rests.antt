@@ -3,8 +3,7 @@ use Rattle.std.specs.Prelude.{◌≡◌, ◌⊎◌, ℕ, List, [], ◌∷◌, �
 use Rattle.ledger_model.specs.declared.block.Block.{Block}
 use Rattle.ledger_model.specs.Damages.{Undamaged}
 use Rattle.ledger_model.specs.Journal.{line}
-use Rattle.ledger_claims.specs.Attempts.{HoldsBehind}
-use Rattle.ledger_claims.specs.Stores.{Holding}
+use Rattle.entry_laws.specs.Stores.{HoldsBehind, Holding}
 pub use Rattle.entry_laws.specs.Tried.{tried_behind, tried_in}
 
 -- It is nothing; or a part of the line of one of these blocks, perhaps none of it or all, and that block is undamaged there;
