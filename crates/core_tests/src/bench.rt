@@ -1,14 +1,14 @@
 //! A bench with the tail of a journal in memory, of which contracts tell nothing: what holds a tail itself is dear to
 //! prove.
 ghost use Rattle.std.specs.Prelude.{◌≡◌};
-ghost use Rattle.ledger_claims.specs.Attempts.{Standing};
+ghost use Rattle.entry_laws.specs.Standings.{Standing};
 ghost use Rattle.txn_core.specs.Opened.{Opened};
 ghost use Rattle.ledger_core.specs.Committing.{IsOpenOn};
 
 use crate::statements::asked_of;
 use crate::stores::store_of;
 use ledger_core::{CommitFault, LoadFault, Receipt, SettleFault, Tail};
-use ledger_model::{Job, Outcome, Request};
+use ledger_model::Request;
 use outside::{MemoryStore, SetClock};
 use proof_forms::Digest;
 use ql_types::{Hash, Hash32, IdMask, Place, TxId};
@@ -17,7 +17,7 @@ use std::alloc::Global;
 use std::marker::Model;
 use txn_core::Txn;
 
-pub(crate) const MASK: IdMask = IdMask { bits: 0 };
+const MASK: IdMask = IdMask { bits: 0 };
 
 const PLACE: Place = Place {
     session: 1,
@@ -140,11 +140,6 @@ impl Bench {
             Ok(tail) => Some(Ok(bench_with(alloc, tail)?)),
             Err(fault) => Some(Err(fault)),
         }
-    }
-
-    /// Does one transaction of the job.
-    pub(crate) fn attempt(&mut self, alloc: Global, job: &Job) -> Outcome {
-        self.tail.attempt(alloc, job, PLACE)
     }
 
     /// How the commit of a transaction with these statements ends, with this digest or, where none is given, with its

@@ -1,12 +1,17 @@
 //! A journal with a block of the last transaction that there can be.
+ghost use Rattle.std.specs.Prelude.{IfSome};
+ghost use Rattle.ledger_shared.specs.Sessions.{AreNumbered};
+
 use ion_values::Text;
 use ledger_core::{BeginFault, Tail};
-use ledger_model::{Job, Outcome, Request};
+use ledger_model::{Job, Outcome, Outcomes, Request, Session};
+use ledger_shared::run_all;
 use lists::Sequence;
-use outside::{Failing, MemoryStore, SetClock};
+use outside::{Failing, FreeGate, MemoryStore, SetClock};
 use ql_types::{IdMask, Place};
 use std::alloc::Global;
-use std::test::Fail;
+use std::sync::Wait;
+use std::thread::Threads;
 
 type MemoryTail = Tail<MemoryStore, SetClock>;
 
@@ -59,6 +64,15 @@ fn job(alloc: Global) -> Option<Job> {
     })
 }
 
+/// The script of that job alone.
+fn script_of(alloc: Global) -> Option<Vec<Session>>
+    ensures { IfSome result (λ script. AreNumbered script.items) }
+{
+    let job = job(alloc)?;
+    let session = Sequence::from_vec(vec![in alloc; job].ok()?);
+    vec![in alloc; session].ok()
+}
+
 /// The number that a begin tells as the last one.
 fn begun_behind(alloc: Global, tail: &mut MemoryTail) -> Option<u64> {
     match tail.begin(alloc, PLACE) {
@@ -67,31 +81,25 @@ fn begun_behind(alloc: Global, tail: &mut MemoryTail) -> Option<u64> {
     }
 }
 
-/// The number that an attempt tells as the last one.
-fn attempted_behind(alloc: Global, tail: &mut MemoryTail, job: &Job) -> Option<u64> {
-    match tail.attempt(alloc, job, PLACE) {
-        Outcome::IdsSpent { last } => Some(last),
+/// The number that the only job's outcome tells as the last one.
+fn told_behind(outcomes: &Outcomes) -> Option<u64> {
+    match &outcomes.as_slice().first()?.outcome {
+        Outcome::IdsSpent { last } => Some(*last),
         _ => None,
     }
 }
 
-/// Whether neither a begin nor an attempt finds a number, and the journal is as before.
-fn are_refused(alloc: Global, tail: &mut MemoryTail, job: &Job) -> bool {
-    let last = Some(u64::MAX);
-    begun_behind(alloc, tail) == last
-        && attempted_behind(alloc, tail, job) == last
-        && tail.blocks().len() == 1
-}
-
-/// The same of the tail of the journal of the line.
-fn is_last(alloc: Global) -> Option<bool> {
-    let job = job(alloc)?;
+/// Whether neither a begin nor a worker finds a number on the tail of the journal of the line, which is as before then.
+fn are_refused<R: Threads + Wait + Sync>(rt: &R, alloc: Global) -> Option<bool> {
+    let script = script_of(alloc)?;
     let mut tail = tail_of(alloc)?;
-    Some(are_refused(alloc, &mut tail, &job))
+    let begun = begun_behind(alloc, &mut tail);
+    let ran = run_all(rt, alloc, script.as_slice(), 1, &FreeGate, tail).ok()?;
+    let last = Some(u64::MAX);
+    Some(begun == last && told_behind(&ran.outcomes) == last && ran.tail.blocks().len() == 1)
 }
 
 #[test]
-fn no_number_is_left_behind_the_last_one(rt: HostRuntime) -> Result<(), Fail> {
-    assert!(rt; is_last(rt.alloc()) == Some(true));
-    Ok(())
+fn no_number_is_left_behind_the_last_one(rt: HostRuntime) {
+    assert!(&rt; are_refused(&rt, rt.alloc()) == Some(true));
 }

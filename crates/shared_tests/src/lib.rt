@@ -2,8 +2,14 @@
 #![tactic(auto)]
 
 #[cfg(test)]
+mod faults;
+#[cfg(test)]
 mod passes;
 #[cfg(test)]
 mod runs;
+#[cfg(test)]
+mod scripts;
+#[cfg(test)]
+mod stores;
 #[cfg(test)]
 mod tails;

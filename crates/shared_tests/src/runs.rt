@@ -2,9 +2,9 @@
 ghost use Rattle.std.specs.Prelude.{◌≡◌, ◌<◌, ◌^◌, IfSome, length};
 ghost use Rattle.ledger_shared.specs.Sessions.{AreNumbered};
 
+use crate::scripts::job_of;
 use crate::tails::{memory_store, sure_store, tail_of};
-use ion_values::Text;
-use ledger_model::{Job, Outcome, Outcomes, Request, Session};
+use ledger_model::{Outcome, Outcomes, Session};
 use ledger_shared::{AllRan, run_all};
 use lists::Sequence;
 use outside::{FreeGate, JournalStore, SetClock};
@@ -16,18 +16,7 @@ use std::thread::Threads;
 fn session_of(alloc: Global, statement: &str) -> Option<Session>
     ensures { IfSome result (λ session. length session ≡ 1) }
 {
-    let text = Text::from_text(alloc, statement).ok()?;
-    let request = Request {
-        text,
-        params: Sequence::new(alloc),
-    };
-    let statements = Sequence::from_vec(vec![in alloc; request].ok()?);
-    let job = Job {
-        statements,
-        retries: 4,
-        digest: None,
-        abort: false,
-    };
+    let job = job_of(alloc, statement, 4)?;
     Some(Sequence::from_vec(vec![in alloc; job].ok()?))
 }
 

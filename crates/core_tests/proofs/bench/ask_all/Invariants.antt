@@ -1,5 +1,5 @@
 use Rattle.std.proofs.Common.{◌≡◌}
-use Rattle.ledger_claims.specs.Attempts.{Standing}
+use Rattle.entry_laws.specs.Standings.{Standing}
 use Rattle.ledger_core.specs.Committing.{IsOpenOn}
 use Rattle.core_tests.proofs.bench.ask_all.Given as goal
 
