@@ -1,16 +1,17 @@
 -- What holds of the block that a job becomes as the next transaction.
-use Rattle.std.proofs.Common.{◌≡◌, ◌+◌, List, [], ◌∷◌, map, refl, sym, ap, subst, ◌∙◌}
+use Rattle.std.proofs.Common.{◌≡◌, ℕ, ◌+◌, ◌-◌, ◌^◌, ◌<◌, false, List, [], ◌∷◌, ◌++◌, length, map, refl, sym, ap, subst, ◌∙◌}
 use Rattle.ion_values.specs.declared.time.TimeParts.{TimeParts}
 use Rattle.ql_types.specs.declared.Place.{Place}
 use Rattle.ledger_model.specs.declared.block.Block.{Block}
 use Rattle.ledger_model.specs.declared.block.Draft.{Draft}
 use Rattle.ledger_model.specs.declared.block.Header.{Header}
 use Rattle.ledger_model.specs.declared.script.Request.{Request}
+use Rattle.ledger_model.specs.Damages.{Undamaged}
 use Rattle.ledger_model.specs.State.{state, draft_of, recorded_in}
 use Rattle.ledger_model.specs.Run.{Begun, Progress, run, ran, final_revisions}
 use Rattle.ledger_model.specs.Journal.{said_in}
 use Rattle.ledger_model.specs.Legal.{asked_in, Means}
-use Rattle.ledger_model.specs.Making.{block_of, header_of, revision_of, time_behind}
+use Rattle.ledger_model.specs.Making.{IsMadeOf, block_of, header_of, revision_of, time_behind}
 use Rattle.ledger_model.specs.Script.{Placed}
 use Rattle.ledger_model.proofs.SaidLemmas.{said_of_run}
 use Rattle.entry_laws.specs.Records.{RunRecord, IsOfJob}

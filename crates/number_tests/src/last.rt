@@ -1,5 +1,5 @@
 //! A journal with a block of the last transaction that there can be.
-ghost use Rattle.std.specs.Prelude.{IfSome};
+ghost use Rattle.std.specs.Prelude.{◌≡◌, IfSome, length};
 ghost use Rattle.ledger_shared.specs.Sessions.{AreNumbered};
 
 use ion_values::Text;
@@ -64,12 +64,19 @@ fn job(alloc: Global) -> Option<Job> {
     })
 }
 
-/// The script of that job alone.
+/// The session of that job alone.
+fn session_of(alloc: Global) -> Option<Session>
+    ensures { IfSome result (λ session. length session ≡ 1) }
+{
+    let job = job(alloc)?;
+    Some(Sequence::from_vec(vec![in alloc; job].ok()?))
+}
+
+/// The script of that session alone.
 fn script_of(alloc: Global) -> Option<Vec<Session>>
     ensures { IfSome result (λ script. AreNumbered script.items) }
 {
-    let job = job(alloc)?;
-    let session = Sequence::from_vec(vec![in alloc; job].ok()?);
+    let session = session_of(alloc)?;
     vec![in alloc; session].ok()
 }
 
