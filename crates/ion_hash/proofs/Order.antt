@@ -8,10 +8,10 @@ use Rattle.std.specs.List.Sorted.{IsSorted, IsStable, ties}
 use Rattle.std.specs.Ordering.{is_lt, is_eq, nat_cmp, ordering_reverse}
 use Rattle.hash_forms.specs.Serialize.{in_order, put_in_order}
 
-abbrev Hashes : Type 0
+abbrev pub Hashes : Type 0
 Hashes = List (List ℕ)
 
-abbrev below : List ℕ → List ℕ → Bool
+abbrev pub below : List ℕ → List ℕ → Bool
 below x y = is_lt (slice_cmp nat_cmp x y)
 
 order : IsStrictWeakOrder below
@@ -23,7 +23,7 @@ neither Equal h g = refl
 neither Greater h g = cc
 
 -- of two different hashes one is less
-level : (x y : List ℕ) → below x y ≡ false → below y x ≡ false → x ≡ y
+pub level : (x y : List ℕ) → below x y ≡ false → below y x ≡ false → x ≡ y
 level x y h g =
     let turned = nat_list_cmp_total.antisymm x y in
     (bytes_decides x y).0 (texts_ties x y ∙ ap is_eq turned ∙ neither (slice_cmp nat_cmp y x) (ap is_lt (sym turned) ∙ h) g)
@@ -32,7 +32,7 @@ not_itself : (x : List ℕ) → below x x ≡ false
 not_itself x = elim (below x x) as (λ b. below x x ≡ b → below x x ≡ false) [ true ↦ λ e. order.one_way x x e | false ↦ λ e. e ] refl
 
 -- whether it is this hash
-abbrev alike : List ℕ → List ℕ → Bool
+abbrev pub alike : List ℕ → List ℕ → Bool
 alike = ties below
 
 alike_from : (b c : Bool) → (not b && not c) ≡ true → (b ≡ false) × (c ≡ false)
@@ -40,17 +40,17 @@ alike_from true c h = absurd (cc)
 alike_from false true h = absurd (cc)
 alike_from false false h = (refl, refl)
 
-alike_is : (x y : List ℕ) → alike x y ≡ true → x ≡ y
+pub alike_is : (x y : List ℕ) → alike x y ≡ true → x ≡ y
 alike_is x y h = let both = alike_from (below x y) (below y x) h in level x y both.0 both.1
 
-alike_itself : (x : List ℕ) → alike x x ≡ true
+pub alike_itself : (x : List ℕ) → alike x x ≡ true
 alike_itself x = rw (not_itself x)
 
 -- each of the hashes is at least x
-abbrev From : List ℕ → Hashes → Type 0
+abbrev pub From : List ℕ → Hashes → Type 0
 From x xs = AllByRecursion (λ y. below y x ≡ false) xs
 
-abbrev Ascends : Hashes → Type 0
+abbrev pub Ascends : Hashes → Type 0
 Ascends [] = Unit {0}
 Ascends (x ∷ xs) = From x xs × Ascends xs
 
@@ -75,10 +75,10 @@ none y x h (z ∷ zs) all =
 first_none : (y x : List ℕ) → below y x ≡ true → (xs : Hashes) → From x xs → filter (alike y) (x ∷ xs) ≡ []
 first_none y x h xs all = none y x h (x ∷ xs) (not_itself x, all)
 
-found : (y : List ℕ) (ys : Hashes) → filter (alike y) (y ∷ ys) ≡ y ∷ filter (alike y) ys
+pub found : (y : List ℕ) (ys : Hashes) → filter (alike y) (y ∷ ys) ≡ y ∷ filter (alike y) ys
 found y ys = rw (alike_itself y)
 
-abbrev Same : Hashes → Hashes → Type 0
+abbrev pub Same : Hashes → Hashes → Type 0
 Same xs ys = (z : List ℕ) → filter (alike z) xs ≡ filter (alike z) ys
 
 not_less : (x y : List ℕ) (xs ys : Hashes) → From x xs → filter (alike y) (x ∷ xs) ≡ filter (alike y) (y ∷ ys) → below y x ≡ false
@@ -93,7 +93,7 @@ behind true x xs ys h = cc
 behind false x xs ys h = h
 
 -- two ascending lists of the same hashes are one
-ascending_same : (xs ys : Hashes) → Ascends xs → Ascends ys → Same xs ys → xs ≡ ys
+pub ascending_same : (xs ys : Hashes) → Ascends xs → Ascends ys → Same xs ys → xs ≡ ys
 ascending_same [] [] up vp same = refl
 ascending_same [] (y ∷ ys) up vp same = absurd (let e = same y in let here = found y ys in cc)
 ascending_same (x ∷ xs) [] up vp same = absurd (let e = same x in let here = found x xs in cc)
@@ -104,7 +104,7 @@ ascending_same (x ∷ xs) (y ∷ ys) up vp same =
     cc
 
 -- a hash that is put in order is one of them, and the others stay
-put_all : (P : List ℕ → Type 0) (h : List ℕ) → P h → (xs : Hashes) → AllByRecursion P xs → AllByRecursion P (put_in_order h xs)
+pub put_all : (P : List ℕ → Type 0) (h : List ℕ) → P h → (xs : Hashes) → AllByRecursion P xs → AllByRecursion P (put_in_order h xs)
 unfolding put_in_order
 put_all P h p [] all = (p, tt)
 put_all P h p (x ∷ xs) all =
@@ -126,7 +126,7 @@ put_ascends h (x ∷ xs) up =
       | false ↦ λ e. ((e, all_from h x e xs up.0), up)
     ] refl
 
-in_order-ascends : (xs : Hashes) → Ascends (in_order xs)
+pub in_order-ascends : (xs : Hashes) → Ascends (in_order xs)
 unfolding in_order
 in_order-ascends [] = tt
 in_order-ascends (x ∷ xs) = put_ascends x (in_order xs) (in_order-ascends xs)
@@ -149,7 +149,7 @@ put_same h (x ∷ xs) z =
       | false ↦ refl
     ]
 
-in_order-same : (xs : Hashes) → Same (in_order xs) xs
+pub in_order-same : (xs : Hashes) → Same (in_order xs) xs
 unfolding in_order
 in_order-same [] z = refl
 in_order-same (x ∷ xs) z =

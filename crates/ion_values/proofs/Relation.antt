@@ -39,43 +39,43 @@ same_level (Body-F.Clob a) (Body-F.Clob b) = bytes_eq a b
 same_level (Body-F.Blob a) (Body-F.Blob b) = bytes_eq a b
 same_level _ _ = false
 
-at_field : (f g : Field) → is_equivalent_field f g ≡ (bytes_eq f.name g.name && is_equivalent f.value g.value)
+pub at_field : (f g : Field) → is_equivalent_field f g ≡ (bytes_eq f.name g.name && is_equivalent f.value g.value)
 at_field f g = search (rules, the_lemmas)
 
-at_roll : (annotations : List (List ℕ)) (b : Body-F Body Field Value) (w : Value) → is_equivalent (record { annotations = annotations; body = roll-Body b }) w ≡ (same_names annotations w.annotations && same_level b (out-Body w.body))
+pub at_roll : (annotations : List (List ℕ)) (b : Body-F Body Field Value) (w : Value) → is_equivalent (record { annotations = annotations; body = roll-Body b }) w ≡ (same_names annotations w.annotations && same_level b (out-Body w.body))
 at_roll annotations b w = search (rules, the_lemmas)
 
-at_value : (v w : Value) → is_equivalent v w ≡ (same_names v.annotations w.annotations && same_level (out-Body v.body) (out-Body w.body))
+pub at_value : (v w : Value) → is_equivalent v w ≡ (same_names v.annotations w.annotations && same_level (out-Body v.body) (out-Body w.body))
 at_value v w = search (rules, the_lemmas)
 
 -- what is the same is equal, and what is equal is the same
-kind_is : (a b : Kind) → same_kind a b ≡ true → a ≡ b
+pub kind_is : (a b : Kind) → same_kind a b ≡ true → a ≡ b
 kind_is a b h = same_true kinds (search rules) a b h
 
-precision_is : (a b : Precision) → same_precision a b ≡ true → a ≡ b
+pub precision_is : (a b : Precision) → same_precision a b ≡ true → a ≡ b
 precision_is a b h = same_true precisions (search rules) a b h
 
-bool_is : (a b : Bool) → same_bool a b ≡ true → a ≡ b
+pub bool_is : (a b : Bool) → same_bool a b ≡ true → a ≡ b
 bool_is true b h = sym h
 bool_is false true h = h
 bool_is false false h = refl
 
-int_is : (a b : ℤ) → int_eq a b ≡ true → a ≡ b
+pub int_is : (a b : ℤ) → int_eq a b ≡ true → a ≡ b
 int_is a b h = (Decides-int_eq a b).0 h
 
-nat_is : (a b : ℕ) → (a == b) ≡ true → a ≡ b
+pub nat_is : (a b : ℕ) → (a == b) ≡ true → a ≡ b
 nat_is a b h = (Decides-eqb a b).0 h
 
-names_are : (a b : List (List ℕ)) → same_names a b ≡ true → a ≡ b
+pub names_are : (a b : List (List ℕ)) → same_names a b ≡ true → a ≡ b
 names_are a b h = (pointwise_decides bytes_decides a b).0 h
 
-offset_is : (a b : Option ℤ) → same_offset a b ≡ true → a ≡ b
+pub offset_is : (a b : Option ℤ) → same_offset a b ≡ true → a ≡ b
 offset_is None None h = refl
 offset_is (Some a) (Some b) h = ap Some (int_is a b h)
 offset_is None (Some b) h = absurd (true≢false (sym h))
 offset_is (Some a) None h = absurd (true≢false (sym h))
 
-decimal_is : (a b : DecimalParts) → same_decimal a b ≡ true → a ≡ b
+pub decimal_is : (a b : DecimalParts) → same_decimal a b ≡ true → a ≡ b
 decimal_is a b h =
     let h1 = first _ _ h in
     let coefficient : a.coefficient ≡ b.coefficient = int_is _ _ (first _ _ h1) in
@@ -83,7 +83,7 @@ decimal_is a b h =
     let negative_zero : a.negative_zero ≡ b.negative_zero = bool_is _ _ (second _ _ h) in
     λ i. record { coefficient = coefficient i; exponent = exponent i; negative_zero = negative_zero i }
 
-time_is : (a b : TimeParts) → same_time a b ≡ true → a ≡ b
+pub time_is : (a b : TimeParts) → same_time a b ≡ true → a ≡ b
 time_is a b h =
     let h8 = first _ _ h in
     let h7 = first _ _ h8 in
@@ -106,36 +106,36 @@ time_is a b h =
     λ i. record { precision = precision i; year = year i; month = month i; day = day i; hour = hour i; minute = minute i; second = second' i; digits = digits i; nanos = nanos i; offset = offset i }
 
 -- each is the same as itself
-kind_own : (a : Kind) → same_kind a a ≡ true
+pub kind_own : (a : Kind) → same_kind a a ≡ true
 kind_own a = (Decides-eqb _ _).1 refl
 
 precision_own : (a : Precision) → same_precision a a ≡ true
 precision_own a = (Decides-eqb _ _).1 refl
 
-bool_own : (a : Bool) → same_bool a a ≡ true
+pub bool_own : (a : Bool) → same_bool a a ≡ true
 bool_own true = refl
 bool_own false = refl
 
-int_own : (a : ℤ) → int_eq a a ≡ true
+pub int_own : (a : ℤ) → int_eq a a ≡ true
 int_own a = (Decides-int_eq a a).1 refl
 
 nat_own : (a : ℕ) → (a == a) ≡ true
 nat_own a = (Decides-eqb a a).1 refl
 
-bytes_own : (a : List ℕ) → bytes_eq a a ≡ true
+pub bytes_own : (a : List ℕ) → bytes_eq a a ≡ true
 bytes_own a = (bytes_decides a a).1 refl
 
 offset_own : (a : Option ℤ) → same_offset a a ≡ true
 offset_own None = refl
 offset_own (Some a) = int_own a
 
-decimal_own : (a : DecimalParts) → same_decimal a a ≡ true
+pub decimal_own : (a : DecimalParts) → same_decimal a a ≡ true
 decimal_own a = simp (int_own, bool_own)
 
-time_own : (a : TimeParts) → same_time a a ≡ true
+pub time_own : (a : TimeParts) → same_time a a ≡ true
 time_own a = rw (precision_own a.precision) (simp (nat_own, offset_own))
 
-names_own : (a : List (List ℕ)) → same_names a a ≡ true
+pub names_own : (a : List (List ℕ)) → same_names a a ≡ true
 names_own a = (pointwise_decides bytes_decides a a).1 refl
 
 own_at_field : (f : Field) → is_equivalent f.value f.value ≡ true → is_equivalent_field f f ≡ true

@@ -18,8 +18,9 @@ pub fn is_within(v: &Value)
     body_is_within(&v.body);
 }
 
+/// The same of a value without its annotations.
 #[cycle(within)]
-fn body_is_within(body: &Body)
+pub fn body_is_within(body: &Body)
     ensures { IsTrue (body_within body.now) }
 {
     match body {
