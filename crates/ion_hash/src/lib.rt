@@ -8,4 +8,4 @@ mod scalars;
 mod timestamps;
 mod values;
 
-pub use values::{hash, serialize};
+pub use values::{field_form, hash, serialize};
