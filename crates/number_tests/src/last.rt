@@ -7,7 +7,7 @@ use ledger_core::{BeginFault, Tail};
 use ledger_model::{Job, Outcome, Outcomes, Request, Session};
 use ledger_shared::run_all;
 use lists::Sequence;
-use outside::{Failing, FreeGate, MemoryStore, SetClock};
+use outside::{Failing, FreeGate, JournalStore, MemoryStore, SetClock};
 use ql_types::{IdMask, Place};
 use std::alloc::Global;
 use std::sync::Wait;
@@ -81,7 +81,7 @@ fn script_of(alloc: Global) -> Option<Vec<Session>>
 }
 
 /// The number that a begin tells as the last one.
-fn begun_behind(alloc: Global, tail: &mut MemoryTail) -> Option<u64> {
+fn begun_behind<S: JournalStore>(alloc: Global, tail: &mut Tail<S, SetClock>) -> Option<u64> {
     match tail.begin(alloc, PLACE) {
         Err(BeginFault::IdsSpent { last }) => Some(last),
         _ => None,
@@ -96,17 +96,26 @@ fn told_behind(outcomes: &Outcomes) -> Option<u64> {
     }
 }
 
-/// Whether neither a begin nor a worker finds a number on the tail of the journal of the line, which is as before then.
-fn are_refused<R: Threads + Wait + Sync>(rt: &R, alloc: Global) -> Option<bool> {
+/// Whether neither a begin nor a worker finds a number on the tail of one block, which is as before then.
+fn are_refused<S: JournalStore + Send + Drop, R: Threads + Wait + Sync>(
+    rt: &R,
+    alloc: Global,
+    tail: Tail<S, SetClock>,
+) -> Option<bool> {
+    let mut tail = tail;
     let script = script_of(alloc)?;
-    let mut tail = tail_of(alloc)?;
     let begun = begun_behind(alloc, &mut tail);
     let ran = run_all(rt, alloc, script.as_slice(), 1, &FreeGate, tail).ok()?;
     let last = Some(u64::MAX);
     Some(begun == last && told_behind(&ran.outcomes) == last && ran.tail.blocks().len() == 1)
 }
 
+/// The same of the tail of the journal of the line.
+fn is_last<R: Threads + Wait + Sync>(rt: &R, alloc: Global) -> Option<bool> {
+    are_refused(rt, alloc, tail_of(alloc)?)
+}
+
 #[test]
 fn no_number_is_left_behind_the_last_one(rt: HostRuntime) {
-    assert!(&rt; are_refused(&rt, rt.alloc()) == Some(true));
+    assert!(&rt; is_last(&rt, rt.alloc()) == Some(true));
 }
