@@ -3,7 +3,10 @@
 #![tactic(auto)]
 
 use ledger_cli::ledger_top;
-use outside::{FileStore, FreeGate, InputSource, OutputSink, StandardStreams, SystemClock};
+use outside::{
+    FileStore, FreeGate, InputSource, OutputSink, StandardStreams, StoreAccess, SystemClock,
+    WaitingStream,
+};
 use std::process::ExitCode;
 use std::rt::Env;
 use std::{env, io};
@@ -45,9 +48,9 @@ fn main(rt: HostRuntime) -> ExitCode {
     let [_program, path, command @ ..] = words.as_slice() else {
         return no_journal(&rt);
     };
-    let mut source = InputSource::new(rt.reader());
-    let mut sink = OutputSink::new(io::writer(&rt));
-    let store = FileStore::new(&rt, path.as_str());
+    let mut source = InputSource::new(WaitingStream::new(&rt, rt.reader()));
+    let mut sink = OutputSink::new(WaitingStream::new(&rt, io::writer(&rt)));
+    let store = FileStore::new(&rt, path.as_str(), access_of(command));
     let Ok(clock_rt) = rt.clone() else {
         return ExitCode::from(8);
     };
@@ -63,6 +66,14 @@ fn main(rt: HostRuntime) -> ExitCode {
         &FreeGate,
     );
     ExitCode::from(ended.status)
+}
+
+/// What the command opens the journal for: `run` and `make` change it, and every other command only reads it.
+fn access_of(command: &[String]) -> StoreAccess {
+    match command.first() {
+        Some(word) if word.as_str() == "run" || word.as_str() == "make" => StoreAccess::Change,
+        _ => StoreAccess::Read,
+    }
 }
 
 /// Says on standard error that the journal might get the descriptor of a standard stream, so that it is not opened.

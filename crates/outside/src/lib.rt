@@ -8,7 +8,10 @@ mod memory;
 mod plan;
 mod traits;
 
-pub use adapters::{FileStore, InputSource, LockFile, OutputSink, StandardStreams, SystemClock};
+pub use adapters::{
+    FileStore, InputSource, LockFile, OutputSink, StandardStreams, StoreAccess, SystemClock,
+    WaitingStream,
+};
 pub use memory::{FreeGate, MemorySink, MemorySource, MemoryStore, SetClock, SureStore};
 pub use plan::Failing;
 pub use traits::{Clock, Gate, JournalStore, OutFault, Sink, Source, Step};

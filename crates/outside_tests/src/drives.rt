@@ -1,7 +1,7 @@
 //! A store over a drive that writes down which calls reach it.
-use outside::{FileStore, JournalStore, LockFile, OutFault};
+use outside::{FileStore, JournalStore, LockFile, OutFault, StoreAccess};
 use std::alloc::Allocator;
-use std::cell::RefCell;
+use std::cell::{Cell, RefCell};
 use std::fs::{Files, Metadata, OpenFile, OpenOptions};
 use std::io;
 use std::io::{ErrorKind, Read, Seek, SeekFrom, Write};
@@ -10,6 +10,7 @@ use std::io::{ErrorKind, Read, Seek, SeekFrom, Write};
 #[derive(Drop)]
 struct Drive<'a> {
     calls: &'a RefCell<String>,
+    size: &'a Cell<u64>,
     has_file: bool,
     is_locked: bool,
     cannot_sync: bool,
@@ -19,6 +20,7 @@ struct Drive<'a> {
 #[derive(Drop)]
 struct Handle<'a> {
     calls: &'a RefCell<String>,
+    size: &'a Cell<u64>,
     name: &'a str,
     is_locked: bool,
     cannot_sync: bool,
@@ -35,6 +37,7 @@ impl<'a> Drive<'a> {
     fn handle(&self, name: &'a str) -> Handle<'a> {
         Handle {
             calls: self.calls,
+            size: self.size,
             name,
             is_locked: self.is_locked,
             cannot_sync: self.cannot_sync,
@@ -59,10 +62,15 @@ impl<'a> Files for Drive<'a> {
             note(self.calls, "make", "\n");
             return Ok(self.handle(" file"));
         }
-        if !self.has_file || how.asks_create() {
+        if !self.has_file || path != "folder/file" {
             return Err(io::Error::from(ErrorKind::NotFound));
         }
-        note(self.calls, "open", "\n");
+        let call = if how.asks_append() {
+            "open"
+        } else {
+            "open to read"
+        };
+        note(self.calls, call, "\n");
         Ok(self.handle(" file"))
     }
 
@@ -70,12 +78,15 @@ impl<'a> Files for Drive<'a> {
         unserved()
     }
 
-    fn metadata(&self, _path: &str) -> io::Result<Metadata> {
-        unserved()
+    fn metadata(&self, path: &str) -> io::Result<Metadata> {
+        if !self.has_file || path != "folder/file" {
+            return Err(io::Error::from(ErrorKind::NotFound));
+        }
+        Ok(Metadata::of_file(self.size.get()))
     }
 
-    fn symlink_metadata(&self, _path: &str) -> io::Result<Metadata> {
-        unserved()
+    fn symlink_metadata(&self, path: &str) -> io::Result<Metadata> {
+        self.metadata(path)
     }
 
     fn copy(&self, _from: &str, _to: &str) -> io::Result<u64> {
@@ -112,6 +123,8 @@ impl Read for Handle<'_> {
 impl Write for Handle<'_> {
     fn write(&mut self, buf: &[u8]) -> io::Result<usize> {
         note(self.calls, "write", "\n");
+        let size = self.size.get();
+        self.size.set(size.saturating_add(buf.len() as u64));
         Ok(buf.len())
     }
 
@@ -128,11 +141,12 @@ impl Seek for Handle<'_> {
 
 impl OpenFile for Handle<'_> {
     fn metadata(&self) -> io::Result<Metadata> {
-        Ok(Metadata::of_file(9))
+        Ok(Metadata::of_file(self.size.get()))
     }
 
-    fn set_len(&self, _size: u64) -> io::Result<()> {
+    fn set_len(&self, size: u64) -> io::Result<()> {
         note(self.calls, "cut", "\n");
+        self.size.set(size);
         Ok(())
     }
 
@@ -158,6 +172,14 @@ impl LockFile for Handle<'_> {
         note(self.calls, "lock", "\n");
         Ok(())
     }
+
+    fn share_at_once(&self) -> io::Result<()> {
+        if self.is_locked {
+            return Err(io::Error::from(ErrorKind::WouldBlock));
+        }
+        note(self.calls, "share", "\n");
+        Ok(())
+    }
 }
 
 /// Whether the calls that were noted are these.
@@ -170,14 +192,15 @@ fn are_noted(calls: &RefCell<String>, wanted: &str) -> bool {
 
 #[test]
 fn syncs_reach_the_file_and_once_its_folder(rt: HostRuntime) {
-    let calls = RefCell::new(String::new(rt.alloc()));
+    let (calls, size) = (RefCell::new(String::new(rt.alloc())), Cell::new(0));
     let drive = Drive {
         calls: &calls,
+        size: &size,
         has_file: false,
         is_locked: false,
         cannot_sync: false,
     };
-    let mut store = FileStore::new(&drive, "folder/file");
+    let mut store = FileStore::new(&drive, "folder/file", StoreAccess::Change);
     assert_eq!(rt; (store.size(), store.sync()), (Ok(0), Ok(())));
     for piece in ["a", "b"] {
         assert_eq!(rt; store.append(piece.as_bytes()), Ok(()));
@@ -194,14 +217,15 @@ fn failed_syncs_and_locks_are_failures(rt: HostRuntime) {
         (true, false, "open\n"),
         (false, true, "open\nlock\n"),
     ] {
-        let calls = RefCell::new(String::new(rt.alloc()));
+        let (calls, size) = (RefCell::new(String::new(rt.alloc())), Cell::new(0));
         let drive = Drive {
             calls: &calls,
+            size: &size,
             has_file: true,
             is_locked,
             cannot_sync,
         };
-        let mut store = FileStore::new(&drive, "folder/file");
+        let mut store = FileStore::new(&drive, "folder/file", StoreAccess::Change);
         assert_eq!(rt; (store.sync(), store.faults()), (Err(OutFault::Failed), 1));
         assert!(rt; are_noted(&calls, wanted));
     }
@@ -209,18 +233,57 @@ fn failed_syncs_and_locks_are_failures(rt: HostRuntime) {
 
 #[test]
 fn a_new_file_that_another_locks_is_left(rt: HostRuntime) {
-    let calls = RefCell::new(String::new(rt.alloc()));
+    let (calls, size) = (RefCell::new(String::new(rt.alloc())), Cell::new(0));
     let drive = Drive {
         calls: &calls,
+        size: &size,
         has_file: false,
         is_locked: true,
         cannot_sync: false,
     };
-    let mut store = FileStore::new(&drive, "folder/file");
+    let mut store = FileStore::new(&drive, "folder/file", StoreAccess::Change);
     assert_eq!(rt;
         (store.size(), store.append(b"a")),
         (Ok(0), Err(OutFault::Failed))
     );
     assert_eq!(rt; (store.cut(0), store.faults()), (Err(OutFault::Failed), 2));
     assert!(rt; are_noted(&calls, "make\n"));
+}
+
+#[test]
+fn a_store_to_be_read_shares_the_lock_and_changes_nothing(rt: HostRuntime) {
+    let (calls, size) = (RefCell::new(String::new(rt.alloc())), Cell::new(9));
+    let drive = Drive {
+        calls: &calls,
+        size: &size,
+        has_file: true,
+        is_locked: false,
+        cannot_sync: false,
+    };
+    let mut store = FileStore::new(&drive, "folder/file", StoreAccess::Read);
+    assert_eq!(rt;
+        (store.size(), store.append(b"a"), store.cut(0)),
+        (Ok(9), Err(OutFault::Failed), Err(OutFault::Failed))
+    );
+    assert!(rt; are_noted(&calls, "open to read\nshare\n"));
+}
+
+#[test]
+fn a_size_that_another_program_changed_is_a_failure(rt: HostRuntime) {
+    let (calls, size) = (RefCell::new(String::new(rt.alloc())), Cell::new(9));
+    let drive = Drive {
+        calls: &calls,
+        size: &size,
+        has_file: true,
+        is_locked: false,
+        cannot_sync: false,
+    };
+    let mut store = FileStore::new(&drive, "folder/file", StoreAccess::Change);
+    assert_eq!(rt; (store.append(b"a"), store.append(b"b")), (Ok(()), Ok(())));
+    size.set(10);
+    assert_eq!(rt;
+        (store.append(b"c"), store.faults()),
+        (Err(OutFault::Failed), 1)
+    );
+    assert!(rt; are_noted(&calls, "open\nlock\nwrite\nwrite\n"));
 }

@@ -1,6 +1,6 @@
 //! A store over real files.
 use crate::calls::{crosses_threads, five_calls};
-use outside::{FileStore, JournalStore, OutFault};
+use outside::{FileStore, JournalStore, OutFault, StoreAccess};
 use std::alloc::{AllocError, Global};
 use std::fs;
 use std::test::Fail;
@@ -21,7 +21,7 @@ fn a_file_is_read_back_at_its_places(rt: HostRuntime) -> Result<(), Fail> {
     let path = "outside_read_back.tmp";
     let _ = fs::remove_file(&rt, path);
     let bytes = counted(rt.alloc(), 70_008)?;
-    let mut store = FileStore::new(&rt, path);
+    let mut store = FileStore::new(&rt, path, StoreAccess::Change);
     crosses_threads(&store);
     assert_eq!(rt; store.size(), Ok(0));
     let mut rest = bytes.as_slice();
@@ -46,21 +46,21 @@ fn a_file_is_held_by_one_store(rt: HostRuntime) -> Result<(), Fail> {
     let path = "outside_held.tmp";
     let _ = fs::remove_file(&rt, path);
     {
-        let mut first = FileStore::new(&rt, path);
-        let mut second = FileStore::new(&rt, path);
+        let mut first = FileStore::new(&rt, path, StoreAccess::Change);
+        let mut second = FileStore::new(&rt, path, StoreAccess::Change);
         assert_eq!(rt; (second.size(), first.append(b"\nxy")), (Ok(0), Ok(())));
         assert_eq!(rt;
             (second.append(b"z"), second.cut(0)),
             (Err(FAILED), Err(FAILED))
         );
-        let mut third = FileStore::new(&rt, path);
+        let mut third = FileStore::new(&rt, path, StoreAccess::Change);
         assert_eq!(rt;
             (third.size(), third.append(b"z"), third.faults()),
             (Err(FAILED), Err(FAILED), 2)
         );
         assert_eq!(rt; fs::read_to_string(&rt, path)?.as_str(), "\nxy");
     }
-    let mut next = FileStore::new(&rt, path);
+    let mut next = FileStore::new(&rt, path, StoreAccess::Change);
     assert_eq!(rt; five_calls(&mut next), [true; 5]);
     assert_eq!(rt; fs::read_to_string(&rt, path)?.as_str(), "\nxya");
     fs::remove_file(&rt, path)?;
@@ -81,7 +81,7 @@ fn what_is_no_journal_is_left(rt: HostRuntime) -> Result<(), Fail> {
         ("{blockAddress:{strandId:'0", false),
     ] {
         fs::write(&rt, path, text)?;
-        let mut store = FileStore::new(&rt, path);
+        let mut store = FileStore::new(&rt, path, StoreAccess::Change);
         assert_eq!(rt; store.cut(0).is_ok(), may_be, "{text}");
         let left = if may_be { "" } else { text };
         assert_eq!(rt; fs::read_to_string(&rt, path)?.as_str(), left);
@@ -91,15 +91,48 @@ fn what_is_no_journal_is_left(rt: HostRuntime) -> Result<(), Fail> {
 }
 
 #[test]
+fn a_file_is_read_by_two_stores(rt: HostRuntime) -> Result<(), Fail> {
+    let path = "outside_shared.tmp";
+    fs::write(&rt, path, "\nxy")?;
+    {
+        let mut first = FileStore::new(&rt, path, StoreAccess::Read);
+        let mut second = FileStore::new(&rt, path, StoreAccess::Read);
+        let mut third = FileStore::new(&rt, path, StoreAccess::Change);
+        assert_eq!(rt;
+            (first.size(), second.size(), third.size()),
+            (Ok(3), Ok(3), Err(FAILED))
+        );
+        assert_eq!(rt;
+            (second.append(b"z"), second.cut(0)),
+            (Err(FAILED), Err(FAILED))
+        );
+    }
+    assert_eq!(rt; fs::read_to_string(&rt, path)?.as_str(), "\nxy");
+    fs::remove_file(&rt, path)?;
+    Ok(())
+}
+
+#[test]
+fn a_file_that_was_removed_fails(rt: HostRuntime) -> Result<(), Fail> {
+    let path = "outside_removed.tmp";
+    let _ = fs::remove_file(&rt, path);
+    let mut store = FileStore::new(&rt, path, StoreAccess::Change);
+    assert_eq!(rt; store.append(b"\n"), Ok(()));
+    fs::remove_file(&rt, path)?;
+    assert_eq!(rt; (store.append(b"a"), store.faults()), (Err(FAILED), 1));
+    Ok(())
+}
+
+#[test]
 fn what_cannot_be_opened_fails(rt: HostRuntime) -> Result<(), Fail> {
     let (file, folder) = ("outside_plain.tmp", "outside_folder.tmp");
     fs::write(&rt, file, "")?;
     let _ = fs::create_dir(&rt, folder);
-    let mut below = FileStore::new(&rt, "outside_plain.tmp/journal");
+    let mut below = FileStore::new(&rt, "outside_plain.tmp/journal", StoreAccess::Change);
     assert_eq!(rt; (below.size(), below.faults()), (Err(FAILED), 1));
-    let mut store = FileStore::new(&rt, folder);
+    let mut store = FileStore::new(&rt, folder, StoreAccess::Change);
     assert_eq!(rt; (store.cut(0), store.faults()), (Err(FAILED), 1));
-    let mut missing = FileStore::new(&rt, "no_such_folder/journal");
+    let mut missing = FileStore::new(&rt, "no_such_folder/journal", StoreAccess::Change);
     let fine = five_calls(&mut missing);
     assert_eq!(rt;
         (fine, missing.faults()),

@@ -1,5 +1,5 @@
 //! A source and a sink over streams that are interrupted, give or take less than they could, and fail.
-use outside::{InputSource, OutFault, OutputSink, Sink, Source};
+use outside::{InputSource, OutFault, OutputSink, Sink, Source, WaitingStream};
 use std::io;
 use std::io::{ErrorKind, Read, Write};
 
@@ -135,4 +135,46 @@ fn sink_over_a_full_writer(rt: HostRuntime) {
         (Err(OutFault::Failed), 1)
     );
     assert_eq!(rt; (sink.write(b""), sink.faults()), (Ok(0), 1));
+}
+
+/// A stream whose first call would have to wait.
+#[derive(Drop)]
+struct Late {
+    is_started: bool,
+}
+
+impl Late {
+    /// The outcome of a call, which is done at the second time.
+    fn call(&mut self) -> io::Result<usize> {
+        if !self.is_started {
+            self.is_started = true;
+            return Err(io::Error::from(ErrorKind::WouldBlock));
+        }
+        Ok(1)
+    }
+}
+
+impl Read for Late {
+    fn read(&mut self, buf: &mut [u8]) -> io::Result<usize> {
+        Ok(self.call()?.min(buf.len()))
+    }
+}
+
+impl Write for Late {
+    fn write(&mut self, buf: &[u8]) -> io::Result<usize> {
+        Ok(self.call()?.min(buf.len()))
+    }
+
+    fn flush(&mut self) -> io::Result<()> {
+        Ok(())
+    }
+}
+
+#[test]
+fn streams_that_would_have_to_wait(rt: HostRuntime) {
+    let late = || Late { is_started: false };
+    let mut source = InputSource::new(WaitingStream::new(&rt, late()));
+    let mut sink = OutputSink::new(WaitingStream::new(&rt, late()));
+    assert_eq!(rt; (source.read(&mut [0]), source.faults()), (Ok(1), 0));
+    assert_eq!(rt; (sink.write(b"lo"), sink.faults()), (Ok(1), 0));
 }

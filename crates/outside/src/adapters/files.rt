@@ -5,15 +5,17 @@ ghost use Rattle.std.specs.Io.{ReadsAtMost};
 ghost use Rattle.outside.specs.Causes.{HasCause, is_failed};
 
 use super::faults::FaultCount;
-use super::held::{HeldFile, LockFile};
+use super::held::{HeldFile, LockFile, StoreAccess};
 use crate::traits::{JournalStore, OutFault};
 use std::io;
 use std::rt::Files;
 
 /// A store over a file. It tells nothing of its content. The first call opens the file, takes the lock that keeps other
-/// processes from it, and keeps it open. It fails where another process has the lock, and where the file is no journal. A
-/// missing file has the size 0, and the first append makes it; where another process made it in between, that append and
-/// each later call fails.
+/// processes from changing it, and keeps it open. It fails where another process has a lock that excludes this one, and
+/// where the file is no regular file or no journal. A missing file has the size 0, and the first append makes it; where
+/// another process made it in between, that append and each later call fails. A store that is opened to be read fails at
+/// each append and each cut. Any call but a read fails where another program has changed the file's size or removed the
+/// file since the last call, and an append fails that would pass the process's limit on the size of files.
 #[derive(Drop)]
 pub struct FileStore<'a, R: Files> {
     file: HeldFile<'a, R>,
@@ -23,13 +25,14 @@ pub struct FileStore<'a, R: Files> {
 
 impl<'a, R: Files> FileStore<'a, R> {
     /// A store over the file at this path, which is not touched yet.
-    pub fn new(rt: &'a R, path: &'a str) -> FileStore<'a, R>
+    pub fn new(rt: &'a R, path: &'a str, access: StoreAccess) -> FileStore<'a, R>
         ensures path { result.file.path.now ≡ path.now }
+        ensures access { result.file.access ≡ access }
         ensures count { result.faults.count ≡ 0 }
         ensures last { result.last_failed ≡ false }
     {
         FileStore {
-            file: HeldFile::new(rt, path),
+            file: HeldFile::new(rt, path, access),
             faults: FaultCount::new(),
             last_failed: false,
         }

@@ -37,7 +37,7 @@ fn begins_line(front: &[u8]) -> bool
 }
 
 /// Reads until the piece is full or nothing is left, and answers how many bytes it gave.
-fn fill<R: Read>(reader: &mut R, out: &mut [u8]) -> io::Result<usize>
+pub(super) fn fill<R: Read>(reader: &mut R, out: &mut [u8]) -> io::Result<usize>
     ensures within { IfOk result (λ count. count ≤ length out.new) }
     ensures bytes { IfOk result (λ count. Consumes (R.remaining reader.old) (R.remaining reader.new) (take count out.new)) }
     ensures end { IfOk result (λ count. count < length out.new → IsAtEnd (R.remaining reader.new)) }
