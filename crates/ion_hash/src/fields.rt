@@ -2,8 +2,8 @@
 ghost use Rattle.std.specs.Prelude.{◌≡◌, ◌++◌, OnOk, IfOk};
 ghost use Rattle.hash_forms.specs.Serialize.{escape, in_order, joined};
 
-use super::buffer::Buffer;
 use super::scalars::put_escaped;
+use ion_binary::Buffer;
 use lists::OutOfMemory;
 
 /// The hashes in the order of their bytes.

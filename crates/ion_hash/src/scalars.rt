@@ -4,9 +4,7 @@ ghost use Rattle.hash_forms.specs.Numbers.{is_below_zero, magnitude};
 ghost use Rattle.hash_forms.specs.Serialize.{decimal_bytes, escape, escaped, framed, int_qualifier, null_qualifier, scalar, symbol_bytes};
 ghost use Rattle.hash_forms.specs.Timestamps.{timestamp_bytes};
 
-use super::buffer::Buffer;
-use super::numbers::{put_int_field, put_magnitude, put_var_int};
-use super::timestamps::put_timestamp;
+use ion_binary::{Buffer, put_decimal_fields, put_magnitude, put_timestamp_fields};
 use ion_values::{Decimal, IonTime, Kind};
 use lists::OutOfMemory;
 use memchr::memchr3;
@@ -118,19 +116,7 @@ fn decimal_representation(alloc: Global, number: &Decimal) -> Result<Buffer, Out
     ensures { IfOk result (λ bytes. bytes ≡ decimal_bytes number.now) }
 {
     let mut representation = Buffer::new(alloc)?;
-    if number.exponent == 0 && number.coefficient == 0 && !number.negative_zero {
-        return Ok(representation);
-    }
-    put_var_int(
-        &mut representation,
-        number.exponent < 0,
-        number.exponent.unsigned_abs(),
-    )?;
-    put_int_field(
-        &mut representation,
-        number.negative_zero || number.coefficient < 0,
-        number.coefficient.unsigned_abs(),
-    )?;
+    put_decimal_fields(&mut representation, number)?;
     Ok(representation)
 }
 
@@ -147,6 +133,6 @@ pub fn put_time(alloc: Global, out: &mut Buffer, time: &IonTime) -> Result<(), O
     ensures { OnOk result (out.new ≡ out.old ++ scalar 0x60 (timestamp_bytes time.now)) }
 {
     let mut representation = Buffer::new(alloc)?;
-    put_timestamp(&mut representation, time)?;
+    put_timestamp_fields(&mut representation, time)?;
     put_scalar(out, 0x60, representation.as_slice())
 }

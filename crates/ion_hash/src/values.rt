@@ -4,11 +4,11 @@ ghost use Rattle.std.specs.List.{flat_map};
 ghost use Rattle.sha2.specs.Sha256.{sha256};
 ghost use Rattle.hash_forms.specs.Serialize.{annotated, field_digest, field_hash, hash_of, joined, serialize, serialize_body, symbol_bytes};
 
-use super::buffer::Buffer;
 use super::fields::{ordered, put_hashes};
 use super::scalars::{
     BEGIN, END, put_decimal, put_int, put_null, put_scalar, put_symbol, put_time,
 };
+use ion_binary::Buffer;
 use ion_values::{Body, Field, Names, Value};
 use lists::{Bytes, OutOfMemory};
 use ql_types::Hash32;
@@ -124,7 +124,7 @@ fn hash_field(alloc: Global, out: &mut Buffer, field: &Field) -> Result<[u8; 32]
     let start = out.len();
     put_symbol(out, field.name.as_str())?;
     put_value(alloc, out, &field.value)?;
-    let hash = Sha256::digest(out.behind(start));
+    let hash = Sha256::digest(out.tail(start));
     out.truncate(start);
     Ok(hash)
 }

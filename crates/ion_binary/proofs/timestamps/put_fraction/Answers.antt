@@ -1,6 +1,6 @@
 use Rattle.std.proofs.Common.{arith, lit<}
 use Rattle.std.proofs.Math.Nat.{one-le-pow}
-use Rattle.ion_hash.proofs.timestamps.put_fraction.Goals as goal
+use Rattle.ion_binary.proofs.timestamps.put_fraction.Goals as goal
 
 pub nonzero_div-nanos : goal.nonzero_div-nanos
 nonzero_div-nanos c =

@@ -1,5 +1,5 @@
-//! The bytes of serializations.
-ghost use Rattle.std.specs.Prelude.{◌≡◌, ◌≤◌, [], ◌∷◌, ◌++◌, drop, length, take, IfOk, OnOk, OnErr};
+//! Growing bytes.
+ghost use Rattle.std.specs.Prelude.{ℕ, List, ◌+◌, ◌≡◌, ◌≤◌, [], ◌∷◌, ◌++◌, drop, length, take, IfOk, OnOk, OnErr};
 
 use lists::{Bytes, OutOfMemory};
 use std::alloc::Global;
@@ -32,14 +32,14 @@ impl Buffer {
         })
     }
 
-    /// How many bytes there are.
+    /// The number of bytes.
     pub fn len(&self) -> usize
         ensures { result ≡ length self.now }
     {
         self.bytes.len()
     }
 
-    /// Puts a byte at the end. After want of memory the bytes are as before.
+    /// Appends a byte. The bytes are as before if memory runs out.
     pub fn push(&mut self, byte: u8) -> Result<(), OutOfMemory>
         ensures ok { OnOk result (self.new ≡ self.old ++ byte ∷ []) }
         ensures err { OnErr result (self.new ≡ self.old) }
@@ -48,7 +48,7 @@ impl Buffer {
         Ok(())
     }
 
-    /// Puts bytes at the end. After want of memory the bytes are as before.
+    /// Appends bytes. The bytes are as before if memory runs out.
     pub fn extend(&mut self, more: &[u8]) -> Result<(), OutOfMemory>
         ensures ok { OnOk result (self.new ≡ self.old ++ more.now) }
         ensures err { OnErr result (self.new ≡ self.old) }
@@ -64,20 +64,28 @@ impl Buffer {
         self.bytes.as_slice()
     }
 
-    /// The bytes from a place on, lent.
-    pub fn behind(&self, start: usize) -> &[u8]
+    /// The bytes from `start` on, lent.
+    pub fn tail(&self, start: usize) -> &[u8]
         requires { start ≤ length self.now }
         ensures { result.now ≡ drop start self.now }
     {
-        let (_, behind) = self.bytes.as_slice().split_at(start);
-        behind
+        let (_, tail) = self.bytes.as_slice().split_at(start);
+        tail
     }
 
-    /// Keeps so many bytes from the front.
+    /// Keeps the first `len` bytes, or all where there are fewer.
     pub fn truncate(&mut self, len: usize)
         ensures { self.new ≡ take len self.old }
     {
         self.bytes.truncate(len);
+    }
+
+    /// Moves the last `count` bytes to `start`, in front of those that stood from there on.
+    pub fn move_last(&mut self, start: usize, count: usize)
+        requires { start + count ≤ length self.old }
+        ensures { (a b c : List ℕ) → self.old ≡ a ++ b ++ c → length a ≡ start → length c ≡ count → self.new ≡ a ++ c ++ b }
+    {
+        self.bytes.as_mut_slice()[start..].rotate_right(count);
     }
 
     /// The bytes, handed over. It takes no memory.

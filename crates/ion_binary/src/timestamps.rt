@@ -3,7 +3,7 @@ ghost use Rattle.std.specs.Prelude.{◌≡◌, ◌++◌, ◌<◌, pos, OnOk};
 ghost use Rattle.jiff_core.specs.Calendar.{days_in_month, is_leap_year};
 ghost use Rattle.ion_values.specs.Dates.{day_after, day_before};
 ghost use Rattle.hash_forms.specs.Timestamps.{clock_bytes, day_bytes, fields_to, fraction_bytes, minute_bytes, month_bytes, offset_bytes, second_bytes, timestamp_bytes, utc_clock, utc_date, minutes_from_local_date};
-ghost use Rattle.ion_hash.specs.Dates.{date_of};
+ghost use Rattle.ion_binary.specs.Dates.{date_of};
 
 use super::buffer::Buffer;
 use super::numbers::{put_int_field, put_var_int, put_var_uint};
@@ -151,22 +151,22 @@ fn put_fraction(out: &mut Buffer, digits: u8, nanos: u32) -> Result<(), OutOfMem
 fn put_clock(out: &mut Buffer, minutes: u32) -> Result<(), OutOfMemory>
     ensures { OnOk result (out.new ≡ out.old ++ clock_bytes minutes) }
 {
-    put_var_uint(out, minutes / 60)?;
-    put_var_uint(out, minutes % 60)
+    put_var_uint(out, (minutes / 60) as u128)?;
+    put_var_uint(out, (minutes % 60) as u128)
 }
 
 fn put_month(out: &mut Buffer, date: Day) -> Result<(), OutOfMemory>
     ensures { OnOk result (out.new ≡ out.old ++ month_bytes (date_of date)) }
 {
-    put_var_uint(out, date.year)?;
-    put_var_uint(out, date.month)
+    put_var_uint(out, date.year as u128)?;
+    put_var_uint(out, date.month as u128)
 }
 
 fn put_day(out: &mut Buffer, date: Day) -> Result<(), OutOfMemory>
     ensures { OnOk result (out.new ≡ out.old ++ day_bytes (date_of date)) }
 {
     put_month(out, date)?;
-    put_var_uint(out, date.day)
+    put_var_uint(out, date.day as u128)
 }
 
 fn put_minute(out: &mut Buffer, t: &TimeParts, date: Day) -> Result<(), OutOfMemory>
@@ -180,7 +180,7 @@ fn put_second(out: &mut Buffer, t: &TimeParts, date: Day) -> Result<(), OutOfMem
     ensures { OnOk result (out.new ≡ out.old ++ second_bytes t.now (date_of date)) }
 {
     put_minute(out, t, date)?;
-    put_var_uint(out, t.second as u32)?;
+    put_var_uint(out, t.second as u128)?;
     put_fraction(out, t.digits, t.nanos)
 }
 
@@ -188,7 +188,7 @@ fn put_fields(out: &mut Buffer, t: &TimeParts, date: Day) -> Result<(), OutOfMem
     ensures { OnOk result (out.new ≡ out.old ++ fields_to t.now.precision t.now (date_of date)) }
 {
     match t.precision {
-        Precision::Year => put_var_uint(out, date.year),
+        Precision::Year => put_var_uint(out, date.year as u128),
         Precision::Month => put_month(out, date),
         Precision::Day => put_day(out, date),
         Precision::Minute => put_minute(out, t, date),
@@ -203,8 +203,8 @@ fn put_parts(out: &mut Buffer, t: &TimeParts) -> Result<(), OutOfMemory>
     put_fields(out, t, date_in_utc(t))
 }
 
-/// Puts the representation of a timestamp.
-pub fn put_timestamp(out: &mut Buffer, time: &IonTime) -> Result<(), OutOfMemory>
+/// Appends the offset as a VarInt and then, in UTC, as many fields as the precision has, the fraction as a decimal.
+pub fn put_timestamp_fields(out: &mut Buffer, time: &IonTime) -> Result<(), OutOfMemory>
     ensures { OnOk result (out.new ≡ out.old ++ timestamp_bytes time.now) }
 {
     put_parts(out, &time.parts())

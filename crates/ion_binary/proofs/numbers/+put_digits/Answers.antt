@@ -1,6 +1,6 @@
 use Rattle.std.proofs.Common.{append_assoc}
-use Rattle.ion_hash.proofs.Digits.{digits_of-first, digits_of-more}
-use Rattle.ion_hash.proofs.numbers.+put_digits.Goals as goal
+use Rattle.ion_binary.proofs.Digits.{digits_of-first, digits_of-more}
+use Rattle.ion_binary.proofs.numbers.+put_digits.Goals as goal
 
 pub returns-then-number-limit : goal.returns-then-number-limit
 returns-then-number-limit t c =

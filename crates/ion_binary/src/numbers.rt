@@ -1,4 +1,4 @@
-//! Numbers as bytes.
+//! Numbers: the basic field formats.
 ghost use Rattle.std.specs.Prelude.{◌≡◌, ◌++◌, ◌<◌, ◌≤◌, ◌+◌, OnOk};
 ghost use Rattle.hash_forms.specs.Numbers.{digits_of, ended, int_field, magnitude, var_int, var_uint};
 
@@ -41,7 +41,7 @@ fn put_groups(out: &mut Buffer, limit: u128, mark: u128, number: u128) -> Result
     }
 }
 
-/// Puts a magnitude.
+/// Appends a magnitude, without leading zero bytes; zero has no bytes.
 pub fn put_magnitude(out: &mut Buffer, number: u128) -> Result<(), OutOfMemory>
     ensures { OnOk result (out.new ≡ out.old ++ magnitude number) }
 {
@@ -51,7 +51,7 @@ pub fn put_magnitude(out: &mut Buffer, number: u128) -> Result<(), OutOfMemory>
     put_digits(out, 256, 256, 0, number)
 }
 
-/// Puts an Int.
+/// Appends an Int, whose sign is the first bit; a positive zero has no bytes.
 pub fn put_int_field(out: &mut Buffer, negative: bool, number: u128) -> Result<(), OutOfMemory>
     ensures { OnOk result (out.new ≡ out.old ++ int_field negative number) }
 {
@@ -61,14 +61,14 @@ pub fn put_int_field(out: &mut Buffer, negative: bool, number: u128) -> Result<(
     put_digits(out, 256, 128, if negative { 128 } else { 0 }, number)
 }
 
-/// Puts a VarUInt.
-pub fn put_var_uint(out: &mut Buffer, number: u32) -> Result<(), OutOfMemory>
+/// Appends a VarUInt in its shortest form.
+pub fn put_var_uint(out: &mut Buffer, number: u128) -> Result<(), OutOfMemory>
     ensures { OnOk result (out.new ≡ out.old ++ var_uint number) }
 {
-    put_groups(out, 128, 0, number as u128)
+    put_groups(out, 128, 0, number)
 }
 
-/// Puts a VarInt.
+/// Appends a VarInt in its shortest form.
 pub fn put_var_int(out: &mut Buffer, negative: bool, number: u32) -> Result<(), OutOfMemory>
     ensures { OnOk result (out.new ≡ out.old ++ var_int negative number) }
 {
