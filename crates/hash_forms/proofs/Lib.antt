@@ -1,3 +1,3 @@
-mod Digits
+pub mod Digits
 mod SerializeRows
-mod UtcDates
+pub mod UtcDates

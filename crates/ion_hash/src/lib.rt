@@ -5,4 +5,4 @@ mod fields;
 mod scalars;
 mod values;
 
-pub use values::{field_form, hash, serialize};
+pub use values::{hash, serialize};

@@ -24,16 +24,6 @@ pub fn serialize(alloc: Global, v: &Value) -> Result<Bytes, OutOfMemory>
     Ok(out.into_bytes())
 }
 
-/// The bytes whose SHA-256 is the field's hash: its name as a symbol and its value, both serialized.
-pub fn field_form(alloc: Global, field: &Field) -> Result<Bytes, OutOfMemory>
-    ensures { IfOk result (λ bytes. bytes ≡ symbol_bytes field.now.name ++ serialize field.now.value) }
-{
-    let mut out = Buffer::new(alloc)?;
-    put_symbol(&mut out, field.name.as_str())?;
-    put_value(alloc, &mut out, &field.value)?;
-    Ok(out.into_bytes())
-}
-
 /// The value's hash: SHA-256 of its serialization.
 #[tactic(auto, unfolding(hash_forms::specs::Serialize::hash_of))]
 pub fn hash(alloc: Global, v: &Value) -> Result<Hash32, OutOfMemory>

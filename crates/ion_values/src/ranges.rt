@@ -18,9 +18,8 @@ pub fn is_within(v: &Value)
     body_is_within(&v.body);
 }
 
-/// The same of a value without its annotations.
 #[cycle(within)]
-pub fn body_is_within(body: &Body)
+fn body_is_within(body: &Body)
     ensures { IsTrue (body_within body.now) }
 {
     match body {
