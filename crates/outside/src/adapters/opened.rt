@@ -19,7 +19,7 @@ pub(super) struct OpenJournal<F> {
 }
 
 /// What another program changes of a file where it cuts it, appends to it, removes it or puts another one in its place.
-#[derive(Clone, Copy, PartialEq, Eq, Drop)]
+#[derive(Clone, Copy, PartialEq, Eq)]
 struct Shape {
     size: u64,
     /// Some path leads to the file.
@@ -31,6 +31,14 @@ impl Shape {
         Shape {
             size: found.len(),
             is_named: found.nlink() > 0,
+        }
+    }
+
+    /// Whether another one was left.
+    fn is_other_than(self, left: Option<Shape>) -> bool {
+        match left {
+            Some(left) => left != self,
+            None => false,
         }
     }
 }
@@ -55,13 +63,11 @@ impl<F: Read + Write + Seek + OpenFile> OpenJournal<F> {
     /// What is so of the file. It fails where that isn't what the last call left.
     fn shape(&mut self) -> io::Result<Shape> {
         let shape = Shape::of(&self.file.metadata()?);
-        match self.left {
-            Some(left) if left != shape => Err(io::Error::from(ErrorKind::InvalidData)),
-            _ => {
-                self.left = Some(shape);
-                Ok(shape)
-            }
+        if shape.is_other_than(self.left) {
+            return Err(io::Error::from(ErrorKind::InvalidData));
         }
+        self.left = Some(shape);
+        Ok(shape)
     }
 
     pub(super) fn read_at(&mut self, at: u64, out: &mut [u8]) -> io::Result<usize>
