@@ -4,11 +4,13 @@ once, each a share that begins at another one: what nests is read, meant, compar
 a worker's thread. What is deeper must be refused as it should be, and no run may end by a signal. Ends with status 1 where
 something isn't as it should be.
 
-    tests/nesting.py [PROGRAM]
+    tests/nesting.py [PROGRAM [KILOBYTES]]
 
-The program is crates/ledger/out/ledger, where `rt ci` leaves it, or another path.
+The program is crates/ledger/out/ledger, where `rt ci` leaves it, or another path. With a number each of its threads has a stack of so
+many kilobytes, as `ulimit -s` sets it.
 """
 import re
+import resource
 import subprocess
 import sys
 import tempfile
@@ -214,6 +216,9 @@ def find(construct, lines):
 
 def main():
     program = str(Path(sys.argv[1] if len(sys.argv) > 1 else PROGRAM).resolve())
+    if len(sys.argv) > 2:
+        _, most = resource.getrlimit(resource.RLIMIT_STACK)
+        resource.setrlimit(resource.RLIMIT_STACK, (int(sys.argv[2]) << 10, most))
     made = constructs()
     with tempfile.TemporaryDirectory() as folder:
         journal = Path(folder) / "journal"
