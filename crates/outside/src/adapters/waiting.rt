@@ -1,6 +1,4 @@
 //! Streams whose calls would not wait.
-ghost use Rattle.std.specs.Io.{ReadsAtMost, WritesAtMost};
-
 use std::io::{ErrorKind, Read, Write};
 use std::time::{Clock, Duration};
 use std::{io, thread};
@@ -24,28 +22,34 @@ impl<'a, C: Clock, S> WaitingStream<'a, C, S> {
 }
 
 impl<C: Clock, S: Read> Read for WaitingStream<'_, C, S> {
-    fn read(&mut self, buf: &mut [u8]) -> io::Result<usize>
-        ensures bound { ReadsAtMost result buf.new }
-    {
+    fn read(&mut self, buf: &mut [u8]) -> io::Result<usize> {
         'tries: for _ in 0..u64::MAX {
             match self.inner.read(buf) {
-                Err(error) if would_wait(&error) => pause(self.clock),
-                done => return done,
+                Ok(count) => return Ok(count),
+                Err(error) => {
+                    if !would_wait(&error) {
+                        return Err(error);
+                    }
+                }
             }
+            pause(self.clock);
         }
         Err(io::Error::from(ErrorKind::TimedOut))
     }
 }
 
 impl<C: Clock, S: Write> Write for WaitingStream<'_, C, S> {
-    fn write(&mut self, buf: &[u8]) -> io::Result<usize>
-        ensures bound { WritesAtMost result buf.now }
-    {
+    fn write(&mut self, buf: &[u8]) -> io::Result<usize> {
         'tries: for _ in 0..u64::MAX {
             match self.inner.write(buf) {
-                Err(error) if would_wait(&error) => pause(self.clock),
-                done => return done,
+                Ok(taken) => return Ok(taken),
+                Err(error) => {
+                    if !would_wait(&error) {
+                        return Err(error);
+                    }
+                }
             }
+            pause(self.clock);
         }
         Err(io::Error::from(ErrorKind::TimedOut))
     }
