@@ -24,7 +24,6 @@ use Rattle.entry_laws.specs.Claims.{RunsBefore}
 use Rattle.entry_laws.specs.Runs.{IsRunBy, Served, is_dealt, opening_of, told_of}
 use Rattle.entry_laws.proofs.Fitting.{fits, in_line_of}
 use Rattle.entry_laws.proofs.InRows.{AllLess, Rise, are_next, in_row, told_rise}
-use Rattle.entry_laws.proofs.Earlier.{all_true}
 use Rattle.entry_laws.proofs.Links.{InTime, IsLink, Link, all_new, few_drawn, in_time_rest, may_have_drawn, stands_new}
 use Rattle.entry_laws.proofs.Lists.{all_kept, all_stand, many_stand, one_length, prefix_front, seen_in, stands_all, stands_front, stands_parts, stands_rest}
 use Rattle.entry_laws.proofs.Makes.{IsEntryOf, drawn}
@@ -34,6 +33,12 @@ use Rattle.entry_laws.proofs.Pairs.{AreInOrder, AreServed, all_served}
 use Rattle.entry_laws.proofs.Reaches.{IsSealedIn, IsToldIn, begun_by, comes_behind, fewer_blocks, grew, lasts_on, may_come, blocks_sealed, number_drawn, run_prefix}
 use Rattle.entry_laws.proofs.Tells.{IsNumbered, draws}
 use Rattle.entry_laws.proofs.Told.{IsOne, all_tells, ids_told, one_id, tells}
+
+-- ---- what is so of everything
+
+all_true : {A : Type 0} (P : A → Type 0) → ((x : A) → P x) → (xs : List A) → AllByRecursion P xs
+all_true P f [] = tt
+all_true P f (x ∷ xs) = (f x, all_true P f xs)
 
 -- ---- what each outcome tells
 
