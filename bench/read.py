@@ -15,7 +15,7 @@ MEGABYTE = 1_000_000
 SIZE = 16 * MEGABYTE
 RUNS = 5
 TOP = Path(__file__).resolve().parent.parent
-CRATES = ["lists", "ion_values", "ion_forms", "ion_grammar", "ion_tokens", "ion_text"]
+CRATES = ["lists", "ion_values", "ion_model", "ion_model", "ion_lexer", "ion_text"]
 WORDS = "journal block ledger Lewis vehicle owner Straße owner's registration plate naïve total city 東京".split()
 
 

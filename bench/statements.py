@@ -11,8 +11,8 @@ from pathlib import Path
 SIZES = [25_000, 50_000, 100_000]
 RUNS = 5
 TOP = Path(__file__).resolve().parent.parent
-CRATES = ["lists", "ql_types", "ion_values", "ion_forms", "ion_grammar", "ion_tokens", "ion_text", "ion_order"]
-CRATES += ["pql_model", "pql_tokens", "pql_grammar", "pql_parse"]
+CRATES = ["lists", "ql_types", "ion_values", "ion_model", "ion_model", "ion_lexer", "ion_text", "ion_order"]
+CRATES += ["pql_model", "pql_lexer", "pql_expr_parser", "pql_parse"]
 
 
 # ---- texts in which one construct repeats

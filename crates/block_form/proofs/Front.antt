@@ -5,7 +5,7 @@ use Rattle.ion_values.specs.declared.value.Field.{Field}
 use Rattle.ledger_model.specs.declared.block.Header.{Header}
 use Rattle.ledger_model.specs.Values.{field, fields_in}
 use Rattle.ledger_model.specs.Journal.{front_fields, header_value, number}
-use Rattle.value_parts.proofs.SmallParts.{fields-puts}
+use Rattle.value_codec.proofs.SmallParts.{fields-puts}
 
 -- the fields of a header's value
 abbrev header_fields : Header → List Field

@@ -11,7 +11,7 @@ use Rattle.ledger_model.specs.Journal.{structure, address_value, hash_value, met
 use Rattle.ledger_model.specs.Script.{each}
 use Rattle.block_form.specs.declared.part_hashes.PartHashes.{PartHashes}
 use Rattle.block_form.specs.Hashed.{metadata_hash, metadata_hash_in, part_hashes, part_hashes_in, TellParts}
-use Rattle.value_parts.proofs.SmallParts.{fields-puts, list-puts}
+use Rattle.value_codec.proofs.SmallParts.{fields-puts, list-puts}
 
 fields_with : Content → Revision → List Field
 fields_with content r =

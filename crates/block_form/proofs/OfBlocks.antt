@@ -16,11 +16,11 @@ use Rattle.ledger_model.specs.Journal.{structure, list, moment, id_value, hash_v
 use Rattle.ledger_model.specs.Script.{and_then, each}
 use Rattle.ledger_model.specs.Whole.{id_fits, hash_fits, entry_fits, address_fits, revision_fits, info_fits, header_fits, hashes_fit, block_fits, is_plain_revision, is_redacted, is_unredacted}
 use Rattle.block_form.specs.declared.read_blocks.Hashes.{Hashes}
-use Rattle.value_parts.specs.ReadParts.{named, moment_in, id_in, hash_in, entry_in, address_in}
+use Rattle.value_codec.specs.ReadParts.{named, moment_in, id_in, hash_in, entry_in, address_in}
 use Rattle.block_form.specs.ReadBack.{revision_in, revisions_in, info_in, header_of, entries_of, hashes_of, count_of, block_with, parts_of, block_of, block_in}
-use Rattle.value_parts.proofs.Inverse.{took, fields-gets, left, right, cons}
-use Rattle.value_parts.proofs.SmallParts.{fields-puts, list-gets, list-puts, id-gets, id-puts, hash-gets, hash-puts, entry_value, entry-gets, entry-puts, moment-gets, moment-puts}
-use Rattle.value_parts.proofs.Fields.{named-is, taken, always, address-gets, address-puts, each-gets, each-puts, both_of, all_of}
+use Rattle.value_codec.proofs.Inverse.{took, fields-gets, left, right, cons}
+use Rattle.value_codec.proofs.SmallParts.{fields-puts, list-gets, list-puts, id-gets, id-puts, hash-gets, hash-puts, entry_value, entry-gets, entry-puts, moment-gets, moment-puts}
+use Rattle.value_codec.proofs.Fields.{named-is, taken, always, address-gets, address-puts, each-gets, each-puts, both_of, all_of}
 use Rattle.block_form.proofs.OfRevisions.{revision-gets, revision-puts}
 use Rattle.block_form.proofs.OfInfo.{is_plain_info, info-gets, info-puts}
 

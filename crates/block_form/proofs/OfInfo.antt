@@ -21,11 +21,11 @@ use Rattle.ledger_model.specs.Values.{field, fields_in, list_in, string_in}
 use Rattle.ledger_model.specs.Journal.{structure, list, string, number, id_value, place_value, said_value, change_value, schema_value, document_value, document_values, info_value}
 use Rattle.ledger_model.specs.Script.{and_then}
 use Rattle.ledger_model.specs.Whole.{id_fits, table_fits, place_fits, schema_fits, info_fits, revision_fits, is_plain_change, is_redact, is_said}
-use Rattle.value_parts.specs.ReadParts.{named, number_in, id_in}
+use Rattle.value_codec.specs.ReadParts.{named, number_in, id_in}
 use Rattle.block_form.specs.ReadBack.{place_of, place_in, said_of, said_in, change_of, schema_of, schema_in, table_of, table_in, tables_of, info_of, info_in}
-use Rattle.value_parts.proofs.Inverse.{Gets, Puts, took, fields-gets, left, right, cons}
-use Rattle.value_parts.proofs.SmallParts.{fields-puts, list-gets, list-puts, string-gets, string-puts, below, number-gets, number-puts, id-gets, id-puts}
-use Rattle.value_parts.proofs.Fields.{named-is, taken, taken_all, always, each-puts, both_of, all_of}
+use Rattle.value_codec.proofs.Inverse.{Gets, Puts, took, fields-gets, left, right, cons}
+use Rattle.value_codec.proofs.SmallParts.{fields-puts, list-gets, list-puts, string-gets, string-puts, below, number-gets, number-puts, id-gets, id-puts}
+use Rattle.value_codec.proofs.Fields.{named-is, taken, taken_all, always, each-puts, both_of, all_of}
 
 -- ---- places
 

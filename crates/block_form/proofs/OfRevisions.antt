@@ -10,11 +10,11 @@ use Rattle.ledger_model.specs.declared.block.Revision.{Revision}
 use Rattle.ledger_model.specs.Values.{field, fields_in}
 use Rattle.ledger_model.specs.Journal.{structure, number, moment, id_value, hash_value, address_value, metadata_value, data_fields, revision_value}
 use Rattle.ledger_model.specs.Whole.{id_fits, hash_fits, address_fits, content_fits, is_plain_revision, is_redacted, metadata_fits, revision_fits}
-use Rattle.value_parts.specs.ReadParts.{named, number_in, moment_in, id_in, hash_in, address_in}
+use Rattle.value_codec.specs.ReadParts.{named, number_in, moment_in, id_in, hash_in, address_in}
 use Rattle.block_form.specs.ReadBack.{metadata_of, metadata_in, with_content, revision_of, revision_in}
-use Rattle.value_parts.proofs.Inverse.{Gets, Puts, took, fields-gets, left, right, cons}
-use Rattle.value_parts.proofs.SmallParts.{fields-puts, below, number-gets, number-puts, id-gets, id-puts, hash-gets, hash-puts, moment-gets, moment-puts}
-use Rattle.value_parts.proofs.Fields.{named-is, taken, always, address-gets, address-puts}
+use Rattle.value_codec.proofs.Inverse.{Gets, Puts, took, fields-gets, left, right, cons}
+use Rattle.value_codec.proofs.SmallParts.{fields-puts, below, number-gets, number-puts, id-gets, id-puts, hash-gets, hash-puts, moment-gets, moment-puts}
+use Rattle.value_codec.proofs.Fields.{named-is, taken, always, address-gets, address-puts}
 
 metadata_of-is : (fs : List Field) (m : Metadata) → metadata_of fs ≡ Some m → (structure fs ≡ metadata_value m) × (metadata_fits m ≡ true)
 metadata_of-is (f ∷ g ∷ h ∷ i ∷ []) m e =

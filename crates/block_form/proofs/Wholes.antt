@@ -11,7 +11,7 @@ use Rattle.ledger_model.specs.declared.block.Block.{Block}
 use Rattle.ledger_model.specs.Journal.{block_value}
 use Rattle.ledger_model.specs.Whole.{is_shallow, IsWhole}
 use Rattle.block_form.specs.ReadBack.{block_in, shallow, whole_in, IsReadAs, ValuesTellBlocks}
-use Rattle.value_parts.proofs.Inverse.{took, left, right}
+use Rattle.value_codec.proofs.Inverse.{took, left, right}
 use Rattle.block_form.proofs.OfBlocks.{IsRead, block-gets, block-puts}
 
 read_of_whole : (b : Block) → IsWhole b → IsRead b

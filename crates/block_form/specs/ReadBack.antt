@@ -23,7 +23,7 @@ use Rattle.ledger_model.specs.declared.block.Info.{Info}
 use Rattle.ledger_model.specs.declared.block.Header.{Header}
 use Rattle.ledger_model.specs.declared.block.Block.{Block}
 use Rattle.block_form.specs.declared.read_blocks.Hashes.{Hashes}
-pub use Rattle.value_parts.specs.ReadParts.{named, number_in, moment_in, id_in, hash_in, entry_in, address_in}
+pub use Rattle.value_codec.specs.ReadParts.{named, number_in, moment_in, id_in, hash_in, entry_in, address_in}
 use Rattle.ledger_model.specs.Values.{string_in, list_in, fields_in}
 use Rattle.ledger_model.specs.Script.{and_then, each}
 use Rattle.ledger_model.specs.Journal.{block_value}

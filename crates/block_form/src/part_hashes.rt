@@ -4,12 +4,12 @@ ghost use Rattle.std.specs.Option.{option_copied};
 ghost use Rattle.ledger_model.specs.Script.{each};
 ghost use Rattle.block_form.specs.Hashed as spec;
 
+use containers::Sequence;
 use ion_hash::hash;
 use ion_values::{Field, Fields, OutOfMemory, Value};
-use lists::Sequence;
 use ql_types::Hash32;
 use std::alloc::Global;
-use value_parts::read_parts::{fields_in, list_in};
+use value_codec::read_parts::{fields_in, list_in};
 
 /// The hashes of what a block said and did, and of each revision's metadata.
 #[derive(Drop)]

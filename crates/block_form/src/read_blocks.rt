@@ -12,8 +12,8 @@ use ion_values::{Field, Fields, OutOfMemory, Value, copy, depth};
 use ledger_model::{Block, Content, Header, Info, Revision, Revisions};
 use ql_types::{Hash, Hash32, TxId};
 use std::alloc::Global;
-use value_parts::read_parts::{address_in, entry_in, hash_in, id_in, list_in, moment_in, named};
-use value_parts::takes::{into_fields, into_members, into_named};
+use value_codec::read_parts::{address_in, entry_in, hash_in, id_in, list_in, moment_in, named};
+use value_codec::takes::{into_fields, into_members, into_named};
 
 /// The hashes of a block.
 #[derive(Drop)]

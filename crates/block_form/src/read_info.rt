@@ -5,13 +5,13 @@ ghost use Rattle.ledger_model.specs.Script.{and_then, each};
 ghost use Rattle.ledger_model.specs.Values.{list_in};
 ghost use Rattle.block_form.specs.ReadBack as spec;
 
+use containers::Sequence;
 use ion_values::{Field, Fields, OutOfMemory, Text, Value, Values};
 use ledger_model::{Answer, Info, Revision, Said, SaidList, Schema, SchemaList, TableIds, Told};
-use lists::Sequence;
 use ql_types::{Place, TableId};
 use std::alloc::Global;
-use value_parts::read_parts::{fields_in, id_in, list_in, named, small_number_in};
-use value_parts::takes::{into_fields, into_members, into_string, into_text, with_room};
+use value_codec::read_parts::{fields_in, id_in, list_in, named, small_number_in};
+use value_codec::takes::{into_fields, into_members, into_string, into_text, with_room};
 
 fn place_in(v: &Value) -> Option<Place>
     ensures { result ≡ spec.place_in v.now }

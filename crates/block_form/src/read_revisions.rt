@@ -7,8 +7,8 @@ use ion_values::{Field, Fields, OutOfMemory, Value, Values, copy};
 use ledger_model::{Content, Metadata, Revision, Revisions};
 use ql_types::{DocId, TxId};
 use std::alloc::Global;
-use value_parts::read_parts::{address_in, fields_in, hash_in, id_in, moment_in, named, number_in};
-use value_parts::takes::{into_fields, into_named, with_room};
+use value_codec::read_parts::{address_in, fields_in, hash_in, id_in, moment_in, named, number_in};
+use value_codec::takes::{into_fields, into_named, with_room};
 
 fn metadata_in(v: &Value) -> Option<Metadata>
     ensures { result ≡ spec.metadata_in v.now }

@@ -2,11 +2,11 @@
 ghost use Rattle.std.specs.Prelude.{◌≡◌, ◌++◌, map, IfOk, OnOk};
 ghost use Rattle.ledger_model.specs.Journal.{metadata_value, data_fields, revision_value};
 
+use containers::Sequence;
 use ion_values::{Fields, OutOfMemory, Value, Values, copy};
 use ledger_model::{Content, Metadata, Revision};
-use lists::Sequence;
 use std::alloc::Global;
-use value_parts::parts::{address_value, hash_value, id_value, moment, number, put, structure};
+use value_codec::parts::{address_value, hash_value, id_value, moment, number, put, structure};
 
 /// The metadata as a value.
 pub fn metadata_value(alloc: Global, metadata: &Metadata) -> Result<Value, OutOfMemory>

@@ -2,12 +2,12 @@
 ghost use Rattle.std.specs.Prelude.{◌≡◌, ◌++◌, [], ◌∷◌, map, IfOk, OnOk};
 ghost use Rattle.ledger_model.specs.Journal.{list, place_value, said_value, told_field, change_value, redact_value, schema_value, document_value, document_values, info_value};
 
+use containers::Sequence;
 use ion_values::{Fields, OutOfMemory, Text, Value, Values, copy_values};
 use ledger_model::{Info, Revision, Said, Schema, Told};
-use lists::Sequence;
 use ql_types::{BlockAddress, DocId, Place, TableId};
 use std::alloc::Global;
-use value_parts::parts::{
+use value_codec::parts::{
     address_value, hash_value, id_value, list, number, put, string, structure,
 };
 

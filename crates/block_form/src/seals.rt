@@ -1,21 +1,21 @@
 //! The hashes of revisions and blocks.
 ghost use Rattle.std.specs.Prelude.{◌≡◌, map, IfOk};
-ghost use Rattle.hash_forms.specs.Serialize.{hash_of};
+ghost use Rattle.hash_model.specs.Serialize.{hash_of};
 ghost use Rattle.ledger_model.specs.Journal.{block_value, header_value, info_value, metadata_value, revision_value};
 ghost use Rattle.ledger_model.specs.Seals.{revision_hash, entries_hash, revisions_root, sealed, strand_hash};
 
 use crate::revisions::{metadata_value, revision_with};
 use crate::said::info_value;
 use crate::values::{header_value, value_with};
+use containers::Sequence;
 use ion_hash::hash;
 use ion_values::{OutOfMemory, Value, Values};
 use ledger_model::{Block, Content, Header, Info, Metadata, Revision, Revisions};
-use lists::Sequence;
 use pad_tree::root;
 use pair_hash::dot_full;
 use ql_types::{BlockAddress, Hash, Hash32, StrandId};
 use std::alloc::Global;
-use value_parts::parts::id_value;
+use value_codec::parts::id_value;
 
 /// The hash of a revision: that of its metadata with that of its data, which may stand for the data, or of its metadata
 /// alone where it is a delete.

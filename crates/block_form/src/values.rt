@@ -6,15 +6,15 @@ ghost use Rattle.ledger_model.specs.Journal.{block_value, front_fields, hash_byt
 
 use crate::revisions::revision_values;
 use crate::said::info_value;
+use containers::Sequence;
 use ion_values::{Body, Fields, OutOfMemory, Value, Values};
 use ledger_model::{Block, Header};
-use lists::Sequence;
 use ql_types::Hash;
 use std::alloc::Global;
-use value_parts::parts::{
+use value_codec::parts::{
     address_value, hash_value, id_value, list, moment, number, plain, put, structure,
 };
-use value_parts::takes::into_fields;
+use value_codec::takes::into_fields;
 
 /// The header of a block, as it is hashed and as a proof has it.
 pub fn header_value(alloc: Global, header: &Header) -> Result<Value, OutOfMemory>

@@ -5,8 +5,8 @@ ghost use Rattle.footprints.specs.Lent.{asked_of, meant_of, side_of, texts};
 
 use crate::names::resolved;
 use crate::sides::Side;
+use containers::Sequence;
 use ion_values::{OutOfMemory, Text, Value};
-use lists::Sequence;
 use pql_model::{Resolved, Source};
 use std::alloc::Global;
 

@@ -4,8 +4,8 @@ ghost use Rattle.std.specs.List.{list_any};
 ghost use Rattle.ledger_model.specs.Follows.{has_index};
 ghost use Rattle.footprints.specs.Lent.{makes_index, schemas_of};
 
+use containers::Text;
 use ledger_model::Schema;
-use lists::Text;
 use ql_types::TableId;
 use versions::{Table, Versions};
 

@@ -6,8 +6,8 @@ ghost use Rattle.ledger_model.specs.Footprints as spec;
 ghost use Rattle.footprints.specs.Lent.{side_of, texts};
 ghost use Rattle.footprints.specs.Sides.{path_side, step_of};
 
+use containers::Sequence;
 use ion_values::{OutOfMemory, Text, Value};
-use lists::Sequence;
 use pql_model::{Expr, Path, PathStep};
 use std::alloc::Global;
 

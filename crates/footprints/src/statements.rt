@@ -7,9 +7,9 @@ ghost use Rattle.footprints.specs.Lent.{schemas_of};
 use crate::equations::all_asked;
 use crate::reads::{put_names, put_reads};
 use crate::schemas::Schemas;
+use containers::Sequence;
 use ion_values::{OutOfMemory, Text, Value};
 use ledger_model::Item;
-use lists::Sequence;
 use pql_model::{FromClause, Statement};
 use std::alloc::Global;
 

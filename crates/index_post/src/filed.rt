@@ -6,7 +6,7 @@ ghost use Rattle.std.specs.BTreeMap.{insert_entry};
 ghost use Rattle.index_post.specs.Positions.{positions_by, set_at, listed, IsAscending, IsChangedBy};
 
 use crate::positions::Positions;
-use lists::OutOfMemory;
+use containers::OutOfMemory;
 use pmap::{Keyed, PMap};
 use ql_types::Steps;
 use std::alloc::Global;

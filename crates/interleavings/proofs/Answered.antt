@@ -11,7 +11,7 @@ use Rattle.ledger_core.specs.declared.appending.Receipt.{Receipt}
 use Rattle.ledger_core.specs.declared.commit.CommitFault.{CommitFault}
 use Rattle.ledger_core.specs.Beginning.{begun_on, drawn}
 use Rattle.ledger_core.specs.Committing.{CommitEnds, IsAnswer, tx_of}
-use Rattle.event_form.specs.Lines as line
+use Rattle.interleavings.specs.Lines as line
 use Rattle.interleavings.specs.declared.desk.OpenTxn.{OpenTxn}
 use Rattle.interleavings.specs.Desks.{Aborts, Begins, Commits, Executes, IsServed, MemoryTail, commit_line, execute_line, named, opened, sent, without}
 

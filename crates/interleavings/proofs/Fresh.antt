@@ -1,10 +1,10 @@
 -- The tail of an empty journal.
 use Rattle.std.proofs.Common.{◌≡◌, ℕ, ◌+◌, Bool, List, [], ◌∷◌, ◌++◌, length, length-append, ℤ, refl, sym, ap, subst, ◌∙◌, arith}
-use Rattle.ion_forms.specs.Write.{value_text}
+use Rattle.ion_model.specs.Write.{value_text}
 use Rattle.ledger_model.specs.declared.block.Block.{Block}
 use Rattle.ledger_model.specs.Journal.{block_value, journal_bytes, line}
-use Rattle.entry_laws.specs.Standings.{Standing}
-use Rattle.entry_laws.specs.Records.{greatest, mask_of}
+use Rattle.laws_history.specs.Standings.{Standing}
+use Rattle.laws_history.specs.Records.{greatest, mask_of}
 use Rattle.outside.specs.Clocks.{ClockHeld}
 use Rattle.outside.specs.FailPlan.{FailPlan}
 use Rattle.outside.specs.StoreForms.{StoreHeld, store_of}

@@ -4,3 +4,4 @@ pub mod Lists
 pub mod Places
 pub mod Running
 pub mod Telling
+mod Grouped

@@ -6,7 +6,7 @@ use Rattle.pql_model.specs.declared.Answer.{Answer}
 use Rattle.ledger_model.specs.declared.outcome.Refusal.{Refusal}
 use Rattle.ledger_model.specs.declared.script.Request.{Request}
 use Rattle.ledger_model.specs.Run.{Begun}
-use Rattle.entry_laws.specs.Standings.{Standing}
+use Rattle.laws_history.specs.Standings.{Standing}
 use Rattle.txn_core.specs.Opened.{Executed, Opened}
 use Rattle.ledger_core.specs.Beginning.{begun_on}
 use Rattle.ledger_core.specs.Committing.{IsOpenOn}

@@ -3,9 +3,9 @@ use Rattle.std.proofs.Common.{◌≡◌, ℕ, zero, suc, ◌+◌, ◌<◌, List,
 use Rattle.std.specs.Prelude.{slice_get}
 use Rattle.ion_values.specs.declared.value.Value.{Value}
 use Rattle.ledger_model.specs.declared.block.Block.{Block}
-use Rattle.event_form.specs.declared.events.Event.{Event}
-use Rattle.event_form.specs.Events.{event_in}
-use Rattle.event_form.specs.Lines as line
+use Rattle.interleavings.specs.declared.events.Event.{Event}
+use Rattle.interleavings.specs.Events.{event_in}
+use Rattle.interleavings.specs.Lines as line
 use Rattle.interleavings.specs.declared.desk.OpenTxn.{OpenTxn}
 use Rattle.interleavings.specs.declared.Ended.TheVariants as ended
 use Rattle.interleavings.specs.Desks.{Answers, AreOpen, MemoryTail, Puts}

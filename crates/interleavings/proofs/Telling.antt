@@ -4,8 +4,8 @@ use Rattle.std.proofs.lemmas.List.{take_all}
 use Rattle.std.specs.Prelude.{IfOk}
 use Rattle.ion_values.specs.declared.fault.IonFault.{IonFault}
 use Rattle.ion_values.specs.declared.value.Value.{Value}
-use Rattle.ion_grammar.specs.Read.{Answer}
-use Rattle.event_form.specs.Lines as line
+use Rattle.ion_model.specs.Read.{Answer}
+use Rattle.interleavings.specs.Lines as line
 use Rattle.interleavings.specs.declared.Ended.{Ended}
 use Rattle.interleavings.specs.declared.Ended.TheVariants as ended
 use Rattle.interleavings.specs.Desks.{MemoryTail, Puts}

@@ -10,7 +10,7 @@ use Rattle.outside.specs.Clocks.{ClockHeld, told_answers}
 use Rattle.outside.specs.StoreForms.{StoreHeld}
 use Rattle.pql_model.specs.declared.Answer.{Answer}
 use Rattle.ledger_model.specs.declared.outcome.Refusal.{Refusal}
-use Rattle.entry_laws.specs.Standings.{Standing}
+use Rattle.laws_history.specs.Standings.{Standing}
 use Rattle.txn_core.specs.Opened.{Executed, Opened, asked}
 use Rattle.ledger_core.specs.declared.appending.Receipt.{Receipt}
 use Rattle.ledger_core.specs.declared.commit.CommitFault.{CommitFault}
@@ -19,9 +19,9 @@ use Rattle.ledger_core.specs.Beginning.{begun_on, drawn}
 use Rattle.ledger_core.specs.Committing.{CommitEnds, IsAnswer, IsOpenOn, own_digest, tx_of}
 use Rattle.ledger_core.specs.Tails.{TailHeld}
 use Rattle.interleavings.specs.declared.desk.OpenTxn.{OpenTxn}
-use Rattle.event_form.specs.declared.events.Event.{Event}
-use Rattle.event_form.specs.declared.events.Event.TheVariants.{Begin, Execute, Commit, Abort}
-use Rattle.event_form.specs.Lines as line
+use Rattle.interleavings.specs.declared.events.Event.{Event}
+use Rattle.interleavings.specs.declared.events.Event.TheVariants.{Begin, Execute, Commit, Abort}
+use Rattle.interleavings.specs.Lines as line
 
 -- a tail over a store and a clock in memory
 abbrev pub MemoryTail : Type 0

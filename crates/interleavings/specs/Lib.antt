@@ -1,2 +1,4 @@
 pub mod Desks
 pub mod Runs
+pub mod Events
+pub mod Lines

@@ -1,10 +1,10 @@
 -- What a program does that reads events: it does one after another on the tail of an empty journal, and writes a line for each.
 use Rattle.std.specs.Prelude.{◌≡◌, ℕ, ◌+◌, List, [], ◌∷◌, ◌++◌, take, drop, slice_get, ℤ, pos, Option, Some, None, Ok, Err}
 use Rattle.ion_values.specs.declared.value.Value.{Value}
-use Rattle.ion_grammar.specs.Read.{Answer}
-use Rattle.event_form.specs.declared.events.Event.{Event}
-use Rattle.event_form.specs.Events.{clock_in, event_in}
-use Rattle.event_form.specs.Lines as line
+use Rattle.ion_model.specs.Read.{Answer}
+use Rattle.interleavings.specs.declared.events.Event.{Event}
+use Rattle.interleavings.specs.Events.{clock_in, event_in}
+use Rattle.interleavings.specs.Lines as line
 use Rattle.interleavings.specs.declared.desk.OpenTxn.{OpenTxn}
 use Rattle.interleavings.specs.declared.Ended.{Ended}
 use Rattle.interleavings.specs.declared.Ended.TheVariants as ended

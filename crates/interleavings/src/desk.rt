@@ -2,15 +2,15 @@
 ghost use Rattle.std.specs.Prelude.{◌≡◌, ◌++◌, ◌<◌, [], ◌∷◌, length, IfOk, OnOk, MatchOption};
 ghost use Rattle.std.specs.List.{AllByRecursion};
 ghost use Rattle.ledger_core.specs.Committing.{IsOpenOn, digest_of, tx_of};
-ghost use Rattle.event_form.specs.Lines as line;
+ghost use Rattle.interleavings.specs.Lines as line;
 ghost use Rattle.interleavings.specs.Desks.{Aborts, Answers, AreOpen, Begins, Commits, Executes, IsAnother, IsNowhere, IsServed, StandsAt, commit_line, execute_line, has_name, named, opened, sent, without};
 ghost use Rattle.interleavings.specs.Runs.{IsFresh};
 
-use event_form::lines::{
+use crate::events::{Event, Times};
+use crate::lines::{
     put_aborted, put_answer, put_begun, put_committed, put_conflict, put_digest_differs, put_ended,
     put_footprint, put_ids_spent, put_journal_full, put_nothing, put_refused, put_store_fault,
 };
-use event_form::{Event, Times};
 use ion_values::{OutOfMemory, Text, Value};
 use ledger_core::{BeginFault, CommitFault, Receipt, Tail};
 use ledger_model::{Answer, Refusal, Said};

@@ -7,18 +7,20 @@
 #![tactic(auto)]
 
 ghost use Rattle.std.specs.Prelude.{◌≡◌, ◌+◌, ◌<◌, ◌≤◌, ◌^◌, [], None, length, IfOk, IfSome};
-ghost use Rattle.ion_grammar.specs.Read.{read_text};
+ghost use Rattle.ion_model.specs.Read.{read_text};
 ghost use Rattle.interleavings.specs.Desks.{Puts};
 ghost use Rattle.interleavings.specs.Runs.{Ends, EndsFresh, IsTold, Tells, first_times, times_or};
 
 mod desk;
+mod events;
+mod lines;
 
 use crate::desk::{Desk, desk_of};
-use event_form::lines::{put_bad_event, put_blocks};
-use event_form::{Times, clock_in, event_in};
+use crate::events::{Times, clock_in, event_in};
+use crate::lines::{put_bad_event, put_blocks};
+use containers::Sequence;
 use ion_text::{ReadFault, read_stream};
 use ion_values::{OutOfMemory, Text, Value};
-use lists::Sequence;
 use std::alloc::Global;
 use std::io::Read;
 use std::process::ExitCode;

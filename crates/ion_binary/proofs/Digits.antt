@@ -2,7 +2,7 @@
 use Rattle.std.proofs.Common.{◌≡◌, ◌∙◌, ℕ, zero, suc, ◌+◌, ◌/◌, ◌%◌, ◌<◌, ◌≤◌, nat_lt, true, false, List, [], ◌∷◌, ◌++◌, refl, ap, sym, arith, inl, inr}
 use Rattle.std.proofs.lemmas.Bool.Decides.{nat_tests, leb_tells}
 use Rattle.std.proofs.Math.Nat.{div-lt_self}
-use Rattle.hash_forms.specs.Numbers.{digits_in, digits_of, ended}
+use Rattle.hash_model.specs.Numbers.{digits_in, digits_of, ended}
 
 within : (n limit : ℕ) → n < limit → nat_lt n limit ≡ true
 within n limit h = grind (arith, nat_tests)

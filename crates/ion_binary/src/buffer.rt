@@ -1,7 +1,7 @@
 //! Growing bytes.
 ghost use Rattle.std.specs.Prelude.{ℕ, List, ◌+◌, ◌≡◌, ◌≤◌, [], ◌∷◌, ◌++◌, drop, length, take, IfOk, OnOk, OnErr};
 
-use lists::{Bytes, OutOfMemory};
+use containers::{Bytes, OutOfMemory};
 use std::alloc::Global;
 use std::marker::Model;
 

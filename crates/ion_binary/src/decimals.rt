@@ -1,12 +1,12 @@
 //! Decimals.
 ghost use Rattle.std.specs.Prelude.{◌≡◌, ◌++◌, unsigned_abs, OnOk};
-ghost use Rattle.hash_forms.specs.Numbers.{is_below_zero};
-ghost use Rattle.hash_forms.specs.Serialize.{decimal_bytes};
+ghost use Rattle.hash_model.specs.Numbers.{is_below_zero};
+ghost use Rattle.hash_model.specs.Serialize.{decimal_bytes};
 
 use super::buffer::Buffer;
 use super::numbers::{put_int_field, put_var_int};
+use containers::OutOfMemory;
 use ion_values::Decimal;
-use lists::OutOfMemory;
 
 /// Appends the exponent as a VarInt and the coefficient as an Int; nothing for a positive zero with the exponent 0.
 pub fn put_decimal_fields(out: &mut Buffer, number: &Decimal) -> Result<(), OutOfMemory>

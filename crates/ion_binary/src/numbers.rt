@@ -1,9 +1,9 @@
 //! Numbers: the basic field formats.
 ghost use Rattle.std.specs.Prelude.{◌≡◌, ◌++◌, ◌<◌, ◌≤◌, ◌+◌, OnOk};
-ghost use Rattle.hash_forms.specs.Numbers.{digits_of, ended, int_field, magnitude, var_int, var_uint};
+ghost use Rattle.hash_model.specs.Numbers.{digits_of, ended, int_field, magnitude, var_int, var_uint};
 
 use super::buffer::Buffer;
-use lists::OutOfMemory;
+use containers::OutOfMemory;
 
 // The digits in the base, the first of them below the limit and with the mark added.
 fn put_digits(

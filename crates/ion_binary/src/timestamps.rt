@@ -2,13 +2,13 @@
 ghost use Rattle.std.specs.Prelude.{◌≡◌, ◌++◌, ◌<◌, pos, OnOk};
 ghost use Rattle.jiff_core.specs.Calendar.{days_in_month, is_leap_year};
 ghost use Rattle.ion_values.specs.Dates.{day_after, day_before};
-ghost use Rattle.hash_forms.specs.Timestamps.{clock_bytes, day_bytes, fields_to, fraction_bytes, minute_bytes, month_bytes, offset_bytes, second_bytes, timestamp_bytes, utc_clock, utc_date, minutes_from_local_date};
+ghost use Rattle.hash_model.specs.Timestamps.{clock_bytes, day_bytes, fields_to, fraction_bytes, minute_bytes, month_bytes, offset_bytes, second_bytes, timestamp_bytes, utc_clock, utc_date, minutes_from_local_date};
 ghost use Rattle.ion_binary.specs.Dates.{date_of};
 
 use super::buffer::Buffer;
 use super::numbers::{put_int_field, put_var_int, put_var_uint};
+use containers::OutOfMemory;
 use ion_values::{IonTime, Precision, TimeParts};
-use lists::OutOfMemory;
 
 // A day of the calendar.
 #[derive(Clone, Copy)]

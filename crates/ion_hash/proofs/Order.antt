@@ -6,7 +6,7 @@ use Rattle.std.specs.Cmp.Lexicographic.{slice_cmp, nat_list_cmp_total, texts_tie
 use Rattle.std.specs.List.{filter, AllByRecursion}
 use Rattle.std.specs.List.Sorted.{IsSorted, IsStable, ties}
 use Rattle.std.specs.Ordering.{is_lt, is_eq, nat_cmp, ordering_reverse}
-use Rattle.hash_forms.specs.Serialize.{in_order, put_in_order}
+use Rattle.hash_model.specs.Serialize.{in_order, put_in_order}
 
 abbrev pub Hashes : Type 0
 Hashes = List (List ℕ)

@@ -1,7 +1,7 @@
 -- Runs of bytes that stand as they are.
 use Rattle.std.proofs.Common.{◌≡◌, ◌∙◌, ℕ, zero, suc, ◌<◌, ◌≤◌, true, List, [], ◌∷◌, ◌++◌, length, slice_index, take, drop, inl, inr, refl, ap, sym, append_assoc, append-nil, arith}
 use Rattle.std.proofs.lemmas.Bool.{cases_Bool}
-use Rattle.hash_forms.specs.Serialize.{escape, escaped, is_control}
+use Rattle.hash_model.specs.Serialize.{escape, escaped, is_control}
 
 -- none of the first n bytes is a control byte
 abbrev PlainBelow : ℕ → List ℕ → Type 0

@@ -1,10 +1,10 @@
 //! Hashes of fields, in order.
 ghost use Rattle.std.specs.Prelude.{◌≡◌, ◌++◌, OnOk, IfOk};
-ghost use Rattle.hash_forms.specs.Serialize.{escape, in_order, joined};
+ghost use Rattle.hash_model.specs.Serialize.{escape, in_order, joined};
 
 use super::scalars::put_escaped;
+use containers::OutOfMemory;
 use ion_binary::Buffer;
-use lists::OutOfMemory;
 
 /// The hashes in the order of their bytes.
 pub fn ordered(hashes: Vec<[u8; 32]>) -> Result<Vec<[u8; 32]>, OutOfMemory>

@@ -1,12 +1,12 @@
 //! Frames, and what stands in them of values that hold no others.
 ghost use Rattle.std.specs.Prelude.{◌≡◌, ◌≤◌, ◌++◌, ◌∷◌, [], drop, length, take, unsigned_abs, OnOk, IfOk};
-ghost use Rattle.hash_forms.specs.Numbers.{is_below_zero, magnitude};
-ghost use Rattle.hash_forms.specs.Serialize.{decimal_bytes, escape, escaped, framed, int_qualifier, null_qualifier, scalar, symbol_bytes};
-ghost use Rattle.hash_forms.specs.Timestamps.{timestamp_bytes};
+ghost use Rattle.hash_model.specs.Numbers.{is_below_zero, magnitude};
+ghost use Rattle.hash_model.specs.Serialize.{decimal_bytes, escape, escaped, framed, int_qualifier, null_qualifier, scalar, symbol_bytes};
+ghost use Rattle.hash_model.specs.Timestamps.{timestamp_bytes};
 
+use containers::OutOfMemory;
 use ion_binary::{Buffer, put_decimal_fields, put_magnitude, put_timestamp_fields};
 use ion_values::{Decimal, IonTime, Kind};
-use lists::OutOfMemory;
 use memchr::memchr3;
 use std::alloc::Global;
 

@@ -2,15 +2,15 @@
 ghost use Rattle.std.specs.Prelude.{◌≡◌, ◌++◌, map, IfOk, OnOk};
 ghost use Rattle.std.specs.List.{flat_map};
 ghost use Rattle.sha2.specs.Sha256.{sha256};
-ghost use Rattle.hash_forms.specs.Serialize.{annotated, field_digest, field_hash, hash_of, joined, serialize, serialize_body, symbol_bytes};
+ghost use Rattle.hash_model.specs.Serialize.{annotated, field_digest, field_hash, hash_of, joined, serialize, serialize_body, symbol_bytes};
 
 use super::fields::{ordered, put_hashes};
 use super::scalars::{
     BEGIN, END, put_decimal, put_int, put_null, put_scalar, put_symbol, put_time,
 };
+use containers::{Bytes, OutOfMemory};
 use ion_binary::Buffer;
 use ion_values::{Body, Field, Names, Value};
-use lists::{Bytes, OutOfMemory};
 use ql_types::Hash32;
 use sha2::{Digest, Sha256};
 use std::alloc::Global;
@@ -25,7 +25,7 @@ pub fn serialize(alloc: Global, v: &Value) -> Result<Bytes, OutOfMemory>
 }
 
 /// The value's hash: SHA-256 of its serialization.
-#[tactic(auto, unfolding(hash_forms::specs::Serialize::hash_of))]
+#[tactic(auto, unfolding(hash_model::specs::Serialize::hash_of))]
 pub fn hash(alloc: Global, v: &Value) -> Result<Hash32, OutOfMemory>
     ensures { IfOk result (λ hash. hash ≡ hash_of v.now) }
 {
@@ -106,7 +106,7 @@ fn put_values(alloc: Global, out: &mut Buffer, values: &[Value]) -> Result<(), O
 
 // The hash of a field, whose bytes stand behind the others only until it is made.
 #[cycle(serialize)]
-#[tactic(auto, unfolding(hash_forms::specs::Serialize::field_digest))]
+#[tactic(auto, unfolding(hash_model::specs::Serialize::field_digest))]
 fn hash_field(alloc: Global, out: &mut Buffer, field: &Field) -> Result<[u8; 32], OutOfMemory>
     ensures hash { IfOk result (λ hash. hash ≡ field_hash field.now) }
     ensures kept { IfOk result (λ hash. out.new ≡ out.old) }

@@ -3,8 +3,8 @@ ghost use Rattle.ion_order.specs.Key as spec;
 ghost use Rattle.ion_order.specs.Key.{key_of, zeros_of};
 
 use crate::numbers::whole;
+use containers::Bytes;
 use ion_values::{Body, Decimal, Key, OutOfMemory, Value};
-use lists::Bytes;
 use std::alloc::Global;
 
 // How often ten divides the number.

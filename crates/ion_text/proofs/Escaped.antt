@@ -3,7 +3,7 @@ use lib.Utf8.{encode, next}
 use Rattle.std.proofs.Common.{◌≡◌, ℕ, ◌+◌, ◌/◌, ◌<◌, ◌≤◌, Bool, true, false, ◌||◌, cond, List, [], ◌∷◌, refl, ap, arith}
 use Rattle.std.specs.List.{flat_map, list_any}
 use Rattle.std.proofs.lemmas.Bool.Decides.{nat_tests}
-use Rattle.ion_forms.specs.Quoted.{escape}
+use Rattle.ion_model.specs.Quoted.{escape}
 use Rattle.ion_text.specs.Escapes.{has_escape}
 
 escape-high : (q b : ℕ) → q < 128 → 128 ≤ b → escape q b ≡ b ∷ []

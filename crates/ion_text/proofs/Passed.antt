@@ -2,10 +2,10 @@
 use Rattle.std.proofs.Common.{◌≡◌, ℕ, zero, suc, ◌+◌, ◌<◌, ◌≤◌, List, [], ◌∷◌, drop, length, length-drop, get_or, ap, ◌∙◌, sym, arith}
 use Rattle.std.proofs.Math.Seq.{drop-cons}
 use Rattle.std.proofs.lemmas.List.{drop-drop}
-use Rattle.ion_grammar.specs.Lex.{lex}
-use Rattle.ion_grammar.specs.Table.{Open}
-use Rattle.ion_grammar.specs.Read.{Answer, turn, run}
-use Rattle.ion_grammar.specs.declared.Lexed.{Lexed}
+use Rattle.ion_model.specs.Lex.{lex}
+use Rattle.ion_model.specs.Table.{Open}
+use Rattle.ion_model.specs.Read.{Answer, turn, run}
+use Rattle.ion_model.specs.declared.Lexed.{Lexed}
 
 run_skip : (depth n at : ℕ) (fs : Open) (z : List ℕ) → n ≤ length z → run depth n at fs z ≡ run depth 0 (at + n) fs (drop n z)
 run_skip depth zero at fs z h = ap (λ k. run depth 0 k fs z) (omega arith)

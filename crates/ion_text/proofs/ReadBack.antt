@@ -16,17 +16,17 @@ use Rattle.ion_values.specs.declared.value.Body.TheVariants as body
 use Rattle.ion_values.specs.declared.value.Body.TheOpen.{Body-F}
 use Rattle.ion_values.specs.declared.value.Body.TheFolds.{fold-Body, map-Body, the_lemmas}
 use Rattle.ion_values.proofs.Induction.{EachMember, by_members}
-use Rattle.ion_forms.specs.Write.{value_text, body_text, field_text, body_step, symbol_text, annotation_text, joined, parted, null_text, bool_text, decimal_text, string_text, clob_text, blob_text}
-use Rattle.ion_forms.specs.Timestamp.{timestamp_text}
-use Rattle.ion_grammar.specs.Blanks.{begins}
-use Rattle.ion_grammar.specs.Table as table
-use Rattle.ion_grammar.specs.Table.{Open}
-use Rattle.ion_grammar.specs.Read.{run, finish, read_utf8}
-use Rattle.ion_grammar.specs.declared.Scalar.TheVariants as scalar
-use Rattle.ion_grammar.specs.declared.Token.TheVariants as token
-use Rattle.ion_grammar.specs.declared.Members.TheVariants as members
-use Rattle.ion_grammar.specs.declared.Last.TheVariants as last
-use Rattle.ion_grammar.specs.declared.Frame.{Frame}
+use Rattle.ion_model.specs.Write.{value_text, body_text, field_text, body_step, symbol_text, annotation_text, joined, parted, null_text, bool_text, decimal_text, string_text, clob_text, blob_text}
+use Rattle.ion_model.specs.Timestamp.{timestamp_text}
+use Rattle.ion_model.specs.Blanks.{begins}
+use Rattle.ion_model.specs.Table as table
+use Rattle.ion_model.specs.Table.{Open}
+use Rattle.ion_model.specs.Read.{run, finish, read_utf8}
+use Rattle.ion_model.specs.declared.Scalar.TheVariants as scalar
+use Rattle.ion_model.specs.declared.Token.TheVariants as token
+use Rattle.ion_model.specs.declared.Members.TheVariants as members
+use Rattle.ion_model.specs.declared.Last.TheVariants as last
+use Rattle.ion_model.specs.declared.Frame.{Frame}
 use Rattle.ion_text.specs.RoundTrip.{MayFollow, ReadsBefore}
 use Rattle.ion_text.proofs.ReadTurns as turns
 use Rattle.ion_text.proofs.ReadTurns.{Ready, Reads, noted, filled, called}

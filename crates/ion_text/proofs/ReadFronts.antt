@@ -4,13 +4,13 @@ use Rattle.std.specs.Prelude.{codes}
 use Rattle.std.specs.List.{list_all}
 use Rattle.std.proofs.lemmas.Bool.{and_parts, cases_Bool, cond_both, eqb-true, false≢true, ne_eqb}
 use Rattle.ion_values.specs.Within.{text_within}
-use Rattle.ion_forms.specs.Quoted.{begins_name, continues_name, is_bare, is_identifier, is_keyword, quoted, symbol_text}
-use Rattle.ion_grammar.specs.Blanks.{begins}
-use Rattle.ion_grammar.specs.Lex.{lex}
-use Rattle.ion_grammar.specs.declared.Token.{Token}
-use Rattle.ion_grammar.specs.declared.Token.TheVariants as token
-use Rattle.ion_grammar.specs.declared.Lexed.{Lexed}
-use Rattle.ion_grammar.specs.declared.Lexed.TheVariants as lexed
+use Rattle.ion_model.specs.Quoted.{begins_name, continues_name, is_bare, is_identifier, is_keyword, quoted, symbol_text}
+use Rattle.ion_model.specs.Blanks.{begins}
+use Rattle.ion_model.specs.Lex.{lex}
+use Rattle.ion_model.specs.declared.Token.{Token}
+use Rattle.ion_model.specs.declared.Token.TheVariants as token
+use Rattle.ion_model.specs.declared.Lexed.{Lexed}
+use Rattle.ion_model.specs.declared.Lexed.TheVariants as lexed
 use Rattle.ion_text.specs.RoundTrip.{ReadsBefore}
 use Rattle.ion_text.proofs.WrittenSymbols.{symbol_read, symbol_stands, ends_symbol}
 

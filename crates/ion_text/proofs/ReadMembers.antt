@@ -1,12 +1,12 @@
 -- How a reader goes over the members of a container that was written, where it reads each of them.
 use Rattle.std.proofs.Common.{◌≡◌, ℕ, List, [], ◌∷◌, ◌++◌, map, refl, ap, sym, subst, ◌∙◌, append_assoc, append-nil}
 use Rattle.std.specs.List.{AllByRecursion, flat_map}
-use Rattle.ion_forms.specs.Write.{parted}
-use Rattle.ion_grammar.specs.Table as table
-use Rattle.ion_grammar.specs.Table.{Open}
-use Rattle.ion_grammar.specs.Read.{run}
-use Rattle.ion_grammar.specs.declared.Members.{Members}
-use Rattle.ion_grammar.specs.declared.Frame.{Frame}
+use Rattle.ion_model.specs.Write.{parted}
+use Rattle.ion_model.specs.Table as table
+use Rattle.ion_model.specs.Table.{Open}
+use Rattle.ion_model.specs.Read.{run}
+use Rattle.ion_model.specs.declared.Members.{Members}
+use Rattle.ion_model.specs.declared.Frame.{Frame}
 use Rattle.ion_text.specs.RoundTrip.{MayFollow}
 use Rattle.ion_text.proofs.ReadTurns.{Reads, Ends, filled}
 

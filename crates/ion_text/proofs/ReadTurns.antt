@@ -9,20 +9,20 @@ use Rattle.ion_values.specs.declared.value.Value.{Value}
 use Rattle.ion_values.specs.declared.value.Field.{Field}
 use Rattle.ion_values.specs.declared.value.Body.{Body}
 use Rattle.ion_values.specs.declared.value.Body.TheVariants as body
-use Rattle.ion_forms.specs.Quoted.{is_bare}
-use Rattle.ion_grammar.specs.Blanks.{begins}
-use Rattle.ion_grammar.specs.Lex.{lex}
-use Rattle.ion_grammar.specs.Table as table
-use Rattle.ion_grammar.specs.Table.{Open}
-use Rattle.ion_grammar.specs.Read.{run, go_on}
-use Rattle.ion_grammar.specs.declared.Scalar.{Scalar}
-use Rattle.ion_grammar.specs.declared.Token.{Token}
-use Rattle.ion_grammar.specs.declared.Token.TheVariants as token
-use Rattle.ion_grammar.specs.declared.Members.{Members}
-use Rattle.ion_grammar.specs.declared.Members.TheVariants as members
-use Rattle.ion_grammar.specs.declared.Last.TheVariants as last
-use Rattle.ion_grammar.specs.declared.Frame.{Frame}
-use Rattle.ion_grammar.specs.declared.Lexed.TheVariants as lexed
+use Rattle.ion_model.specs.Quoted.{is_bare}
+use Rattle.ion_model.specs.Blanks.{begins}
+use Rattle.ion_model.specs.Lex.{lex}
+use Rattle.ion_model.specs.Table as table
+use Rattle.ion_model.specs.Table.{Open}
+use Rattle.ion_model.specs.Read.{run, go_on}
+use Rattle.ion_model.specs.declared.Scalar.{Scalar}
+use Rattle.ion_model.specs.declared.Token.{Token}
+use Rattle.ion_model.specs.declared.Token.TheVariants as token
+use Rattle.ion_model.specs.declared.Members.{Members}
+use Rattle.ion_model.specs.declared.Members.TheVariants as members
+use Rattle.ion_model.specs.declared.Last.TheVariants as last
+use Rattle.ion_model.specs.declared.Frame.{Frame}
+use Rattle.ion_model.specs.declared.Lexed.TheVariants as lexed
 use Rattle.ion_text.specs.RoundTrip.{ReadsBefore}
 use Rattle.ion_text.proofs.TokenTurns.{token_turn}
 

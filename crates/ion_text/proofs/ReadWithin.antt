@@ -12,21 +12,21 @@ use Rattle.ion_values.specs.declared.value.Field.{Field}
 use Rattle.ion_values.specs.declared.value.Body.{Body}
 use Rattle.ion_values.specs.declared.value.Body.TheVariants as body
 use Rattle.ion_values.specs.declared.value.Body.TheFolds.{the_lemmas}
-use Rattle.ion_grammar.specs.Lex.{lex}
-use Rattle.ion_grammar.specs.Table as table
-use Rattle.ion_grammar.specs.Table.{Open, Taken}
-use Rattle.ion_grammar.specs.Read.{Answer, may_end, values_of, finish, go_on, turn, run, read_text}
-use Rattle.ion_grammar.specs.declared.Scalar.{Scalar}
-use Rattle.ion_grammar.specs.declared.Scalar.TheVariants as scalar
-use Rattle.ion_grammar.specs.declared.Token.{Token}
-use Rattle.ion_grammar.specs.declared.Token.TheVariants as token
-use Rattle.ion_grammar.specs.declared.Members.{Members}
-use Rattle.ion_grammar.specs.declared.Members.TheVariants as members
-use Rattle.ion_grammar.specs.declared.Last.{Last}
-use Rattle.ion_grammar.specs.declared.Last.TheVariants as last
-use Rattle.ion_grammar.specs.declared.Frame.{Frame}
-use Rattle.ion_grammar.specs.declared.Lexed.{Lexed}
-use Rattle.ion_grammar.specs.declared.Lexed.TheVariants as lexed
+use Rattle.ion_model.specs.Lex.{lex}
+use Rattle.ion_model.specs.Table as table
+use Rattle.ion_model.specs.Table.{Open, Taken}
+use Rattle.ion_model.specs.Read.{Answer, may_end, values_of, finish, go_on, turn, run, read_text}
+use Rattle.ion_model.specs.declared.Scalar.{Scalar}
+use Rattle.ion_model.specs.declared.Scalar.TheVariants as scalar
+use Rattle.ion_model.specs.declared.Token.{Token}
+use Rattle.ion_model.specs.declared.Token.TheVariants as token
+use Rattle.ion_model.specs.declared.Members.{Members}
+use Rattle.ion_model.specs.declared.Members.TheVariants as members
+use Rattle.ion_model.specs.declared.Last.{Last}
+use Rattle.ion_model.specs.declared.Last.TheVariants as last
+use Rattle.ion_model.specs.declared.Frame.{Frame}
+use Rattle.ion_model.specs.declared.Lexed.{Lexed}
+use Rattle.ion_model.specs.declared.Lexed.TheVariants as lexed
 use Rattle.ion_text.proofs.ReadBack.{body_within, within_of_field, within_of_value}
 use Rattle.ion_text.proofs.WrittenTexts.{utf8_within}
 use Rattle.ion_text.proofs.TokensWithin.{LexedWithin, lex_within, scalar_within, text_from, token_within}

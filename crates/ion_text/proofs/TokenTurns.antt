@@ -1,8 +1,8 @@
 -- A text that is the token in front is read by one turn (Ion 1.0, "Text encoding").
 use Rattle.std.proofs.Common.{◌≡◌, ℕ, ◌+◌, List, [], ◌∷◌, ◌++◌, length, ap, ◌∙◌, arith}
-use Rattle.ion_grammar.specs.Table.{Open, accept}
-use Rattle.ion_grammar.specs.Read.{go_on, run, turn}
-use Rattle.ion_grammar.specs.declared.Token.{Token}
+use Rattle.ion_model.specs.Table.{Open, accept}
+use Rattle.ion_model.specs.Read.{go_on, run, turn}
+use Rattle.ion_model.specs.declared.Token.{Token}
 use Rattle.ion_text.specs.RoundTrip.{ReadsBefore}
 
 -- the bytes behind the first are passed over

@@ -17,24 +17,24 @@ use Rattle.ion_values.specs.declared.fault.IonKind.{IonKind}
 use Rattle.ion_values.specs.declared.fault.IonKind.TheVariants as fault
 use Rattle.ion_values.specs.declared.time.TimeParts.{TimeParts}
 use Rattle.ion_values.specs.declared.value.Kind.{Kind}
-use Rattle.ion_grammar.specs.Numbers.{signed}
-use Rattle.ion_grammar.specs.Blanks.{begins, enclosed, is_space, to_close}
-use Rattle.ion_grammar.specs.Lex.{begins_number, lex, lex_mark, lex_run}
-use Rattle.ion_grammar.specs.Lobs as lobs
+use Rattle.ion_model.specs.Numbers.{signed}
+use Rattle.ion_model.specs.Blanks.{begins, enclosed, is_space, to_close}
+use Rattle.ion_model.specs.Lex.{begins_number, lex, lex_mark, lex_run}
+use Rattle.ion_model.specs.Lobs as lobs
 use Rattle.base64.specs.Rfc4648.{encode}
-use Rattle.ion_forms.specs.Write.{base64_digits}
-use Rattle.ion_grammar.specs.Escapes as escapes
-use Rattle.ion_grammar.specs.Escapes.{Piece, piece}
-use Rattle.ion_grammar.specs.Texts as texts
-use Rattle.ion_grammar.specs.Words as words
-use Rattle.ion_grammar.specs.Timestamps as times
-use Rattle.ion_grammar.specs.Numbers as numbers
-use Rattle.ion_grammar.specs.declared.Scalar.{Scalar}
-use Rattle.ion_grammar.specs.declared.Scalar.TheVariants as scalar
-use Rattle.ion_grammar.specs.declared.Token.{Token}
-use Rattle.ion_grammar.specs.declared.Token.TheVariants as token
-use Rattle.ion_grammar.specs.declared.Lexed.{Lexed}
-use Rattle.ion_grammar.specs.declared.Lexed.TheVariants as lexed
+use Rattle.ion_model.specs.Write.{base64_digits}
+use Rattle.ion_model.specs.Escapes as escapes
+use Rattle.ion_model.specs.Escapes.{Piece, piece}
+use Rattle.ion_model.specs.Texts as texts
+use Rattle.ion_model.specs.Words as words
+use Rattle.ion_model.specs.Timestamps as times
+use Rattle.ion_model.specs.Numbers as numbers
+use Rattle.ion_model.specs.declared.Scalar.{Scalar}
+use Rattle.ion_model.specs.declared.Scalar.TheVariants as scalar
+use Rattle.ion_model.specs.declared.Token.{Token}
+use Rattle.ion_model.specs.declared.Token.TheVariants as token
+use Rattle.ion_model.specs.declared.Lexed.{Lexed}
+use Rattle.ion_model.specs.declared.Lexed.TheVariants as lexed
 use Rattle.ion_text.proofs.WrittenUtf8.{ascii_utf8}
 
 -- ---- what is within

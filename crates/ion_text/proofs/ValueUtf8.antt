@@ -16,8 +16,8 @@ use Rattle.ion_values.specs.declared.value.Field.{Field}
 use Rattle.ion_values.specs.declared.value.Body.{Body, roll-Body}
 use Rattle.ion_values.specs.declared.value.Body.TheOpen.{Body-F}
 use Rattle.ion_values.proofs.Induction.{EachMember, by_members}
-use Rattle.ion_forms.specs.Timestamp.{timestamp_text}
-use Rattle.ion_forms.specs.Write.{value_text, field_text, symbol_text, annotation_text, joined, parted, null_text, bool_text, decimal_text}
+use Rattle.ion_model.specs.Timestamp.{timestamp_text}
+use Rattle.ion_model.specs.Write.{value_text, field_text, symbol_text, annotation_text, joined, parted, null_text, bool_text, decimal_text}
 use Rattle.ion_text.proofs.WrittenRuns.{is_written}
 use Rattle.ion_text.proofs.WrittenNumbers.{int_written, decimal_written}
 use Rattle.ion_text.proofs.WrittenTimes.{time_written}

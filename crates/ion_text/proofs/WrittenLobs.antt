@@ -11,18 +11,18 @@ use Rattle.base64.specs.GeneralPurpose.{IsBytes}
 use Rattle.base64.specs.Rfc4648.{encode, encode_symbols, padding_len}
 use Rattle.ion_values.specs.declared.fault.IonKind.TheVariants as fault
 use Rattle.ion_values.specs.Within.{bytes_within}
-use Rattle.ion_forms.specs.Quoted as written
-use Rattle.ion_forms.specs.Quoted.{hex_escape}
-use Rattle.ion_forms.specs.Write.{base64_digits, blob_text, clob_text}
-use Rattle.ion_grammar.specs.Blanks.{is_space}
-use Rattle.ion_grammar.specs.Escapes.{clob_escape, piece}
-use Rattle.ion_grammar.specs.Texts.{before, closed, may_stand, pieces, short}
-use Rattle.ion_grammar.specs.Lobs.{base64_bytes, before_braces, begins_clob, clob_bytes, clob_hides, lex_blob, lex_clob, lex_lob, lob_token, without_white}
-use Rattle.ion_grammar.specs.Lex.{lex}
-use Rattle.ion_grammar.specs.declared.Scalar.TheVariants as scalar
-use Rattle.ion_grammar.specs.declared.Token.TheVariants as token
-use Rattle.ion_grammar.specs.declared.Lexed.TheVariants as lexed
-use Rattle.ion_tokens.proofs.Spelling.{bytes_of_encoding}
+use Rattle.ion_model.specs.Quoted as written
+use Rattle.ion_model.specs.Quoted.{hex_escape}
+use Rattle.ion_model.specs.Write.{base64_digits, blob_text, clob_text}
+use Rattle.ion_model.specs.Blanks.{is_space}
+use Rattle.ion_model.specs.Escapes.{clob_escape, piece}
+use Rattle.ion_model.specs.Texts.{before, closed, may_stand, pieces, short}
+use Rattle.ion_model.specs.Lobs.{base64_bytes, before_braces, begins_clob, clob_bytes, clob_hides, lex_blob, lex_clob, lex_lob, lob_token, without_white}
+use Rattle.ion_model.specs.Lex.{lex}
+use Rattle.ion_model.specs.declared.Scalar.TheVariants as scalar
+use Rattle.ion_model.specs.declared.Token.TheVariants as token
+use Rattle.ion_model.specs.declared.Lexed.TheVariants as lexed
+use Rattle.ion_lexer.proofs.Spelling.{bytes_of_encoding}
 use Rattle.ion_text.proofs.WrittenTexts.{Spells, hex_byte, none_on, spells_hex, spells_hidden, spells_plain, text_given, text_passed}
 
 -- ---- clobs

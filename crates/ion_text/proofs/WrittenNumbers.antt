@@ -13,13 +13,13 @@ use Rattle.std.proofs.lemmas.List.Folds.{list_all-append}
 use Rattle.std.proofs.lemmas.List.{take_all, drop_all, take_at, drop_at, append-nil, get_or-append-add}
 use Rattle.ion_values.specs.Decimal.{DecimalParts}
 use Rattle.ion_values.specs.Within.{int_within, decimal_within, exponent_within, is_zero}
-use Rattle.ion_grammar.specs.Numbers.{is_plain, signed}
-use Rattle.ion_forms.specs.Write.{decimal_text}
-use Rattle.ion_grammar.specs.Numbers as numbers
-use Rattle.ion_grammar.specs.Numbers.{digits_in, is_digits, is_exponent_mark, is_point, is_spelled, is_whole, mantissa_in, number_in, number_of, plain_in, unsigned_in}
-use Rattle.ion_grammar.specs.Timestamps.{is_dated, is_numeral}
-use Rattle.ion_grammar.specs.declared.Scalar.TheVariants as scalar
-use Rattle.ion_grammar.specs.declared.Token.TheVariants as token
+use Rattle.ion_model.specs.Numbers.{is_plain, signed}
+use Rattle.ion_model.specs.Write.{decimal_text}
+use Rattle.ion_model.specs.Numbers as numbers
+use Rattle.ion_model.specs.Numbers.{digits_in, is_digits, is_exponent_mark, is_point, is_spelled, is_whole, mantissa_in, number_in, number_of, plain_in, unsigned_in}
+use Rattle.ion_model.specs.Timestamps.{is_dated, is_numeral}
+use Rattle.ion_model.specs.declared.Scalar.TheVariants as scalar
+use Rattle.ion_model.specs.declared.Token.TheVariants as token
 use Rattle.ion_text.specs.RoundTrip.{ReadsAs}
 use Rattle.ion_text.proofs.WrittenRuns.{differs, pass_behind, first_behind, is_written, none_first, number_read, starts, unsigned_is}
 

@@ -6,13 +6,13 @@ use Rattle.std.specs.List.{list_all, list_any, position_or_len, prefix_len}
 use Rattle.std.proofs.lemmas.Bool.{and_parts, and_right, both_ways, eqb-true, ne_eqb, not_from_false, or_cases}
 use Rattle.std.proofs.lemmas.Bool.Decides.{nat_tests}
 use Rattle.std.proofs.lemmas.List.{take_at, append-nil}
-use Rattle.ion_grammar.specs.Blanks.{is_space}
-use Rattle.ion_grammar.specs.Lex.{lex, begins_number}
-use Rattle.ion_grammar.specs.Numbers.{has_prefix, is_stop, is_float_mark, lex_number, number_in, plain_in, unsigned_in}
-use Rattle.ion_grammar.specs.Timestamps.{is_dated, time_in}
-use Rattle.ion_grammar.specs.declared.Scalar.{Scalar}
-use Rattle.ion_grammar.specs.declared.Token.TheVariants as token
-use Rattle.ion_grammar.specs.declared.Lexed.TheVariants as lexed
+use Rattle.ion_model.specs.Blanks.{is_space}
+use Rattle.ion_model.specs.Lex.{lex, begins_number}
+use Rattle.ion_model.specs.Numbers.{has_prefix, is_stop, is_float_mark, lex_number, number_in, plain_in, unsigned_in}
+use Rattle.ion_model.specs.Timestamps.{is_dated, time_in}
+use Rattle.ion_model.specs.declared.Scalar.{Scalar}
+use Rattle.ion_model.specs.declared.Token.TheVariants as token
+use Rattle.ion_model.specs.declared.Lexed.TheVariants as lexed
 use Rattle.ion_text.specs.RoundTrip.{may_follow, MayFollow, ReadsAs}
 
 -- a test tells two bytes apart

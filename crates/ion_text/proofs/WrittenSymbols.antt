@@ -8,13 +8,13 @@ use Rattle.std.proofs.lemmas.Bool.Decides.{Decides-eqb, nat_tests}
 use Rattle.std.proofs.lemmas.List.{take_at}
 use Rattle.std.proofs.lemmas.Slice.Eq.{starts_is}
 use Rattle.ion_values.specs.Within.{text_within}
-use Rattle.ion_forms.specs.Quoted.{begins_name, continues_name, escape, is_bare, is_control, is_identifier, is_keyword, quoted, symbol_text}
-use Rattle.ion_grammar.specs.Blanks.{begins, is_space}
-use Rattle.ion_grammar.specs.Words.{begins_word, is_typed, is_word_char, lex_word, word_of}
-use Rattle.ion_grammar.specs.Texts.{lex_quoted}
-use Rattle.ion_grammar.specs.Lex.{begins_number, lex}
-use Rattle.ion_grammar.specs.declared.Token.TheVariants as token
-use Rattle.ion_grammar.specs.declared.Lexed.TheVariants as lexed
+use Rattle.ion_model.specs.Quoted.{begins_name, continues_name, escape, is_bare, is_control, is_identifier, is_keyword, quoted, symbol_text}
+use Rattle.ion_model.specs.Blanks.{begins, is_space}
+use Rattle.ion_model.specs.Words.{begins_word, is_typed, is_word_char, lex_word, word_of}
+use Rattle.ion_model.specs.Texts.{lex_quoted}
+use Rattle.ion_model.specs.Lex.{begins_number, lex}
+use Rattle.ion_model.specs.declared.Token.TheVariants as token
+use Rattle.ion_model.specs.declared.Lexed.TheVariants as lexed
 use Rattle.ion_text.proofs.WrittenTexts.{quoted_read, utf8_within}
 
 -- What may stand behind a symbol: the end, or a byte that is no character of a word and no quote.

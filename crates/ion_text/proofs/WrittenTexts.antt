@@ -10,14 +10,14 @@ use Rattle.std.proofs.lemmas.Bool.Decides.{nat_tests}
 use Rattle.std.proofs.lemmas.List.{take_at, take_all}
 use Rattle.std.proofs.lemmas.Str.{digit_value-digit_char, encode_ascii}
 use Rattle.ion_values.specs.Within.{text_within}
-use Rattle.ion_forms.specs.Quoted as written
-use Rattle.ion_forms.specs.Quoted.{hex_escape, is_control, quoted, string_text}
-use Rattle.ion_grammar.specs.Escapes.{Piece, hex2, hex_digit, piece, text_escape}
-use Rattle.ion_grammar.specs.Texts.{before, lex_string, lex_text, may_stand, pieces, short}
-use Rattle.ion_grammar.specs.Lex.{lex}
-use Rattle.ion_grammar.specs.declared.Token.{Token}
-use Rattle.ion_grammar.specs.declared.Token.TheVariants as token
-use Rattle.ion_grammar.specs.declared.Lexed.TheVariants as lexed
+use Rattle.ion_model.specs.Quoted as written
+use Rattle.ion_model.specs.Quoted.{hex_escape, is_control, quoted, string_text}
+use Rattle.ion_model.specs.Escapes.{Piece, hex2, hex_digit, piece, text_escape}
+use Rattle.ion_model.specs.Texts.{before, lex_string, lex_text, may_stand, pieces, short}
+use Rattle.ion_model.specs.Lex.{lex}
+use Rattle.ion_model.specs.declared.Token.{Token}
+use Rattle.ion_model.specs.declared.Token.TheVariants as token
+use Rattle.ion_model.specs.declared.Lexed.TheVariants as lexed
 
 -- ---- texts within their range are UTF-8
 

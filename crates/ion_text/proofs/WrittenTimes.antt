@@ -12,11 +12,11 @@ use Rattle.ion_values.specs.Time.{is_time}
 use Rattle.ion_values.specs.declared.time.Precision.{Precision}
 use Rattle.ion_values.specs.declared.time.Precision.TheVariants as p
 use Rattle.ion_values.specs.declared.time.TimeParts.{TimeParts}
-use Rattle.ion_forms.specs.Timestamp.{digit, two_digits, four_digits, first_digits, fraction_text, clock_text, offset_text, month_text, day_text, minute_text, text_to, timestamp_text}
-use Rattle.ion_grammar.specs.Numbers.{number_in}
-use Rattle.ion_grammar.specs.Timestamps.{has_shape, is_dated, is_day, is_fraction, has_seconds, is_offset, offset_at, digit_of, two_at, four_at, nanos_of, offset_of, year_parts, month_parts, day_parts, minute_parts, second_parts, moment, offset_moment, clock_in, time_in}
-use Rattle.ion_grammar.specs.declared.Scalar.TheVariants as scalar
-use Rattle.ion_grammar.specs.declared.Token.TheVariants as token
+use Rattle.ion_model.specs.Timestamp.{digit, two_digits, four_digits, first_digits, fraction_text, clock_text, offset_text, month_text, day_text, minute_text, text_to, timestamp_text}
+use Rattle.ion_model.specs.Numbers.{number_in}
+use Rattle.ion_model.specs.Timestamps.{has_shape, is_dated, is_day, is_fraction, has_seconds, is_offset, offset_at, digit_of, two_at, four_at, nanos_of, offset_of, year_parts, month_parts, day_parts, minute_parts, second_parts, moment, offset_moment, clock_in, time_in}
+use Rattle.ion_model.specs.declared.Scalar.TheVariants as scalar
+use Rattle.ion_model.specs.declared.Token.TheVariants as token
 use Rattle.ion_text.specs.RoundTrip.{ReadsAs}
 use Rattle.ion_text.proofs.WrittenRuns.{differs, is_written, number_read, starts, unsigned_is}
 

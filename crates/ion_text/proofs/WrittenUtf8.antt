@@ -11,8 +11,8 @@ use Rattle.std.proofs.lemmas.List.Concat.{flat_map-append}
 use Rattle.std.proofs.lemmas.Str.{IsUtf8-append, IsUtf8-encode, IsUtf8-from_ascii, IsUtf8-from_is_utf8, IsUtf8-nil, encode_ascii}
 use Rattle.base64.specs.Rfc4648.{encode as base64}
 use Rattle.ion_values.specs.Within.{bytes_within, text_within}
-use Rattle.ion_forms.specs.Quoted.{clob_escape, escape, is_bare, is_control, quoted, string_text, symbol_text}
-use Rattle.ion_forms.specs.Write.{base64_digits, blob_text, clob_text}
+use Rattle.ion_model.specs.Quoted.{clob_escape, escape, is_bare, is_control, quoted, string_text, symbol_text}
+use Rattle.ion_model.specs.Write.{base64_digits, blob_text, clob_text}
 use Rattle.ion_text.proofs.Escaped.{escapes-encode}
 use Rattle.ion_text.proofs.WrittenTexts.{utf8_within}
 use Rattle.ion_text.proofs.WrittenLobs.{ascii_digit, clob_ascii, encoding_passes}

@@ -4,12 +4,12 @@ use Rattle.std.specs.List.{prefix_len}
 use Rattle.std.proofs.lemmas.Bool.Decides.{nat_tests}
 use Rattle.ion_values.specs.declared.value.Kind.{Kind}
 use Rattle.ion_values.specs.declared.value.Kind.TheVariants as kind
-use Rattle.ion_forms.specs.Write.{null_text, bool_text}
-use Rattle.ion_grammar.specs.Lex.{lex}
-use Rattle.ion_grammar.specs.Blanks.{begins}
-use Rattle.ion_grammar.specs.Words.{is_word_char}
-use Rattle.ion_grammar.specs.declared.Scalar.TheVariants as scalar
-use Rattle.ion_grammar.specs.declared.Token.TheVariants as token
+use Rattle.ion_model.specs.Write.{null_text, bool_text}
+use Rattle.ion_model.specs.Lex.{lex}
+use Rattle.ion_model.specs.Blanks.{begins}
+use Rattle.ion_model.specs.Words.{is_word_char}
+use Rattle.ion_model.specs.declared.Scalar.TheVariants as scalar
+use Rattle.ion_model.specs.declared.Token.TheVariants as token
 use Rattle.ion_text.specs.RoundTrip.{may_follow, MayFollow, ReadsAs}
 
 no_word_char : (b : ℕ) → may_follow b ≡ true → is_word_char b ≡ false

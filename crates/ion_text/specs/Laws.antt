@@ -4,8 +4,8 @@ use Rattle.std.specs.List.{list_all}
 use Rattle.ion_values.specs.Within.{within}
 use Rattle.ion_values.specs.Depth.{depth_of}
 use Rattle.ion_values.specs.declared.value.Value.{Value}
-use Rattle.ion_forms.specs.Write.{value_text}
-use Rattle.ion_grammar.specs.Read.{read_text}
+use Rattle.ion_model.specs.Write.{value_text}
+use Rattle.ion_model.specs.Read.{read_text}
 
 -- The text of a value within its ranges gives this value alone, where containers may nest as deep as it does.
 abbrev pub WrittenIsRead : Type 0

@@ -1,9 +1,9 @@
 -- What may stand behind a value that is written, and texts that are read as one token (Ion 1.0, "Text encoding").
 use Rattle.std.specs.Prelude.{◌≡◌, ℕ, ◌==◌, Bool, true, List, [], ◌∷◌, ◌++◌, length, codes}
 use Rattle.std.specs.List.{list_any}
-use Rattle.ion_grammar.specs.Lex.{lex}
-use Rattle.ion_grammar.specs.declared.Token.{Token}
-use Rattle.ion_grammar.specs.declared.Lexed.TheVariants as lexed
+use Rattle.ion_model.specs.Lex.{lex}
+use Rattle.ion_model.specs.declared.Token.{Token}
+use Rattle.ion_model.specs.declared.Lexed.TheVariants as lexed
 
 -- a comma, a bracket that closes, or a space
 abbrev pub may_follow : ℕ → Bool

@@ -3,9 +3,9 @@ use Rattle.std.specs.Prelude.{◌≡◌, List, ◌∷◌, reverse, Option, Some,
 use Rattle.ion_values.specs.declared.fault.IonKind.TheVariants as fault
 use Rattle.ion_values.specs.declared.value.Value.{Value}
 use Rattle.ion_values.specs.declared.value.Body.{Body}
-use Rattle.ion_grammar.specs.Table.{Open, Taken, closed, close}
-use Rattle.ion_grammar.specs.Read.{Answer}
-use Rattle.ion_grammar.specs.declared.Members.{Members}
+use Rattle.ion_model.specs.Table.{Open, Taken, closed, close}
+use Rattle.ion_model.specs.Read.{Answer}
+use Rattle.ion_model.specs.declared.Members.{Members}
 use Rattle.ion_text.specs.declared.stream.ReadFault.{ReadFault}
 use Rattle.ion_text.specs.declared.stream.ReadFault.TheVariants as fails
 use Rattle.ion_text.specs.declared.stream.reader.Reader.{Reader}

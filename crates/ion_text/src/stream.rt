@@ -1,15 +1,15 @@
 ghost use Rattle.std.specs.Prelude.{◌≡◌, true, false, length, Err, IfOk, IsTrue, MatchOption};
 ghost use Rattle.std.specs.Str.{is_utf8};
 ghost use Rattle.std.specs.Str.Lossy.{utf8_valid_len};
-ghost use Rattle.ion_grammar.specs.Read as spec;
-ghost use Rattle.ion_grammar.specs.Short.{all_short};
+ghost use Rattle.ion_model.specs.Read as spec;
+ghost use Rattle.ion_model.specs.Short.{all_short};
 ghost use Rattle.ion_text.specs.Stream.{Gives};
 
 mod frames;
 mod reader;
 
-use ion_grammar::Lexed;
-use ion_tokens::lex;
+use ion_lexer::lex;
+use ion_model::Lexed;
 use ion_values::{IonFault, IonKind, OutOfMemory, Values};
 use reader::{Reader, Refused};
 use simdutf8::compat::from_utf8;
@@ -41,7 +41,7 @@ impl From<OutOfMemory> for ReadFault {
 /// out. No list among them, annotations included, has more members than the text has bytes. `Ion`
 /// tells where the text is refused first, and why: floats, symbol ids and symbol tables aren't
 /// read, and numbers have limits.
-#[tactic(auto, unfolding(ion_grammar::specs::Read::read_text))]
+#[tactic(auto, unfolding(ion_model::specs::Read::read_text))]
 pub fn read_stream(alloc: Global, bytes: &[u8], depth: u32) -> Result<Values, ReadFault>
     ensures exact { Gives result (spec.read_text depth bytes.now) }
     ensures short { IfOk result (λ values. IsTrue (all_short (length bytes.now) values)) }

@@ -1,7 +1,7 @@
 ghost use Rattle.std.specs.Prelude.{◌≡◌, IfOk};
 
 use crate::value::{Body, Field, Fields, Names, Value, Values};
-use lists::{Bytes, OutOfMemory, Sequence};
+use containers::{Bytes, OutOfMemory, Sequence};
 use std::alloc::Global;
 
 /// A value that equals the given one, the order of fields included.

@@ -4,7 +4,7 @@ ghost use Rattle.ion_values.specs.Equivalent as spec;
 ghost use Rattle.ion_values.specs.Equivalent.{differ_first, in_any_order, in_order, is_equivalent, is_equivalent_body, is_equivalent_field};
 
 use crate::value::{Body, Field, Value};
-use lists::Text;
+use containers::Text;
 
 /// Whether the values are equivalent by Ion's data model: annotations agree in order, structs are
 /// compared as multisets of fields and lists and sexps in order, decimals by coefficient, exponent

@@ -4,7 +4,7 @@ ghost use Rattle.ion_values.specs.Keys.{compare_keys, is_same_key, kind_of};
 ghost use Rattle.ion_values.specs.KeyOrder.{keys_total, same_key_equiv, ties_are_same};
 
 use crate::value::Key;
-use lists::{Bytes, OutOfMemory};
+use containers::{Bytes, OutOfMemory};
 use std::alloc::Global;
 use std::cmp::Ordering;
 

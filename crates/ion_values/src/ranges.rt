@@ -7,7 +7,7 @@ ghost use Rattle.ion_values.specs.Within.{all_true, body_within, bytes_within, d
 use crate::decimal::Decimal;
 use crate::time::IonTime;
 use crate::value::{Body, Field, Value};
-use lists::Text;
+use containers::Text;
 
 /// A law for callers, at the value at hand: its numbers, timestamps, texts and bytes are within their types.
 #[cycle(within)]

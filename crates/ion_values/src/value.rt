@@ -1,6 +1,6 @@
 use crate::decimal::Decimal;
 use crate::time::IonTime;
-use lists::{Bytes, Sequence, Text};
+use containers::{Bytes, Sequence, Text};
 
 /// The types of Ion 1.0, but float.
 #[derive(Clone, Copy, Debug, PartialEq, Eq)]

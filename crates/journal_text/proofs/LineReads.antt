@@ -4,8 +4,8 @@ use Rattle.std.specs.List.{list_all}
 use Rattle.std.proofs.lemmas.Bool.{and_parts}
 use Rattle.ion_values.specs.declared.value.Value.{Value}
 use Rattle.ion_values.specs.Within.{within}
-use Rattle.ion_forms.specs.Write.{value_text}
-use Rattle.ion_grammar.specs.Read.{read_text}
+use Rattle.ion_model.specs.Write.{value_text}
+use Rattle.ion_model.specs.Read.{read_text}
 use Rattle.ion_text.specs.Laws.{WrittenIsRead, ReadIsWithin}
 use Rattle.ledger_model.specs.declared.block.Block.{Block}
 use Rattle.ledger_model.specs.Journal.{block_value}

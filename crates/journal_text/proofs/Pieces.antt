@@ -3,7 +3,7 @@ use Rattle.std.proofs.Common.{◌≡◌, ◌==◌, ℕ, zero, suc, true, false, 
 use Rattle.std.specs.List.{AllByRecursion, flat_map}
 use Rattle.std.proofs.lemmas.Bool.{and_parts, not-true}
 use Rattle.std.proofs.lemmas.List.Folds.{list_all-append}
-use Rattle.ion_forms.specs.Write.{parted}
+use Rattle.ion_model.specs.Write.{parted}
 use Rattle.journal_text.specs.OneLine.{is_one_line}
 
 abbrev pub OneLine : List ℕ → Type 0

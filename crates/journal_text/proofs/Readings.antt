@@ -2,8 +2,8 @@
 -- the same blocks a line fails one check first.
 use Rattle.std.proofs.Common.{◌≡◌, ◌∙◌, ◌⊎◌, inl, inr, ℕ, suc, ◌+◌, ◌-◌, ◌≤◌, true, List, [], ◌∷◌, ◌++◌, length, drop, Option, Some, None, Ok, refl, sym, ap, subst, append_assoc, append-nil, length-append, length-drop, arith}
 use Rattle.ion_values.specs.declared.value.Value.{Value}
-use Rattle.ion_forms.specs.Write.{value_text}
-use Rattle.ion_grammar.specs.Read.{Answer, read_text}
+use Rattle.ion_model.specs.Write.{value_text}
+use Rattle.ion_model.specs.Read.{Answer, read_text}
 use Rattle.ion_text.specs.Laws.{WrittenIsRead}
 use Rattle.block_form.specs.ReadBack.{ValuesTellBlocks}
 use Rattle.ledger_model.specs.declared.block.Block.{Block}

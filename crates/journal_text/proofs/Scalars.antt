@@ -12,9 +12,9 @@ use Rattle.ion_values.specs.declared.time.Precision.{Precision}
 use Rattle.ion_values.specs.declared.time.Precision.TheVariants.{Year, Month, Day, Minute, Second}
 use Rattle.ion_values.specs.declared.time.TimeParts.{TimeParts}
 use Rattle.ion_values.specs.declared.value.Kind.{Kind}
-use Rattle.ion_forms.specs.Quoted.{hex_escape, is_control, escape, quoted, string_text, symbol_text, clob_escape, clob_text, begins_name, continues_name, is_identifier, is_bare, is_keyword}
-use Rattle.ion_forms.specs.Timestamp.{digit, two_digits, four_digits, first_digits, fraction_text, clock_text, offset_text, month_text, day_text, minute_text, second_text, text_to, timestamp_text}
-use Rattle.ion_forms.specs.Write.{null_text, bool_text, decimal_text, base64_digits, blob_text, annotation_text}
+use Rattle.ion_model.specs.Quoted.{hex_escape, is_control, escape, quoted, string_text, symbol_text, clob_escape, clob_text, begins_name, continues_name, is_identifier, is_bare, is_keyword}
+use Rattle.ion_model.specs.Timestamp.{digit, two_digits, four_digits, first_digits, fraction_text, clock_text, offset_text, month_text, day_text, minute_text, second_text, text_to, timestamp_text}
+use Rattle.ion_model.specs.Write.{null_text, bool_text, decimal_text, base64_digits, blob_text, annotation_text}
 use Rattle.journal_text.proofs.Pieces.{OneLine, append_one_line, cons_one_line, replicate_one_line, flat_map_one_line, byte_at}
 
 -- ---- quoted texts

@@ -6,7 +6,7 @@ use Rattle.ion_values.specs.declared.value.Field.{Field, roll-Field}
 use Rattle.ion_values.specs.declared.value.Body.{Body, roll-Body}
 use Rattle.ion_values.specs.declared.value.Body.TheOpen.{Body-F, Field-F, Value-F}
 use Rattle.ion_values.specs.declared.value.Body.TheFolds.{ind-Value, map-Body, the_lemmas}
-use Rattle.ion_forms.specs.Write.{value_text, body_text, field_text, body_step, symbol_text, annotation_text, joined, parted}
+use Rattle.ion_model.specs.Write.{value_text, body_text, field_text, body_step, symbol_text, annotation_text, joined, parted}
 use Rattle.journal_text.specs.OneLine.{WrittenOnOneLine}
 use Rattle.journal_text.proofs.Pieces.{OneLine, append_one_line, flat_map_one_line, parted_one_line, each_one_line}
 use Rattle.journal_text.proofs.Scalars.{null_one_line, bool_one_line, int_one_line, decimal_one_line, timestamp_one_line, symbol_one_line, string_one_line, clob_one_line, blob_one_line, annotation_one_line}

@@ -1,7 +1,7 @@
 -- What a line of a journal is read as (Ion 1.0, "Text encoding"): the one value of its text, and the whole block of that value.
 use Rattle.std.specs.Prelude.{◌≡◌, ◌≢◌, ℕ, List, [], ◌∷◌, Option, Some, None, Ok}
 use Rattle.ion_values.specs.declared.value.Value.{Value}
-use Rattle.ion_grammar.specs.Read.{read_text}
+use Rattle.ion_model.specs.Read.{read_text}
 use Rattle.ledger_model.specs.declared.block.Block.{Block}
 use Rattle.ledger_model.specs.Damages.{has_hashes}
 use Rattle.ledger_model.specs.Recovered.{IsLineOf}

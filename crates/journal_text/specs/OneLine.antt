@@ -3,7 +3,7 @@
 use Rattle.std.specs.Prelude.{◌≡◌, ◌==◌, ℕ, Bool, true, not, List}
 use Rattle.std.specs.List.{list_all}
 use Rattle.ion_values.specs.declared.value.Value.{Value}
-use Rattle.ion_forms.specs.Write.{value_text}
+use Rattle.ion_model.specs.Write.{value_text}
 
 -- no line feed stands in the text
 abbrev pub is_one_line : List ℕ → Bool

@@ -2,7 +2,7 @@
 #![tactic(auto)]
 
 ghost use Rattle.std.specs.Prelude.{◌≡◌, ◌∷◌, ◌++◌, [], IfOk};
-ghost use Rattle.ion_forms.specs.Write.{value_text};
+ghost use Rattle.ion_model.specs.Write.{value_text};
 ghost use Rattle.ledger_model.specs.Journal.{line};
 
 mod checks;

@@ -1,7 +1,7 @@
 //! One line of a journal, read back.
 ghost use Rattle.std.specs.Prelude.{◌≡◌, ◌≢◌, [], ◌∷◌, ◌++◌, IfOk, IsTrue, ◌↔◌, MatchOption};
 ghost use Rattle.ion_values.specs.declared.value.Value.{Value};
-ghost use Rattle.ion_forms.specs.Write.{value_text};
+ghost use Rattle.ion_model.specs.Write.{value_text};
 ghost use Rattle.journal_text.specs.Lines.{GivesOne, IsLineRead};
 
 use block_form::{CheckedBlock, checked_from_ion};

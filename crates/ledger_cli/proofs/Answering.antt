@@ -6,14 +6,14 @@ use Rattle.outside.specs.Told.{SourceTold, StoreTold}
 use Rattle.proof_issue.specs.declared.NoSuch.{NoSuch}
 use Rattle.proof_issue.specs.declared.NoSuch.TheVariants as none_such
 use Rattle.proof_issue.specs.Refusals.{IsRefused}
-use Rattle.command_words.specs.declared.Command.{Command}
-use Rattle.command_words.specs.declared.Command.TheVariants as command
-use Rattle.entry_laws.specs.Calls.{Span}
-use Rattle.command_claims.specs.Calls.{Outside}
-use Rattle.command_claims.specs.Inputs.{IsIdle}
-use Rattle.command_claims.specs.Journals.{Question, Answers, HasNone, IsUnchanged, Reads}
-use Rattle.command_claims.specs.Journals as asks
-use Rattle.command_claims.specs.Top.{Gives, Refuses, JournalGives, JournalRefuses, Status}
+use Rattle.cli_args.specs.declared.Command.{Command}
+use Rattle.cli_args.specs.declared.Command.TheVariants as command
+use Rattle.laws_history.specs.Calls.{Span}
+use Rattle.cli_model.specs.Calls.{Outside}
+use Rattle.cli_model.specs.Inputs.{IsIdle}
+use Rattle.cli_model.specs.Journals.{Question, Answers, HasNone, IsUnchanged, Reads}
+use Rattle.cli_model.specs.Journals as asks
+use Rattle.cli_model.specs.Top.{Gives, Refuses, JournalGives, JournalRefuses, Status}
 use Rattle.ledger_cli.specs.declared.stop.Stop.{Stop}
 use Rattle.ledger_cli.specs.declared.stop.Stop.TheVariants as stop
 use Rattle.ledger_cli.specs.Ends.{Works}

@@ -6,18 +6,18 @@ use Rattle.ion_values.specs.declared.time.TimeParts.{TimeParts}
 use Rattle.ledger_model.specs.declared.script.Job.{Job}
 use Rattle.ledger_model.specs.Script.{Placed, all_placed}
 use Rattle.outside.specs.Told.{StoreTold, held}
-use Rattle.command_words.specs.declared.Command.TheVariants as command
-use Rattle.command_words.specs.declared.IdSource.{IdSource}
-use Rattle.command_words.specs.declared.IdSource.TheVariants as ids
-use Rattle.command_words.specs.declared.RunOptions.{RunOptions}
-use Rattle.command_claims.specs.Top.{is_first_answer}
-use Rattle.entry_laws.specs.Calls.{Span, span}
-use Rattle.entry_laws.specs.Records.{one_time}
-use Rattle.command_claims.specs.Calls.{Outside}
-use Rattle.command_claims.specs.Clocks.{Answers, GaveFirst, given_by, times_between}
-use Rattle.command_claims.specs.Inputs.{HasScript}
-use Rattle.command_claims.specs.Journals.{IsUncalled}
-use Rattle.command_claims.specs.Runs.{Terms, AreTerms, IsReportOf, HoldsRun, LeavesRun}
+use Rattle.cli_args.specs.declared.Command.TheVariants as command
+use Rattle.cli_args.specs.declared.IdSource.{IdSource}
+use Rattle.cli_args.specs.declared.IdSource.TheVariants as ids
+use Rattle.cli_args.specs.declared.RunOptions.{RunOptions}
+use Rattle.cli_model.specs.Top.{is_first_answer}
+use Rattle.laws_history.specs.Calls.{Span, span}
+use Rattle.laws_history.specs.Records.{one_time}
+use Rattle.cli_model.specs.Calls.{Outside}
+use Rattle.cli_model.specs.Clocks.{Answers, GaveFirst, given_by, times_between}
+use Rattle.cli_model.specs.Inputs.{HasScript}
+use Rattle.cli_model.specs.Journals.{IsUncalled}
+use Rattle.cli_model.specs.Runs.{Terms, AreTerms, IsReportOf, HoldsRun, LeavesRun}
 use Rattle.ledger_cli.specs.declared.stop.Stop.{Stop}
 use Rattle.ledger_cli.specs.declared.stop.Stop.TheVariants as stop
 use Rattle.ledger_cli.specs.Clocks.{AreCovered, ClockTold, Extends, IsAsked, IsSoOnTerms}
@@ -25,7 +25,7 @@ use Rattle.ledger_cli.specs.Ends.{Works}
 use Rattle.ledger_cli.specs.Inputs.{IsFine, IsReadStop}
 use Rattle.ledger_cli.specs.Stops.{IsLoadStop}
 use Rattle.ledger_cli.proofs.Clocks.{between_covers, one_covers}
-use Rattle.command_claims.proofs.Holding.{reported_holds}
+use Rattle.cli_model.proofs.Holding.{reported_holds}
 
 -- ---- the terms
 

@@ -8,8 +8,8 @@ use Rattle.ion_time.specs.Millis.{BeginsAt, nearest}
 use Rattle.ion_time.proofs.Names.{millis_name_times}
 use Rattle.ion_values.specs.declared.time.TimeParts.{TimeParts}
 use Rattle.outside.specs.Clocks.{AddsAnswer}
-use Rattle.entry_laws.specs.Records.{Times, one_time, IsTimeIn}
-use Rattle.command_claims.specs.Clocks.{Answers, HasAnswered, times_between, mask_between, first_mask, seed_of}
+use Rattle.laws_history.specs.Records.{Times, one_time, IsTimeIn}
+use Rattle.cli_model.specs.Clocks.{Answers, HasAnswered, times_between, mask_between, first_mask, seed_of}
 use Rattle.ledger_shared.specs.Behind.{GaveBetween}
 use Rattle.ledger_cli.specs.Clocks.{ClockTold, GoesOn, IsAnswered, Covers, Extends}
 

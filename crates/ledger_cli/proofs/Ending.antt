@@ -4,18 +4,18 @@ use Rattle.std.specs.Prelude.{codes, option_map}
 use Rattle.std.specs.Io.KnownBytes.{Consumes}
 use Rattle.outside.specs.Store.{Content}
 use Rattle.outside.specs.Told.{SourceTold, SinkTold, StoreTold, held}
-use Rattle.command_words.specs.declared.Command.{Command}
-use Rattle.command_words.specs.declared.Command.TheVariants as command
-use Rattle.entry_laws.specs.Calls.{Span, span}
-use Rattle.entry_laws.specs.Streams.{TakesFew, Writes, WritesPart, BreaksOff, WritesLine}
-use Rattle.command_claims.specs.Calls.{Outside, Call}
-use Rattle.command_claims.specs.Inputs.{IsIdle}
-use Rattle.command_claims.specs.Journals.{IsUncalled}
-use Rattle.command_claims.specs.Lines.{words_line, faults_line, memory_line}
-use Rattle.command_words.specs.declared.RunOptions.{RunOptions}
-use Rattle.command_claims.specs.Runs.{LeavesRun}
-use Rattle.command_claims.specs.Top.{Gives, Refuses, Keeps, Ends, HidesNone, Does, asked_by}
-use Rattle.command_claims.specs.Top as top
+use Rattle.cli_args.specs.declared.Command.{Command}
+use Rattle.cli_args.specs.declared.Command.TheVariants as command
+use Rattle.laws_history.specs.Calls.{Span, span}
+use Rattle.laws_history.specs.Streams.{TakesFew, Writes, WritesPart, BreaksOff, WritesLine}
+use Rattle.cli_model.specs.Calls.{Outside, Call}
+use Rattle.cli_model.specs.Inputs.{IsIdle}
+use Rattle.cli_model.specs.Journals.{IsUncalled}
+use Rattle.cli_model.specs.Lines.{words_line, faults_line, memory_line}
+use Rattle.cli_args.specs.declared.RunOptions.{RunOptions}
+use Rattle.cli_model.specs.Runs.{LeavesRun}
+use Rattle.cli_model.specs.Top.{Gives, Refuses, Keeps, Ends, HidesNone, Does, asked_by}
+use Rattle.cli_model.specs.Top as top
 use Rattle.ledger_cli.specs.declared.ends.Status.{Status}
 use Rattle.ledger_cli.specs.declared.ends.Status.TheVariants as status
 use Rattle.ledger_cli.specs.declared.stop.Stop.{Stop}

@@ -4,14 +4,14 @@ use Rattle.std.specs.Prelude.{option_map}
 use Rattle.std.proofs.Math.Seq.{take-append_seam}
 use Rattle.std.proofs.lemmas.Grind.{flat_map-append}
 use Rattle.ion_values.specs.declared.value.Value.{Value}
-use Rattle.ion_forms.specs.Write.{value_text}
+use Rattle.ion_model.specs.Write.{value_text}
 use Rattle.ledger_model.specs.declared.block.Block.{Block}
 use Rattle.ledger_model.specs.Damages.{Undamaged}
 use Rattle.ledger_model.specs.Journal.{block_value, line, journal_bytes}
 use Rattle.ledger_model.specs.Recovered.{has_no_line_feed}
 use Rattle.outside.specs.Told.{StoreTold}
-use Rattle.entry_laws.specs.Stores.{HoldsBehind, HasJournal, Holding, HoldingWithRest, IsSynced}
-use Rattle.entry_laws.proofs.Stored.{all-HoldingWithRest, journal-HoldingWithRest, part_of_line}
+use Rattle.laws_history.specs.Stores.{HoldsBehind, HasJournal, Holding, HoldingWithRest, IsSynced}
+use Rattle.laws_history.proofs.Stored.{all-HoldingWithRest, journal-HoldingWithRest, part_of_line}
 use Rattle.ledger_core.specs.Loads.{IsLoaded}
 use Rattle.ledger_shared.specs.Rests.{HoldsRest}
 

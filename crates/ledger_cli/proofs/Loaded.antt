@@ -4,7 +4,7 @@ use Rattle.std.specs.Prelude.{IfOk, IfErr, IfSome, OnErr}
 use Rattle.std.specs.List.{AllByRecursion}
 use Rattle.std.proofs.lemmas.List.{drop_all}
 use Rattle.ion_values.specs.declared.value.Value.{Value}
-use Rattle.ion_forms.specs.Write.{value_text}
+use Rattle.ion_model.specs.Write.{value_text}
 use Rattle.ledger_model.specs.declared.block.Block.{Block}
 use Rattle.ledger_model.specs.declared.outcome.PlacedOutcome.{PlacedOutcome}
 use Rattle.ledger_model.specs.Damages.{Undamaged}
@@ -15,17 +15,17 @@ use Rattle.ledger_model.specs.State.{state}
 use Rattle.ledger_model.specs.Script.{Placed}
 use Rattle.outside.specs.Store.{Content}
 use Rattle.outside.specs.Told.{StoreTold, held}
-use Rattle.entry_laws.specs.Standings.{Standing}
-use Rattle.entry_laws.specs.Calls.{span}
-use Rattle.entry_laws.specs.Records.{RunRecord, FitsBlocks, HaveTimes, InSessionOrder, IsOfSomeJob, InOrder}
-use Rattle.entry_laws.specs.Stores.{HasJournal, HoldingWithRest, IsSynced}
-use Rattle.entry_laws.proofs.BlocksFit.{FitsBlocks-same}
-use Rattle.entry_laws.proofs.Stored.{all-HoldingWithRest}
-use Rattle.command_claims.specs.Runs.{Terms, IsDone, IsOfRun, IsReportOf, HoldsRun}
-use Rattle.command_claims.proofs.Holding.{done_leaves}
-use Rattle.entry_laws.specs.Alone.{RunsInOrder}
-use Rattle.entry_laws.specs.Claims.{Fits, IsOfOwnDigest}
-use Rattle.entry_laws.specs.Tried.{tried_in}
+use Rattle.laws_history.specs.Standings.{Standing}
+use Rattle.laws_history.specs.Calls.{span}
+use Rattle.laws_history.specs.Records.{RunRecord, FitsBlocks, HaveTimes, InSessionOrder, IsOfSomeJob, InOrder}
+use Rattle.laws_history.specs.Stores.{HasJournal, HoldingWithRest, IsSynced}
+use Rattle.laws_history.proofs.BlocksFit.{FitsBlocks-same}
+use Rattle.laws_history.proofs.Stored.{all-HoldingWithRest}
+use Rattle.cli_model.specs.Runs.{Terms, IsDone, IsOfRun, IsReportOf, HoldsRun}
+use Rattle.cli_model.proofs.Holding.{done_leaves}
+use Rattle.laws_history.specs.Alone.{RunsInOrder}
+use Rattle.laws_history.specs.Claims.{Fits, IsOfOwnDigest}
+use Rattle.laws_history.specs.Tried.{tried_in}
 use Rattle.ledger_core.specs.Faults.{IsSettleFault}
 use Rattle.ledger_core.specs.Loads.{IsCause}
 use Rattle.ledger_core.specs.Tails.{MayBeCut, TailHeld}

@@ -4,7 +4,7 @@ use Rattle.std.specs.Prelude.{IfSome}
 use Rattle.std.specs.List.{AllByRecursion}
 use Rattle.id_seed.specs.Seed.{mask_of}
 use Rattle.ion_values.specs.declared.value.Value.{Value}
-use Rattle.ion_forms.specs.Write.{value_text}
+use Rattle.ion_model.specs.Write.{value_text}
 use Rattle.ql_types.specs.declared.Hash32.{Hash32}
 use Rattle.ledger_model.specs.CommitDigest.{commit_digest}
 use Rattle.ledger_model.specs.declared.block.Block.{Block}
@@ -12,35 +12,35 @@ use Rattle.ledger_model.specs.declared.outcome.PlacedOutcome.{PlacedOutcome}
 use Rattle.ledger_model.specs.declared.script.Job.{Job}
 use Rattle.ledger_model.specs.Recovered.{has_no_line_feed}
 use Rattle.ledger_model.specs.Script.{Placed, all_placed}
-use Rattle.made_blocks.proofs.Lists.{all_like}
-use Rattle.made_histories.proofs.Adding.{made_runs_add_up}
-use Rattle.made_histories.proofs.Places.{IsOfSession, all_of_sessions, session_jobs}
-use Rattle.made_workload.proofs.Lengths.{each-made_session, length-made_session, length-made_sessions}
-use Rattle.made_workload.specs.Made.{made_first, made_sessions}
-use Rattle.made_workload.specs.Sums.{summary, summary_text}
+use Rattle.laws_validity.proofs.Lists.{all_like}
+use Rattle.laws_workload.proofs.Adding.{made_runs_add_up}
+use Rattle.laws_workload.proofs.Places.{IsOfSession, all_of_sessions, session_jobs}
+use Rattle.workload.proofs.Lengths.{each-made_session, length-made_session, length-made_sessions}
+use Rattle.workload.specs.Made.{made_first, made_sessions}
+use Rattle.workload.specs.Sums.{summary, summary_text}
 use Rattle.outside.specs.Told.{SourceTold, StoreTold, held}
-use Rattle.command_words.specs.declared.Command.TheVariants as command
-use Rattle.command_words.specs.declared.MakeOptions.{MakeOptions}
+use Rattle.cli_args.specs.declared.Command.TheVariants as command
+use Rattle.cli_args.specs.declared.MakeOptions.{MakeOptions}
 use Rattle.turn_lock.specs.History.{Stands}
-use Rattle.entry_laws.specs.Calls.{Span, span}
-use Rattle.entry_laws.specs.Records.{RunRecord, IsOfSomeJob, made, untold, InOrder, IsBehind}
-use Rattle.entry_laws.proofs.Places.{InOrder-all_placed}
-use Rattle.command_claims.proofs.First.{comes_first}
-use Rattle.command_claims.proofs.Holding.{done_leaves, summarized_holds}
-use Rattle.command_claims.specs.Making.{IsSummaryOf, LeavesWorkload, made_jobs, made_terms}
-use Rattle.command_claims.specs.Calls.{Outside}
-use Rattle.command_claims.specs.Inputs.{IsIdle}
-use Rattle.command_claims.specs.Lines.{not_empty_line}
-use Rattle.command_claims.specs.Top.{Keeps}
-use Rattle.command_claims.specs.Runs.{Terms, HoldsRun}
-use Rattle.entry_laws.specs.Claims.{IsOfOwnDigest}
-use Rattle.entry_laws.proofs.Fitting.{contains_stands}
-use Rattle.entry_laws.proofs.Lists.{stands_all, stands_contains}
+use Rattle.laws_history.specs.Calls.{Span, span}
+use Rattle.laws_history.specs.Records.{RunRecord, IsOfSomeJob, made, untold, InOrder, IsBehind}
+use Rattle.laws_history.proofs.Places.{InOrder-all_placed}
+use Rattle.cli_model.proofs.First.{comes_first}
+use Rattle.cli_model.proofs.Holding.{done_leaves, summarized_holds}
+use Rattle.cli_model.specs.Making.{IsSummaryOf, LeavesWorkload, made_jobs, made_terms}
+use Rattle.cli_model.specs.Calls.{Outside}
+use Rattle.cli_model.specs.Inputs.{IsIdle}
+use Rattle.cli_model.specs.Lines.{not_empty_line}
+use Rattle.cli_model.specs.Top.{Keeps}
+use Rattle.cli_model.specs.Runs.{Terms, HoldsRun}
+use Rattle.laws_history.specs.Claims.{IsOfOwnDigest}
+use Rattle.laws_history.proofs.Fitting.{contains_stands}
+use Rattle.laws_history.proofs.Lists.{stands_all, stands_contains}
 use Rattle.ledger_core.specs.Loads.{IsCause}
 use Rattle.ledger_core.specs.Tails.{TailHeld}
 use Rattle.ledger_core.specs.declared.reload.LoadCause.{LoadCause}
 use Rattle.ledger_core.specs.declared.reload.LoadCause.TheVariants as load
-use Rattle.ledger_first.specs.FirstRuns.{HasBegun, HaveAllRun}
+use Rattle.run_after_setup.specs.FirstRuns.{HasBegun, HaveAllRun}
 use Rattle.ledger_shared.specs.Sessions.{AreNumbered}
 use Rattle.ledger_cli.specs.declared.make.Workload.{Workload}
 use Rattle.ledger_cli.specs.declared.stop.Stop.{Stop}

@@ -7,8 +7,8 @@ use Rattle.std.proofs.Math.Seq.{take-add, take-append-add}
 use Rattle.std.specs.Io.KnownBytes.{Appends}
 use Rattle.std.proofs.KnownBytes.{Appends-trans}
 use Rattle.outside.specs.Told.{SinkTold}
-use Rattle.entry_laws.specs.Calls.{span}
-use Rattle.entry_laws.specs.Streams.{Writes, BreaksOff}
+use Rattle.laws_history.specs.Calls.{span}
+use Rattle.laws_history.specs.Streams.{Writes, BreaksOff}
 use Rattle.ledger_cli.specs.Ends.{count_line}
 use Rattle.std.specs.Fmt.{decimal}
 

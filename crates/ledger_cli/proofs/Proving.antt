@@ -4,8 +4,8 @@ use Rattle.std.specs.Prelude.{slice_get, option_and_then}
 use Rattle.std.proofs.lemmas.Bool.Decides.{leb_tells}
 use Rattle.ledger_model.specs.declared.block.Block.{Block}
 use Rattle.ledger_model.specs.declared.block.Revision.{Revision}
-use Rattle.proof_forms.specs.Chained.{Chained}
-use Rattle.proof_forms.proofs.Chains.{linked}
+use Rattle.proof_model.specs.Chained.{Chained}
+use Rattle.proof_model.proofs.Chains.{linked}
 use Rattle.proof_issue.specs.declared.NoSuch.{NoSuch}
 use Rattle.proof_issue.specs.Refusals.{or_then, past_end, past_revisions, refusal}
 

@@ -3,7 +3,7 @@ use Rattle.std.proofs.Common.{◌≡◌, Bool, inl, inr, ◌+◌, ◌<◌, ◌�
 use Rattle.std.specs.Prelude.{IfOk}
 use Rattle.std.specs.List.{All, AllByRecursion}
 use Rattle.std.specs.Option.{ok_or, unwrap_or}
-use Rattle.ion_grammar.specs.Read.{read_text}
+use Rattle.ion_model.specs.Read.{read_text}
 use Rattle.std.proofs.lemmas.Bool.{cond_both}
 use Rattle.std.proofs.lemmas.Grind.{common_steps}
 use Rattle.ion_values.specs.declared.value.Value.{Value}
@@ -17,8 +17,8 @@ use Rattle.std.proofs.lemmas.Bool.Decides.{leb_tells}
 use Rattle.ion_values.specs.declared.fault.IonFault.{IonFault}
 use Rattle.script_form.specs.Answers.{IsCountable}
 use Rattle.outside.specs.Told.{SourceTold}
-use Rattle.entry_laws.specs.Calls.{Span}
-use Rattle.entry_laws.specs.Streams.{Taken, WasRead}
+use Rattle.laws_history.specs.Calls.{Span}
+use Rattle.laws_history.specs.Streams.{Taken, WasRead}
 use Rattle.ledger_cli.specs.declared.lines.BadInput.TheVariants as cause
 use Rattle.ledger_cli.specs.declared.stop.Stop.{Stop}
 use Rattle.ledger_cli.specs.declared.stop.Stop.TheVariants as stop

@@ -9,20 +9,20 @@ use Rattle.ledger_model.specs.Damages.{Undamaged}
 use Rattle.ledger_model.specs.Script.{Placed}
 use Rattle.outside.specs.Told.{StoreTold}
 use Rattle.turn_lock.specs.History.{Stands}
-use Rattle.entry_laws.specs.Records.{RunRecord, FitsBlocks, HasMask, HasTime, HaveTimes, IsTimeIn, Times, made, mask_of, InOrder}
-use Rattle.command_claims.specs.Runs.{Terms}
-use Rattle.core_machine.specs.Entries.{Entry, Opening, Reach, begun_at, comes, failed, reach_at, reached, sealed, wanted}
-use Rattle.entry_laws.specs.Alone.{RunsInOrder}
-use Rattle.entry_laws.specs.Claims.{Fits, IsOfOwnDigest}
-use Rattle.entry_laws.specs.Runs.{AreWorkers, IsRunBy, opening_of}
-use Rattle.entry_laws.specs.Seen.{IsRight, blocks_in, reach}
-use Rattle.entry_laws.specs.Tried.{tried_behind, tried_in}
-use Rattle.entry_laws.proofs.Fitting.{contains_stands, runs_fit}
-use Rattle.entry_laws.proofs.InOrder.{one_worker_in_order}
-use Rattle.entry_laws.proofs.Lists.{stands_parts}
-use Rattle.entry_laws.proofs.Reaches.{counts_on, reached_blocks, sealed_in}
-use Rattle.entry_laws.proofs.Sealed.{drop_front}
-use Rattle.entry_laws.proofs.Tried.{tried_fit}
+use Rattle.laws_history.specs.Records.{RunRecord, FitsBlocks, HasMask, HasTime, HaveTimes, IsTimeIn, Times, made, mask_of, InOrder}
+use Rattle.cli_model.specs.Runs.{Terms}
+use Rattle.laws_machine.specs.Entries.{Entry, Opening, Reach, begun_at, comes, failed, reach_at, reached, sealed, wanted}
+use Rattle.laws_history.specs.Alone.{RunsInOrder}
+use Rattle.laws_history.specs.Claims.{Fits, IsOfOwnDigest}
+use Rattle.laws_history.specs.Runs.{AreWorkers, IsRunBy, opening_of}
+use Rattle.laws_history.specs.Seen.{IsRight, blocks_in, reach}
+use Rattle.laws_history.specs.Tried.{tried_behind, tried_in}
+use Rattle.laws_history.proofs.Fitting.{contains_stands, runs_fit}
+use Rattle.laws_history.proofs.InOrder.{one_worker_in_order}
+use Rattle.laws_history.proofs.Lists.{stands_parts}
+use Rattle.laws_history.proofs.Reaches.{counts_on, reached_blocks, sealed_in}
+use Rattle.laws_history.proofs.Sealed.{drop_front}
+use Rattle.laws_history.proofs.Tried.{tried_fit}
 use Rattle.ledger_core.specs.Tails.{TailHeld}
 use Rattle.ledger_shared.specs.Behind as behind
 use Rattle.ledger_shared.specs.Behind.{AreTimed, GaveBetween, HasTimeOf, IsTimeOf, Keeps}

@@ -3,18 +3,18 @@ use Rattle.std.proofs.Common.{◌≡◌, ◌≤◌, ◌<◌, ℕ, List, length, 
 use Rattle.ion_values.specs.declared.value.Value.{Value}
 use Rattle.ledger_model.specs.declared.block.Revision.{Revision}
 use Rattle.outside.specs.Told.{SourceTold}
-use Rattle.proof_forms.specs.declared.Digest.{Digest}
-use Rattle.proof_forms.specs.declared.Proof.{Proof}
+use Rattle.proof_model.specs.declared.Digest.{Digest}
+use Rattle.proof_model.specs.declared.Proof.{Proof}
 use Rattle.proof_verify.specs.Bundles.{IsBundle, IsUnreadable}
 use Rattle.proof_verify.specs.Faults.{fault_of, IsRefused}
 use Rattle.proof_verify.specs.declared.ProofFault.{ProofFault}
 use Rattle.proof_verify.specs.declared.ProofFault.TheVariants as fault
-use Rattle.command_words.specs.declared.Command.TheVariants as command
-use Rattle.entry_laws.specs.Calls.{Span}
-use Rattle.entry_laws.specs.Streams.{Taken, WasRead}
-use Rattle.command_claims.specs.Bundles.{IsNotAccepted}
-use Rattle.command_claims.specs.Calls.{Outside}
-use Rattle.command_claims.specs.Inputs.{longest}
+use Rattle.cli_args.specs.declared.Command.TheVariants as command
+use Rattle.laws_history.specs.Calls.{Span}
+use Rattle.laws_history.specs.Streams.{Taken, WasRead}
+use Rattle.cli_model.specs.Bundles.{IsNotAccepted}
+use Rattle.cli_model.specs.Calls.{Outside}
+use Rattle.cli_model.specs.Inputs.{longest}
 use Rattle.ledger_cli.specs.declared.lines.BadInput.{BadInput}
 use Rattle.ledger_cli.specs.declared.lines.BadInput.TheVariants as cause
 use Rattle.ledger_cli.specs.declared.stop.Stop.{Stop}

@@ -4,12 +4,12 @@ use Rattle.std.specs.Prelude.{◌||◌, option_and_then, option_map, codes, nat_
 use Rattle.std.specs.Str.{bytes_eq}
 use Rattle.std.proofs.lemmas.Bool.{eqb-false}
 use Rattle.clap.specs.Words.{Row, Text, first_of}
-use Rattle.command_words.specs.Forms.{audit_app, digest_app, found_in, make_app, prove_app, run_app, verify_app}
-use Rattle.command_words.specs.Numbers.{from_one_to, number_of}
-use Rattle.command_words.specs.Times.{time_of}
-use Rattle.command_words.specs.Words.{asked, at_will, count_at, digest_of, ids_of, make_of, number_at, prove_of, run_of, tip_of, workers_in, workers_of}
-use Rattle.command_words.specs.declared.Command.{Command}
-use Rattle.command_words.specs.declared.Command.TheVariants as command
+use Rattle.cli_args.specs.Forms.{audit_app, digest_app, found_in, make_app, prove_app, run_app, verify_app}
+use Rattle.cli_args.specs.Numbers.{from_one_to, number_of}
+use Rattle.cli_args.specs.Times.{time_of}
+use Rattle.cli_args.specs.Words.{asked, at_will, count_at, digest_of, ids_of, make_of, number_at, prove_of, run_of, tip_of, workers_in, workers_of}
+use Rattle.cli_args.specs.declared.Command.{Command}
+use Rattle.cli_args.specs.declared.Command.TheVariants as command
 use Rattle.ledger_cli.specs.Workers.{HasWorkers}
 
 -- ---- the number of workers

@@ -1,14 +1,14 @@
 -- What comes of an input that is to be a bundle.
 use Rattle.std.specs.Prelude.{◌≡◌, ◌<◌, ℕ, List, Result, Ok, Err}
-use Rattle.ion_grammar.specs.Read.{read_text}
+use Rattle.ion_model.specs.Read.{read_text}
 use Rattle.ion_values.specs.declared.value.Value.{Value}
 use Rattle.outside.specs.Told.{SourceTold}
 use Rattle.proof_verify.specs.declared.ProofFault.{ProofFault}
 use Rattle.proof_verify.specs.declared.ProofFault.TheVariants as fault
-use Rattle.entry_laws.specs.Calls.{Span}
-use Rattle.command_claims.specs.Bundles.{IsAccepted, IsNotAccepted}
-use Rattle.command_claims.specs.Inputs.{HasValues, IsNoText, deepest}
-use Rattle.command_claims.specs.Outputs.{verified_text}
+use Rattle.laws_history.specs.Calls.{Span}
+use Rattle.cli_model.specs.Bundles.{IsAccepted, IsNotAccepted}
+use Rattle.cli_model.specs.Inputs.{HasValues, IsNoText, deepest}
+use Rattle.cli_model.specs.Outputs.{verified_text}
 use Rattle.ledger_cli.specs.Inputs.{IsFine}
 use Rattle.ledger_cli.specs.Judgements.{cause_of}
 use Rattle.ledger_cli.specs.declared.lines.BadInput.{BadInput}

@@ -2,12 +2,12 @@
 use Rattle.std.specs.Prelude.{◌≡◌, ◌++◌, ℕ, ℤ, List, length, drop, Option, Some, IfSome, IsSomeAnd, Contains}
 use Rattle.ion_time.specs.Millis.{BeginsAt, nearest}
 use Rattle.ion_values.specs.declared.time.TimeParts.{TimeParts}
-use Rattle.command_words.specs.declared.IdSource.{IdSource}
-use Rattle.command_words.specs.declared.IdSource.TheVariants as ids
-use Rattle.entry_laws.specs.Calls.{span}
-use Rattle.entry_laws.specs.Records.{Times, IsTimeIn}
-use Rattle.command_claims.specs.Clocks.{Answers, AreTimes}
-use Rattle.command_claims.specs.Runs.{Terms}
+use Rattle.cli_args.specs.declared.IdSource.{IdSource}
+use Rattle.cli_args.specs.declared.IdSource.TheVariants as ids
+use Rattle.laws_history.specs.Calls.{span}
+use Rattle.laws_history.specs.Records.{Times, IsTimeIn}
+use Rattle.cli_model.specs.Clocks.{Answers, AreTimes}
+use Rattle.cli_model.specs.Runs.{Terms}
 
 -- the answers that a clock has given, and the one answer that it always gives, where it has one
 pub record ClockTold : Type 0 where

@@ -2,13 +2,13 @@
 use Rattle.std.specs.Prelude.{◌≡◌, ℕ, ◌<◌, ◌⊎◌, List, [], ◌∷◌, ◌++◌, codes, Option, Result, Ok, Err}
 use Rattle.std.specs.Fmt.{decimal}
 use Rattle.outside.specs.Told.{SinkTold}
-use Rattle.command_words.specs.declared.Command.{Command}
-use Rattle.entry_laws.specs.Calls.{Span}
-use Rattle.entry_laws.specs.Streams.{Writes, WritesPart, BreaksOff, WritesLine}
-use Rattle.command_claims.specs.Calls.{Outside}
-use Rattle.command_claims.specs.Lines.{memory_line, input_line, no_such_line, not_empty_line, damaged_line, faults_line, proof_fault_line}
-use Rattle.command_claims.specs.Top.{Gives, Refuses}
-use Rattle.command_claims.specs.Top as top
+use Rattle.cli_args.specs.declared.Command.{Command}
+use Rattle.laws_history.specs.Calls.{Span}
+use Rattle.laws_history.specs.Streams.{Writes, WritesPart, BreaksOff, WritesLine}
+use Rattle.cli_model.specs.Calls.{Outside}
+use Rattle.cli_model.specs.Lines.{memory_line, input_line, no_such_line, not_empty_line, damaged_line, faults_line, proof_fault_line}
+use Rattle.cli_model.specs.Top.{Gives, Refuses}
+use Rattle.cli_model.specs.Top as top
 use Rattle.ledger_cli.specs.Judgements.{cause_of}
 use Rattle.ledger_cli.specs.Inputs.{IsFine}
 use Rattle.ledger_cli.specs.declared.ends.Status.{Status}

@@ -2,8 +2,8 @@
 use Rattle.std.specs.Prelude.{◌≡◌, ◌<◌, List, Result, Ok, Err}
 use Rattle.ledger_model.specs.declared.script.Job.{Job}
 use Rattle.outside.specs.Told.{SourceTold}
-use Rattle.entry_laws.specs.Calls.{Span}
-use Rattle.command_claims.specs.Inputs.{HasScript, IsNoScript}
+use Rattle.laws_history.specs.Calls.{Span}
+use Rattle.cli_model.specs.Inputs.{HasScript, IsNoScript}
 use Rattle.ledger_shared.specs.Sessions.{AreNumbered}
 use Rattle.ledger_cli.specs.Judgements.{cause_of}
 use Rattle.ledger_cli.specs.declared.lines.BadInput.TheVariants as bad

@@ -2,8 +2,8 @@
 use Rattle.std.specs.Prelude.{◌≡◌, List, Result, Ok, Err}
 use Rattle.ledger_model.specs.declared.script.Job.{Job}
 use Rattle.ledger_model.specs.Judging.{Judged, too_long, faulty, misspelt, scripted}
-use Rattle.command_claims.specs.Lines.{BadInput}
-use Rattle.command_claims.specs.Lines as bad
+use Rattle.cli_model.specs.Lines.{BadInput}
+use Rattle.cli_model.specs.Lines as bad
 use Rattle.ledger_cli.specs.declared.lines.BadInput as held
 use Rattle.ledger_cli.specs.declared.lines.BadInput.TheVariants as cause
 use Rattle.ledger_cli.specs.declared.stop.Stop.{Stop}

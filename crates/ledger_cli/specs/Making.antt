@@ -4,16 +4,16 @@ use Rattle.ledger_model.specs.declared.block.Block.{Block}
 use Rattle.ledger_model.specs.declared.outcome.PlacedOutcome.{PlacedOutcome}
 use Rattle.ledger_model.specs.declared.script.Job.{Job}
 use Rattle.ledger_model.specs.Script.{Placed}
-use Rattle.made_workload.specs.Made.{made_first, made_sessions}
-use Rattle.made_workload.specs.Sums.{summary, summary_text}
+use Rattle.workload.specs.Made.{made_first, made_sessions}
+use Rattle.workload.specs.Sums.{summary, summary_text}
 use Rattle.outside.specs.Told.{StoreTold}
-use Rattle.command_words.specs.declared.MakeOptions.{MakeOptions}
-use Rattle.entry_laws.specs.Calls.{Span}
-use Rattle.command_claims.specs.Clocks.{Answers}
-use Rattle.command_claims.specs.Journals.{Reads}
-use Rattle.command_claims.specs.Making.{IsSummaryOf, LeavesWorkload}
+use Rattle.cli_args.specs.declared.MakeOptions.{MakeOptions}
+use Rattle.laws_history.specs.Calls.{Span}
+use Rattle.cli_model.specs.Clocks.{Answers}
+use Rattle.cli_model.specs.Journals.{Reads}
+use Rattle.cli_model.specs.Making.{IsSummaryOf, LeavesWorkload}
 use Rattle.ledger_core.specs.Tails.{TailHeld}
-use Rattle.ledger_first.specs.FirstRuns.{HasBegun}
+use Rattle.run_after_setup.specs.FirstRuns.{HasBegun}
 use Rattle.ledger_cli.specs.Runs.{HasSettled, HasStopped}
 use Rattle.ledger_cli.specs.Stops.{IsLoadStop}
 use Rattle.ledger_cli.specs.declared.make.Workload.{Workload}

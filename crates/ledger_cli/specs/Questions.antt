@@ -2,8 +2,8 @@
 use Rattle.std.specs.Prelude.{List, ℕ, Result, Ok, Err}
 use Rattle.ledger_model.specs.declared.block.Block.{Block}
 use Rattle.outside.specs.Told.{StoreTold}
-use Rattle.entry_laws.specs.Calls.{Span}
-use Rattle.command_claims.specs.Journals.{Question, Answers, HasNone, HasFailed, IsUnchanged, Reads, ReadsDamage}
+use Rattle.laws_history.specs.Calls.{Span}
+use Rattle.cli_model.specs.Journals.{Question, Answers, HasNone, HasFailed, IsUnchanged, Reads, ReadsDamage}
 use Rattle.ledger_cli.specs.declared.stop.Stop.{Stop}
 use Rattle.ledger_cli.specs.declared.stop.Stop.TheVariants as stop
 

@@ -6,10 +6,10 @@ use Rattle.ledger_model.specs.Journal.{journal_bytes}
 use Rattle.ledger_model.specs.Report.{report}
 use Rattle.ledger_model.specs.Script.{Placed}
 use Rattle.outside.specs.Told.{StoreTold, held}
-use Rattle.entry_laws.specs.Standings.{IsStanding}
-use Rattle.entry_laws.specs.Calls.{span}
-use Rattle.entry_laws.specs.Records.{greatest, mask_of}
-use Rattle.entry_laws.specs.Stores.{Holding, IsSynced}
+use Rattle.laws_history.specs.Standings.{IsStanding}
+use Rattle.laws_history.specs.Calls.{span}
+use Rattle.laws_history.specs.Records.{greatest, mask_of}
+use Rattle.laws_history.specs.Stores.{Holding, IsSynced}
 use Rattle.ledger_core.specs.Loads.{IsLoaded}
 use Rattle.ledger_core.specs.Tails.{MayBeCut, TailHeld}
 use Rattle.ledger_shared.specs.Behind.{IsKept, Keeps}

@@ -6,8 +6,8 @@ use Rattle.proof_issue.specs.declared.NoSuch.{NoSuch}
 use Rattle.proof_issue.specs.declared.NoSuch.TheVariants as none_such
 use Rattle.proof_verify.specs.declared.ProofFault.{ProofFault}
 use Rattle.proof_verify.specs.declared.ProofFault.TheVariants as fault
-use Rattle.entry_laws.specs.Calls.{Span}
-use Rattle.command_claims.specs.Journals.{Question, HasNone, HasFailed, ReadsDamage}
+use Rattle.laws_history.specs.Calls.{Span}
+use Rattle.cli_model.specs.Journals.{Question, HasNone, HasFailed, ReadsDamage}
 use Rattle.ledger_core.specs.declared.keeping.SettleFault.{SettleFault}
 use Rattle.ledger_core.specs.declared.keeping.SettleFault.TheVariants as settle
 use Rattle.ledger_core.specs.declared.reload.LoadCause.{LoadCause}

@@ -1,7 +1,7 @@
 -- How many workers a command has.
 use Rattle.std.specs.Prelude.{◌<◌}
-use Rattle.command_words.specs.declared.Command.{Command}
-use Rattle.command_words.specs.declared.Command.TheVariants as command
+use Rattle.cli_args.specs.declared.Command.{Command}
+use Rattle.cli_args.specs.declared.Command.TheVariants as command
 
 -- one at least, where it runs sessions
 abbrev pub HasWorkers : Command → Type 0

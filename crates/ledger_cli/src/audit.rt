@@ -1,7 +1,7 @@
 //! How much a journal holds.
 ghost use Rattle.std.specs.Prelude.{◌≡◌, IfOk, IfErr};
-ghost use Rattle.command_claims.specs.Journals as asks;
-ghost use Rattle.command_claims.specs.Outputs.{counts_text, revision_count};
+ghost use Rattle.cli_model.specs.Journals as asks;
+ghost use Rattle.cli_model.specs.Outputs.{counts_text, revision_count};
 ghost use Rattle.ledger_cli.specs.Stops.{IsAnswerStop};
 
 use crate::stop::Stop;

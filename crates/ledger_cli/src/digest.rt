@@ -1,9 +1,9 @@
 //! The digest of a journal.
 ghost use Rattle.std.specs.Prelude.{◌≡◌, ◌-◌, None, length, IfOk, IfErr, MatchResult};
-ghost use Rattle.proof_forms.specs.Issued.{IsDigest};
+ghost use Rattle.proof_model.specs.Issued.{IsDigest};
 ghost use Rattle.proof_issue.specs.Refusals.{IsRefused, past_end};
-ghost use Rattle.command_claims.specs.Journals.{PublishesDigest, tip_in};
-ghost use Rattle.command_claims.specs.Journals as asks;
+ghost use Rattle.cli_model.specs.Journals.{PublishesDigest, tip_in};
+ghost use Rattle.cli_model.specs.Journals as asks;
 ghost use Rattle.ledger_cli.specs.Stops.{IsAnswerStop};
 
 use crate::output::put_line;
@@ -11,8 +11,8 @@ use crate::stop::Stop;
 use ion_values::Text;
 use ledger_core::Tail;
 use outside::JournalStore;
-use proof_forms::{Digest, digest_value, undamaged_is_chained};
 use proof_issue::{NoSuch, digest};
+use proof_model::{Digest, digest_value, undamaged_is_chained};
 use std::alloc::Global;
 
 /// The digest of the tail's journal with this tip.

@@ -1,9 +1,9 @@
 //! How a command ends: with its output or an error line, and an exit status.
 ghost use Rattle.std.specs.Prelude.{◌≡◌, ◌<◌, ◌⊎◌, Err};
-ghost use Rattle.entry_laws.specs.Calls.{span};
-ghost use Rattle.entry_laws.specs.Streams.{Writes, WritesPart};
-ghost use Rattle.command_claims.specs.Lines.{damaged_line, input_line, no_such_line, not_empty_line, proof_fault_line};
-ghost use Rattle.command_claims.specs.Top as top;
+ghost use Rattle.laws_history.specs.Calls.{span};
+ghost use Rattle.laws_history.specs.Streams.{Writes, WritesPart};
+ghost use Rattle.cli_model.specs.Lines.{damaged_line, input_line, no_such_line, not_empty_line, proof_fault_line};
+ghost use Rattle.cli_model.specs.Top as top;
 ghost use Rattle.ledger_cli.specs.Ends.{EndsBy, IsLine, IsOwnLine, IsWanted, count_line, status_of};
 ghost use Rattle.ledger_cli.specs.Judgements.{cause_of};
 

@@ -2,15 +2,15 @@
 ghost use Rattle.std.specs.Prelude.{◌≡◌, [], ◌∷◌, codes, IfOk};
 ghost use Rattle.ledger_model.specs.Journal.{address_value, hash_value, id_value, number, string};
 ghost use Rattle.ledger_model.specs.Values.{field};
-ghost use Rattle.command_claims.specs.Lines.{proof_fault_fields, proof_fault_line};
+ghost use Rattle.cli_model.specs.Lines.{proof_fault_fields, proof_fault_line};
 
+use containers::Sequence;
 use ion_text::write;
 use ion_values::{Fields, OutOfMemory, Text, Value};
-use lists::Sequence;
 use proof_verify::ProofFault;
 use ql_types::{BlockAddress, Hash32, StrandId};
 use std::alloc::Global;
-use value_parts::parts::{address_value, hash_value, id_value, number, put, string, structure};
+use value_codec::parts::{address_value, hash_value, id_value, number, put, string, structure};
 
 /// The fields of a fault's number alone.
 fn bare(alloc: Global, code: u64) -> Result<Fields, OutOfMemory>

@@ -1,7 +1,7 @@
 //! Reading the input to its end.
 ghost use Rattle.std.specs.Prelude.{◌≡◌, ◌<◌, ◌≤◌, ℕ, List, length, IfOk, IfErr, IsErrOf, OnOk};
-ghost use Rattle.entry_laws.specs.Calls.{span};
-ghost use Rattle.entry_laws.specs.Streams.{Taken, TakesFew, WasRead};
+ghost use Rattle.laws_history.specs.Calls.{span};
+ghost use Rattle.laws_history.specs.Streams.{Taken, TakesFew, WasRead};
 ghost use Rattle.ledger_cli.specs.Inputs.{IsUnread};
 
 use crate::lines::BadInput;

@@ -1,7 +1,7 @@
 //! The journal that a store holds, to be read and left as it is.
 ghost use Rattle.std.specs.Prelude.{◌≡◌, Err, IfOk, IfErr};
-ghost use Rattle.entry_laws.specs.Calls.{span};
-ghost use Rattle.command_claims.specs.Journals.{IsUnchanged, Reads};
+ghost use Rattle.laws_history.specs.Calls.{span};
+ghost use Rattle.cli_model.specs.Journals.{IsUnchanged, Reads};
 ghost use Rattle.ledger_cli.specs.Stops.{IsLoadStop, load_stop};
 
 use crate::returned::{HandedBack, Returned};

@@ -1,7 +1,7 @@
 //! The lines that are written in place of a report.
 ghost use Rattle.std.specs.Prelude.{◌≡◌, ◌++◌, IfOk, OnOk};
 ghost use Rattle.std.specs.Fmt.{decimal};
-ghost use Rattle.command_claims.specs.Lines.{damage_name, damaged_line, fault_text, faulty, input_line, kind_name, no_such_line, no_such_text, not_empty_line, script_fault_text, script_kind_name};
+ghost use Rattle.cli_model.specs.Lines.{damage_name, damaged_line, fault_text, faulty, input_line, kind_name, no_such_line, no_such_text, not_empty_line, script_fault_text, script_kind_name};
 ghost use Rattle.ledger_cli.specs.Judgements.{cause_of};
 
 use ion_values::{IonFault, IonKind, OutOfMemory, Text};

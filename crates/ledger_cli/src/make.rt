@@ -3,7 +3,7 @@ ghost use Rattle.std.specs.Prelude.{◌≡◌, ◌<◌, [], Err, IfOk};
 ghost use Rattle.id_seed.specs.Seed.{mask_of};
 ghost use Rattle.ledger_model.specs.Script.{all_placed};
 ghost use Rattle.outside.specs.Told.{StoreTold};
-ghost use Rattle.entry_laws.specs.Calls.{span};
+ghost use Rattle.laws_history.specs.Calls.{span};
 ghost use Rattle.ledger_shared.specs.Sessions.{AreNumbered};
 ghost use Rattle.ledger_cli.specs.Making.{IsWorkload, Makes, MakesAll, SumsUp, at_first};
 ghost use Rattle.ledger_cli.specs.Runs.{HasLoaded};
@@ -12,19 +12,19 @@ use crate::journal::unloaded;
 use crate::returned::HandedBack;
 use crate::run::{Ran, Settled, settle};
 use crate::stop::Stop;
-use command_words::MakeOptions;
+use cli_args::MakeOptions;
 use id_seed::from_seed;
 use ion_values::{OutOfMemory, Text};
 use journal_text::written_on_one_line;
 use ledger_core::Tail;
-use ledger_first::run_behind_first;
 use ledger_model::{Blocks, Job, Outcomes, Script};
-use made_workload::{made_first, made_sessions, summary, summary_text};
 use outside::{Clock, Gate, JournalStore};
 use ql_types::Place;
+use run_after_setup::run_behind_first;
 use std::alloc::Global;
 use std::sync::Wait;
 use std::thread::Threads;
+use workload::{made_first, made_sessions, summary, summary_text};
 
 /// The transactions of a workload: the one of session 0, which runs first and alone, and the sessions.
 #[derive(Drop)]

@@ -1,9 +1,9 @@
 //! Writing a whole text.
 ghost use Rattle.std.specs.Prelude.{◌≡◌, ◌++◌, OnOk, OnErr};
 ghost use Rattle.outside.specs.Causes.{HasCause};
-ghost use Rattle.entry_laws.specs.Calls.{span};
-ghost use Rattle.entry_laws.specs.Streams.{Writes, WritesPart, BreaksOff};
-ghost use Rattle.command_claims.specs.Outputs.{value_line};
+ghost use Rattle.laws_history.specs.Calls.{span};
+ghost use Rattle.laws_history.specs.Streams.{Writes, WritesPart, BreaksOff};
+ghost use Rattle.cli_model.specs.Outputs.{value_line};
 ghost use Rattle.ledger_cli.specs.Ends.{count_line};
 
 use ion_text::write;

@@ -1,11 +1,11 @@
 //! The proof of a revision.
 ghost use Rattle.std.specs.Prelude.{◌≡◌, ◌-◌, None, length, IfOk, IfErr, IfSome, MatchResult};
 ghost use Rattle.std.specs.Prelude.{slice_get, option_copied, option_and_then};
-ghost use Rattle.proof_forms.specs.Issued.{IsAccepted, proof_for};
+ghost use Rattle.proof_model.specs.Issued.{IsAccepted, proof_for};
 ghost use Rattle.proof_issue.specs.Refusals.{IsRefused, past_end, refusal};
-ghost use Rattle.command_claims.specs.Journals.{PublishesProof, tip_in};
-ghost use Rattle.command_claims.specs.Journals as asks;
-ghost use Rattle.command_claims.specs.Outputs.{bundle_text};
+ghost use Rattle.cli_model.specs.Journals.{PublishesProof, tip_in};
+ghost use Rattle.cli_model.specs.Journals as asks;
+ghost use Rattle.cli_model.specs.Outputs.{bundle_text};
 ghost use Rattle.ledger_cli.specs.Stops.{IsAnswerStop};
 
 use crate::digest::digest_of;
@@ -16,8 +16,8 @@ use ion_values::{OutOfMemory, Text};
 use ledger_core::Tail;
 use ledger_model::{Blocks, Revision};
 use outside::JournalStore;
-use proof_forms::{Digest, Proof, digest_value, proof_value, undamaged_is_chained};
 use proof_issue::{NoSuch, prove, prove_grown};
+use proof_model::{Digest, Proof, digest_value, proof_value, undamaged_is_chained};
 use std::alloc::Global;
 
 /// The text of a digest, a revision and its proof, a line each.

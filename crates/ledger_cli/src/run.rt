@@ -2,8 +2,8 @@
 ghost use Rattle.std.specs.Prelude.{◌≡◌, ◌<◌, ◌⊎◌, ℕ, IfOk, IfErr, OnErr, false, is_none};
 ghost use Rattle.ledger_model.specs.Script.{all_placed};
 ghost use Rattle.outside.specs.Told.{StoreTold, held};
-ghost use Rattle.entry_laws.specs.Calls.{span};
-ghost use Rattle.command_claims.specs.Runs.{IsReportOf, HoldsRun, Terms};
+ghost use Rattle.laws_history.specs.Calls.{span};
+ghost use Rattle.cli_model.specs.Runs.{IsReportOf, HoldsRun, Terms};
 ghost use Rattle.ledger_shared.specs.Sessions.{AreNumbered};
 ghost use Rattle.ledger_cli.specs.Clocks.{AreCovered, Extends, GoesOn, IsSoOnTerms, clock_told};
 ghost use Rattle.ledger_cli.specs.Runs.{Comes, HasLoaded, Reports, Settles};

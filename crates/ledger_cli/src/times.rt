@@ -2,11 +2,11 @@
 ghost use Rattle.std.specs.Prelude.{◌≡◌, IfSome};
 ghost use Rattle.ion_time.specs.Millis.{BeginsAt, nearest};
 ghost use Rattle.ion_values.specs.declared.time.TimeParts.{TimeParts};
-ghost use Rattle.entry_laws.specs.Calls.{span};
-ghost use Rattle.command_claims.specs.Clocks.{Answers, GaveFirst, given_by};
+ghost use Rattle.laws_history.specs.Calls.{span};
+ghost use Rattle.cli_model.specs.Clocks.{Answers, GaveFirst, given_by};
 ghost use Rattle.ledger_cli.specs.Clocks.{Extends, IsAsked};
 
-use command_words::IdSource;
+use cli_args::IdSource;
 use id_seed::from_seed;
 use ion_time::clamped;
 use outside::Clock;

@@ -1,18 +1,18 @@
 //! The top call.
 ghost use Rattle.std.specs.Prelude.{◌≡◌, Some, false, map, string_bytes};
-ghost use Rattle.entry_laws.specs.Calls.{span};
-ghost use Rattle.entry_laws.specs.Streams.{TakesFew};
-ghost use Rattle.command_claims.specs.Calls.{outside};
-ghost use Rattle.command_claims.specs.Top.{Does, Ends, Keeps, asks_clock};
-ghost use Rattle.command_claims.specs.Top as top;
-ghost use Rattle.command_words.specs.Words.{asked};
+ghost use Rattle.laws_history.specs.Calls.{span};
+ghost use Rattle.laws_history.specs.Streams.{TakesFew};
+ghost use Rattle.cli_model.specs.Calls.{outside};
+ghost use Rattle.cli_model.specs.Top.{Does, Ends, Keeps, asks_clock};
+ghost use Rattle.cli_model.specs.Top as top;
+ghost use Rattle.cli_args.specs.Words.{asked};
 ghost use Rattle.ledger_cli.specs.Ends.{status_of};
 ghost use Rattle.ledger_cli.specs.Workers.{HasWorkers};
 
 use crate::ends::{Status, end, end_by_line, end_by_want, number_of};
 use crate::returned::HandedBack;
 use crate::work::work;
-use command_words::{Command, WordsFault, command_in};
+use cli_args::{Command, WordsFault, command_in};
 use outside::{Clock, Gate, JournalStore, Sink, Source};
 use std::alloc::Global;
 use std::sync::Wait;

@@ -1,8 +1,8 @@
 //! The verdict on a bundle.
 ghost use Rattle.std.specs.Prelude.{◌≡◌, IfOk, IfErr};
-ghost use Rattle.entry_laws.specs.Calls.{span};
-ghost use Rattle.entry_laws.specs.Streams.{TakesFew};
-ghost use Rattle.command_claims.specs.Bundles.{IsAccepted};
+ghost use Rattle.laws_history.specs.Calls.{span};
+ghost use Rattle.laws_history.specs.Streams.{TakesFew};
+ghost use Rattle.cli_model.specs.Bundles.{IsAccepted};
 ghost use Rattle.ledger_cli.specs.Bundles.{Decides, IsUnproved, ReadsValues, Verifies};
 
 use crate::input::read_all;

@@ -1,11 +1,11 @@
 //! What the commands come to: an output, or why there is none.
 ghost use Rattle.std.specs.Prelude.{◌≡◌, ◌<◌, Err, Some, false};
-ghost use Rattle.entry_laws.specs.Calls.{span};
-ghost use Rattle.entry_laws.specs.Streams.{TakesFew};
-ghost use Rattle.command_claims.specs.Calls.{outside};
-ghost use Rattle.command_claims.specs.Journals as asks;
-ghost use Rattle.command_claims.specs.Top.{Keeps, asks_clock};
-ghost use Rattle.command_words.specs.declared.Command.TheVariants as asked;
+ghost use Rattle.laws_history.specs.Calls.{span};
+ghost use Rattle.laws_history.specs.Streams.{TakesFew};
+ghost use Rattle.cli_model.specs.Calls.{outside};
+ghost use Rattle.cli_model.specs.Journals as asks;
+ghost use Rattle.cli_model.specs.Top.{Keeps, asks_clock};
+ghost use Rattle.cli_args.specs.declared.Command.TheVariants as asked;
 ghost use Rattle.ledger_cli.specs.Ends.{Works};
 ghost use Rattle.ledger_cli.specs.Inputs.{ReadsScript};
 ghost use Rattle.ledger_cli.specs.Workers.{HasWorkers};
@@ -23,7 +23,7 @@ use crate::run::run_script;
 use crate::stop::Stop;
 use crate::times::mask_by;
 use crate::verify::verify_input;
-use command_words::{Command, RunOptions};
+use cli_args::{Command, RunOptions};
 use ion_values::Text;
 use ledger_model::Script;
 use outside::{Clock, Gate, JournalStore, Source};

@@ -6,8 +6,8 @@ use Rattle.ql_types.specs.declared.Place.{Place}
 use Rattle.ledger_model.specs.declared.block.Block.{Block}
 use Rattle.ledger_model.specs.Damages.{Undamaged, UndamagedBehind, strand_of}
 use Rattle.ledger_model.specs.Whole.{place_fits}
-use Rattle.made_blocks.proofs.Journals.{passes_all}
-use Rattle.entry_laws.specs.Standings.{Standing, IsStanding}
+use Rattle.laws_validity.proofs.Journals.{passes_all}
+use Rattle.laws_history.specs.Standings.{Standing, IsStanding}
 
 bound_behind : (bs before : List Block) → UndamagedBehind before bs → length before ≤ 2 ^ 32 - 1 → length before + length bs ≤ 2 ^ 32 - 1
 bound_behind [] before u h = omega (arith, h)

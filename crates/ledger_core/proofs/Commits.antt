@@ -7,8 +7,8 @@ use Rattle.ql_types.specs.declared.Hash32.{Hash32}
 use Rattle.ql_types.specs.declared.Place.{Place}
 use Rattle.ledger_model.specs.declared.block.Block.{Block}
 use Rattle.ledger_model.specs.Whole.{place_fits}
-use Rattle.made_blocks.specs.Makes.{IsWithinAll}
-use Rattle.entry_laws.specs.Standings.{Standing, IsStanding}
+use Rattle.laws_validity.specs.Makes.{IsWithinAll}
+use Rattle.laws_history.specs.Standings.{Standing, IsStanding}
 use Rattle.outside.specs.Told.{StoreTold, held}
 use Rattle.txn_core.specs.Opened.{Opened}
 use Rattle.ledger_core.specs.declared.appending.Receipt.{Receipt}

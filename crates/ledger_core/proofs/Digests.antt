@@ -12,7 +12,7 @@ use Rattle.ledger_model.specs.Damages.{same_hash}
 use Rattle.ledger_model.specs.Legal.{asked_in}
 use Rattle.ledger_model.specs.Run.{ran, run}
 use Rattle.ledger_model.proofs.SaidLemmas.{said_of_run}
-use Rattle.entry_laws.specs.Attempts.{SendsOwn}
+use Rattle.laws_history.specs.Attempts.{SendsOwn}
 use Rattle.txn_core.specs.Opened.{Opened}
 use Rattle.ledger_core.specs.Committing.{is_own, own_digest, tx_of}
 

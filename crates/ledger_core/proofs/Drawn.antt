@@ -1,7 +1,7 @@
 -- A transaction that was begun is open, and the others still are.
 use Rattle.std.proofs.Common.{◌≡◌, sym, subst}
 use Rattle.ql_types.specs.declared.Place.{Place}
-use Rattle.entry_laws.specs.Standings.{IsStanding}
+use Rattle.laws_history.specs.Standings.{IsStanding}
 use Rattle.txn_core.specs.Opened.{Opened}
 use Rattle.ledger_core.specs.Beginning.{begun_on, drawn}
 use Rattle.ledger_core.specs.Committing.{IsOpenOn}

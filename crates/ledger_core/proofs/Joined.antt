@@ -4,7 +4,7 @@ use Rattle.std.specs.Prelude.{option_map, IfSome, Some, Result, Ok, Err, OnErr}
 use Rattle.ledger_model.specs.declared.block.Block.{Block}
 use Rattle.ledger_model.specs.Journal.{line, journal_bytes}
 use Rattle.ledger_model.specs.State.{State, state, after}
-use Rattle.entry_laws.specs.Standings.{IsStanding}
+use Rattle.laws_history.specs.Standings.{IsStanding}
 use Rattle.ledger_core.specs.declared.keeping.SettleFault.{SettleFault}
 use Rattle.ledger_core.specs.declared.keeping.SettleFault.TheVariants as settle
 use Rattle.ledger_core.specs.Faults.{IsTriedWith}

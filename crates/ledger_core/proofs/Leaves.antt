@@ -3,12 +3,12 @@ use Rattle.std.proofs.Common.{◌≡◌, ◌∙◌, ◌-◌, List, [], ◌∷◌
 use Rattle.std.specs.Prelude.{slice_get}
 use Rattle.ql_types.specs.declared.Hash.TheVariants.{Empty, Full}
 use Rattle.ql_types.specs.declared.Hash32.{Hash32}
-use Rattle.hash_forms.specs.Tree.{root_of}
+use Rattle.hash_model.specs.Tree.{root_of}
 use Rattle.ledger_model.specs.declared.block.Block.{Block}
-use Rattle.proof_forms.specs.Chained.{Chained}
-use Rattle.proof_forms.specs.Issued.{block_hashes, IsDigest}
-use Rattle.proof_forms.proofs.Chains.{place_is, strand_is}
-use Rattle.proof_forms.proofs.Ends.{all_hashes}
+use Rattle.proof_model.specs.Chained.{Chained}
+use Rattle.proof_model.specs.Issued.{block_hashes, IsDigest}
+use Rattle.proof_model.proofs.Chains.{place_is, strand_is}
+use Rattle.proof_model.proofs.Ends.{all_hashes}
 
 pub no_blocks : (leaves : List Hash32) (blocks : List Block) → leaves ≡ block_hashes blocks → Empty ≡ root_of leaves → blocks ≡ []
 no_blocks leaves [] is e = refl

@@ -15,18 +15,18 @@ use Rattle.ledger_model.specs.Making.{IsMadeOf}
 use Rattle.ledger_model.specs.Run.{Begun, Progress, ran, run, run_from, start, step, then_run}
 use Rattle.ledger_model.specs.State.{State, state}
 use Rattle.ledger_model.specs.Whole.{place_fits}
-use Rattle.frame_laws.specs.RunIsOwn.{IsJournalOf}
-use Rattle.frame_laws.proofs.Journals.{undamaged_follow}
-use Rattle.frame_laws.proofs.Settling.{run_is_kept}
-use Rattle.made_blocks.specs.Before.{HasStrand, IsUnused, CanFollow}
-use Rattle.made_blocks.specs.Makes.{CanMake, IsWithinAll}
-use Rattle.made_blocks.proofs.Further.{few_made, still_unused}
-use Rattle.made_blocks.proofs.Undamaged.{made_is_undamaged}
-use Rattle.core_machine.proofs.Fronts.{front_strand, front_undamaged, front_unused, stands_in_none, strand_framed}
-use Rattle.entry_laws.specs.Standings.{Standing, IsStanding}
-use Rattle.entry_laws.specs.Records.{greatest, mask_of}
-use Rattle.entry_laws.proofs.Histories.{strand_more}
-use Rattle.entry_laws.proofs.Numbers.{greatest-append, transaction_of_id}
+use Rattle.laws_footprint.specs.RunIsOwn.{IsJournalOf}
+use Rattle.laws_footprint.proofs.Journals.{undamaged_follow}
+use Rattle.laws_footprint.proofs.Settling.{run_is_kept}
+use Rattle.laws_validity.specs.Before.{HasStrand, IsUnused, CanFollow}
+use Rattle.laws_validity.specs.Makes.{CanMake, IsWithinAll}
+use Rattle.laws_validity.proofs.Further.{few_made, still_unused}
+use Rattle.laws_validity.proofs.Undamaged.{made_is_undamaged}
+use Rattle.laws_machine.proofs.Fronts.{front_strand, front_undamaged, front_unused, stands_in_none, strand_framed}
+use Rattle.laws_history.specs.Standings.{Standing, IsStanding}
+use Rattle.laws_history.specs.Records.{greatest, mask_of}
+use Rattle.laws_history.proofs.Histories.{strand_more}
+use Rattle.laws_history.proofs.Numbers.{greatest-append, transaction_of_id}
 use Rattle.txn_core.specs.Opened.{Executed, Opened, Steps}
 use Rattle.ledger_core.specs.NextBlock.{HasRoom, next_block}
 use Rattle.ledger_core.specs.Beginning.{begun_on, drawn}

@@ -11,8 +11,8 @@ use Rattle.ledger_model.specs.State.{State, state, state_from, after}
 use Rattle.ledger_model.specs.Damages.{damage_behind, has_address, has_id, has_time, has_previous, has_hashes, strand_of, UndamagedBehind, Undamaged}
 use Rattle.ledger_model.specs.Follows.{follows}
 use Rattle.ledger_model.specs.Recovered.{IsJournal}
-use Rattle.entry_laws.specs.Standings.{IsStanding}
-use Rattle.entry_laws.specs.Records.{greatest, mask_of}
+use Rattle.laws_history.specs.Standings.{IsStanding}
+use Rattle.laws_history.specs.Records.{greatest, mask_of}
 
 -- ---- numbers
 

@@ -22,10 +22,10 @@ use Rattle.ledger_model.specs.Legal.{asked_in}
 use Rattle.ledger_model.specs.Making.{block_of}
 use Rattle.ledger_model.specs.Run.{Progress, Ran, ran, refused, step}
 use Rattle.ledger_model.specs.State.{state}
-use Rattle.frame_laws.specs.Touches.{conflict}
-use Rattle.core_machine.specs.Machine.{Commit, Ending, Machine, Service, Step, Transaction, asked_more, begin, begun, closes, commit, commits, conflicts, differs, draws, ended, ending, ends, ends_by, execute, executes, executes_on, fails, full, happens, if_open, last_rows, named, no_memory, refuses, replaced, rows, seals, served, spent, store_failed, told, unless_conflict, unless_differs, unless_full, without}
-use Rattle.core_machine.specs.Machine as machine
-use Rattle.entry_laws.specs.Standings.{Standing}
+use Rattle.laws_footprint.specs.Touches.{conflict}
+use Rattle.laws_machine.specs.Machine.{Commit, Ending, Machine, Service, Step, Transaction, asked_more, begin, begun, closes, commit, commits, conflicts, differs, draws, ended, ending, ends, ends_by, execute, executes, executes_on, fails, full, happens, if_open, last_rows, named, no_memory, refuses, replaced, rows, seals, served, spent, store_failed, told, unless_conflict, unless_differs, unless_full, without}
+use Rattle.laws_machine.specs.Machine as machine
+use Rattle.laws_history.specs.Standings.{Standing}
 use Rattle.txn_core.specs.Opened.{Executed, Opened}
 use Rattle.ledger_core.specs.declared.appending.Receipt.{Receipt}
 use Rattle.ledger_core.specs.declared.commit.CommitFault.{CommitFault}

@@ -3,7 +3,7 @@ use Rattle.std.specs.Prelude.{◌≡◌, ◌+◌, ◌-◌, ◌^◌, ◌<◌, fal
 use Rattle.ql_types.specs.declared.Place.{Place}
 use Rattle.ledger_model.specs.Run.{start}
 use Rattle.ledger_model.specs.State.{state}
-use Rattle.entry_laws.specs.Standings.{Standing, next}
+use Rattle.laws_history.specs.Standings.{Standing, next}
 use Rattle.txn_core.specs.Opened.{Opened}
 use Rattle.ledger_core.specs.declared.begin.BeginFault.{BeginFault}
 use Rattle.ledger_core.specs.declared.begin.BeginFault.TheVariants.{IdsSpent, OutOfMemory}

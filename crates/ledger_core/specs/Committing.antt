@@ -7,7 +7,7 @@ use Rattle.ion_values.specs.declared.time.TimeParts.{TimeParts}
 use Rattle.ql_types.specs.Ids.{raw_id}
 use Rattle.ql_types.specs.declared.Hash32.{Hash32}
 use Rattle.ql_types.specs.declared.TxId.{TxId}
-use Rattle.made_blocks.specs.Before.{IsUnused}
+use Rattle.laws_validity.specs.Before.{IsUnused}
 use Rattle.ledger_model.specs.declared.block.Block.{Block}
 use Rattle.ledger_model.specs.declared.block.Said.{Said}
 use Rattle.ledger_model.specs.declared.outcome.Named.{Named}
@@ -17,8 +17,8 @@ use Rattle.ledger_model.specs.Damages.{Undamaged, same_hash}
 use Rattle.ledger_model.specs.Making.{IsMadeOf}
 use Rattle.ledger_model.specs.Run.{ran, run}
 use Rattle.ledger_model.specs.State.{state}
-use Rattle.frame_laws.specs.Touches.{conflict}
-use Rattle.entry_laws.specs.Standings.{Standing}
+use Rattle.laws_footprint.specs.Touches.{conflict}
+use Rattle.laws_history.specs.Standings.{Standing}
 use Rattle.txn_core.specs.Opened.{Opened}
 use Rattle.ledger_core.specs.declared.appending.Receipt.{Receipt}
 use Rattle.ledger_core.specs.declared.commit.CommitFault.{CommitFault}

@@ -2,8 +2,8 @@
 use Rattle.std.specs.Prelude.{◌≡◌, ℕ, length}
 use Rattle.ledger_model.specs.Journal.{journal_bytes}
 use Rattle.ledger_model.specs.State.{state}
-use Rattle.entry_laws.specs.Standings.{Standing, IsStanding}
-use Rattle.entry_laws.specs.Records.{greatest, mask_of}
+use Rattle.laws_history.specs.Standings.{Standing, IsStanding}
+use Rattle.laws_history.specs.Records.{greatest, mask_of}
 use Rattle.ledger_core.specs.declared.reload.Loaded.{Loaded}
 
 abbrev pub standing_of : Loaded → Standing

@@ -12,8 +12,8 @@ use Rattle.ledger_model.specs.declared.script.Request.{Request}
 use Rattle.ledger_model.specs.Legal.{asked_in}
 use Rattle.ledger_model.specs.Run.{Ran, ran, refused}
 use Rattle.ledger_model.specs.State.{state}
-use Rattle.core_machine.specs.Machine.{Answer, Commit, Machine, Transaction, begin, begun, commit, conflicts, differs, ended, ends, execute, fails, full, happens, named, refuses, rows, seals, spent}
-use Rattle.entry_laws.specs.Standings.{Standing}
+use Rattle.laws_machine.specs.Machine.{Answer, Commit, Machine, Transaction, begin, begun, commit, conflicts, differs, ended, ends, execute, fails, full, happens, named, refuses, rows, seals, spent}
+use Rattle.laws_history.specs.Standings.{Standing}
 use Rattle.txn_core.specs.Opened.{Executed, Opened}
 use Rattle.ledger_core.specs.declared.appending.Receipt.{Receipt}
 use Rattle.ledger_core.specs.declared.begin.BeginFault.TheVariants as begins

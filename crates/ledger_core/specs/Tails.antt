@@ -5,8 +5,8 @@ use Rattle.std.specs.Coded.{Coded, code_by, coded×, coded_ℕ, coded_bool, code
 use Rattle.ledger_model.specs.declared.block.Block.{Block}
 use Rattle.ledger_model.specs.contracts.block.Block as block
 use Rattle.ledger_model.specs.Journal.{line, journal_bytes}
-use Rattle.entry_laws.specs.Standings.{Standing, IsStanding}
-use Rattle.entry_laws.specs.Stores.{HoldsBehind}
+use Rattle.laws_history.specs.Standings.{Standing, IsStanding}
+use Rattle.laws_history.specs.Stores.{HoldsBehind}
 
 -- the store and the clock, what the ledger stands for between two transactions, and whether the store is to be cut to the
 -- lines of the blocks before it takes another one

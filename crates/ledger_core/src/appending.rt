@@ -1,8 +1,8 @@
 //! Putting a transaction's block behind the others.
 ghost use Rattle.std.specs.Prelude.{◌≡◌, ◌≤◌, ◌⊎◌, true, IfOk, OnOk, OnErr, IfErr, IsTrue, option_map};
 ghost use Rattle.ledger_model.specs.Whole.{place_fits};
-ghost use Rattle.entry_laws.specs.Standings.{IsStanding};
-ghost use Rattle.entry_laws.specs.Stores.{Holding, IsSynced};
+ghost use Rattle.laws_history.specs.Standings.{IsStanding};
+ghost use Rattle.laws_history.specs.Stores.{Holding, IsSynced};
 ghost use Rattle.outside.specs.Told.{held};
 ghost use Rattle.ledger_core.specs.Faults.{IsSettleFault, IsTriedWith};
 ghost use Rattle.ledger_core.specs.Tails.{Leaves, MayHoldPart, joined};

@@ -1,13 +1,13 @@
 //! The blocks of a journal, and the tree over their hashes that grows with them.
 ghost use Rattle.std.specs.Prelude.{◌≡◌, ◌-◌, ◌<◌, ◌≤◌, ◌^◌, ◌∷◌, ◌++◌, [], length, IfOk, OnOk, MatchOption};
-ghost use Rattle.proof_forms.specs.Chained.{Chained};
-ghost use Rattle.proof_forms.specs.Issued.{block_hashes, IsDigest};
+ghost use Rattle.proof_model.specs.Chained.{Chained};
+ghost use Rattle.proof_model.specs.Issued.{block_hashes, IsDigest};
 
+use containers::Sequence;
 use ion_values::OutOfMemory;
 use ledger_model::{Block, Blocks};
-use lists::Sequence;
 use pad_tree::{Grow, Hashes};
-use proof_forms::Digest;
+use proof_model::Digest;
 use ql_types::{Hash, Steps};
 use std::alloc::Global;
 use std::marker::Model;
@@ -25,7 +25,7 @@ impl Model for Chain {
     ghost use Rattle.std.specs.Coded.{codes};
     ghost use Rattle.ledger_model.specs.Rooms.{Kept};
     ghost use Rattle.ledger_model.specs.contracts.block.Block as block;
-    ghost use Rattle.proof_forms.specs.Issued.{block_hashes};
+    ghost use Rattle.proof_model.specs.Issued.{block_hashes};
 
     ghost Value = { Kept };
 

@@ -1,8 +1,8 @@
 //! The commit of an open transaction.
 ghost use Rattle.std.specs.Prelude.{◌≡◌, ◌≤◌, ◌⊎◌, true, false, length, Some, None, IfOk, IfErr, OnOk, OnErr, option_map};
 ghost use Rattle.ion_values.specs.declared.time.TimeParts.{TimeParts};
-ghost use Rattle.entry_laws.specs.Standings.{IsStanding};
-ghost use Rattle.entry_laws.specs.Stores.{Holding, IsSynced};
+ghost use Rattle.laws_history.specs.Standings.{IsStanding};
+ghost use Rattle.laws_history.specs.Stores.{Holding, IsSynced};
 ghost use Rattle.outside.specs.Told.{held};
 ghost use Rattle.txn_core.specs.Opened.{Opened};
 ghost use Rattle.ledger_core.specs.Committing.{Checked, CommitEnds, IsAnswer, IsCommitFault, IsFound, IsOpenOn};

@@ -2,7 +2,7 @@
 ghost use Rattle.std.specs.Prelude.{◌≡◌, ◌≤◌, ◌+◌, ◌++◌, ◌⊎◌, ℕ, true, false, take, length, option_map, IsOk, IfOk, OnOk, OnErr, IfErr, IsErrOf};
 ghost use Rattle.outside.specs.Causes.{HasCause};
 ghost use Rattle.outside.specs.Told.{held};
-ghost use Rattle.entry_laws.specs.Stores.{IsSynced};
+ghost use Rattle.laws_history.specs.Stores.{IsSynced};
 ghost use Rattle.ledger_core.specs.Tails.{MayBeCut, HoldsPart, cleared};
 ghost use Rattle.ledger_core.specs.Faults.{IsSettleFault, told};
 

@@ -16,11 +16,11 @@ mod tail;
 pub use appending::Receipt;
 pub use begin::BeginFault;
 pub use commit::{CommitFault, Uncommitted};
-pub use core_machine::{commits_stand_once, conflict_comes_exactly, history_stays_legal};
 pub use keeping::SettleFault;
 pub use laws::{
     begins_are_steps, commits_are_steps, spent_numbers_are_steps, statements_are_steps,
 };
+pub use laws_machine::{commits_stand_once, conflict_comes_exactly, history_stays_legal};
 pub use outcomes::outcome_of;
 pub use reload::{LoadCause, LoadFault};
 pub use tail::Tail;

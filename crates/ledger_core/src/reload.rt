@@ -4,8 +4,8 @@ ghost use Rattle.ql_types.specs.Ids.{transaction_in};
 ghost use Rattle.outside.specs.Store.{ReadsAt};
 ghost use Rattle.outside.specs.Told.{held};
 ghost use Rattle.journal_text.specs.Feeding.{taken};
-ghost use Rattle.entry_laws.specs.Standings.{IsStanding};
-ghost use Rattle.entry_laws.specs.Records.{greatest, mask_of};
+ghost use Rattle.laws_history.specs.Standings.{IsStanding};
+ghost use Rattle.laws_history.specs.Records.{greatest, mask_of};
 ghost use Rattle.ledger_core.specs.Loads.{IsRead, IsLoaded, IsCause, cause_told};
 ghost use Rattle.ledger_core.specs.Known.{IsKnown, standing_of};
 

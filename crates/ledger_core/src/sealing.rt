@@ -7,12 +7,12 @@ ghost use Rattle.ledger_model.specs.Making.{revision_of, time_behind};
 ghost use Rattle.ledger_core.specs.NextBlock.{next_block};
 
 use block_form::{seal_revision, seal_with_value, strand_hash};
+use containers::Sequence;
 use ion_values::{IonTime, OutOfMemory, Text, Value, Values};
 use journal_text::line_of_value;
 use ledger_model::{
     Block, Draft, Drafts, Header, Info, Metadata, Revision, Revisions, TableIds, Told,
 };
-use lists::Sequence;
 use ql_types::{BlockAddress, Hash32, IdMask, StrandId, TxId, id_raw};
 use std::alloc::Global;
 use txn_core::{Finished, Txn};

@@ -1,7 +1,7 @@
 //! Cutting away what stands behind the journal.
 ghost use Rattle.std.specs.Prelude.{◌≡◌, ◌≤◌, true, false, length, IsOk, OnOk, OnErr, IfErr};
 ghost use Rattle.ledger_model.specs.Journal.{journal_bytes};
-ghost use Rattle.entry_laws.specs.Stores.{Holding, IsSynced};
+ghost use Rattle.laws_history.specs.Stores.{Holding, IsSynced};
 ghost use Rattle.outside.specs.Told.{held};
 ghost use Rattle.ledger_core.specs.Faults.{IsSettleFault};
 ghost use Rattle.ledger_core.specs.Tails.{MayBeCut};

@@ -2,10 +2,10 @@
 ghost use Rattle.std.specs.Prelude.{◌≡◌, ◌-◌, [], length, IfOk, OnErr, OnOk, IfErr, MatchOption, ◌<◌, ◌^◌, ◌≤◌, ◌⊎◌, true, false, option_map};
 ghost use Rattle.ledger_model.specs.Journal.{line};
 ghost use Rattle.ledger_model.specs.State.{state};
-ghost use Rattle.entry_laws.specs.Standings.{IsStanding};
-ghost use Rattle.entry_laws.specs.Stores.{Holding, IsSynced};
+ghost use Rattle.laws_history.specs.Standings.{IsStanding};
+ghost use Rattle.laws_history.specs.Stores.{Holding, IsSynced};
 ghost use Rattle.outside.specs.Told.{held};
-ghost use Rattle.proof_forms.specs.Issued.{block_hashes, IsDigest};
+ghost use Rattle.proof_model.specs.Issued.{block_hashes, IsDigest};
 ghost use Rattle.ledger_core.specs.Faults.{IsSettleFault, IsTriedWith};
 ghost use Rattle.ledger_core.specs.Tails.{Leaves, MayHoldPart, joined};
 
@@ -16,7 +16,7 @@ use ion_values::{OutOfMemory, Text};
 use ledger_model::{Block, Blocks};
 use outside::JournalStore;
 use pad_tree::Grow;
-use proof_forms::{Digest, undamaged_is_chained};
+use proof_model::{Digest, undamaged_is_chained};
 use ql_types::IdMask;
 use std::alloc::Global;
 use std::marker::Model;

@@ -2,7 +2,7 @@
 use Rattle.std.proofs.Common.{◌≡◌, ◌++◌, codes, rules}
 use Rattle.std.specs.Fmt.{digits}
 use Rattle.ion_values.specs.declared.value.Body.TheFolds.{the_lemmas}
-use Rattle.ion_forms.specs.Write.{value_text}
+use Rattle.ion_model.specs.Write.{value_text}
 use Rattle.ql_types.specs.Ids.{digits_of}
 use Rattle.ledger_model.specs.declared.block.Schema.TheVariants.{Redact}
 use Rattle.ledger_model.specs.Journal.{schema_value}

@@ -3,7 +3,7 @@
 use Rattle.std.specs.Prelude.{ℕ, List, ◌++◌, codes}
 use Rattle.std.specs.Fmt.{decimal}
 use Rattle.ion_values.specs.declared.value.Kind.{Kind}
-use Rattle.ion_forms.specs.Write.{string_text}
+use Rattle.ion_model.specs.Write.{string_text}
 use Rattle.pql_model.specs.declared.ParseKind.{ParseKind}
 use Rattle.ledger_model.specs.declared.outcome.Refusal.{Refusal}
 use Rattle.ledger_model.specs.declared.outcome.Refusal.TheVariants as refusal

@@ -1,8 +1,8 @@
 -- The digest that a commit sends of its transaction (Amazon QLDB API reference, "CommitTransactionRequest"). Hashes of
 -- values are those of Ion Hash, and those of two hashes are as in "Data verification in Amazon QLDB".
 use Rattle.std.specs.Prelude.{ℕ, List, fold}
-use Rattle.hash_forms.specs.Serialize.{hash_of}
-use Rattle.hash_forms.specs.PairHash.{dot32}
+use Rattle.hash_model.specs.Serialize.{hash_of}
+use Rattle.hash_model.specs.PairHash.{dot32}
 use Rattle.ion_values.specs.declared.value.Value.{Value}
 use Rattle.ql_types.specs.declared.Hash32.{Hash32}
 use Rattle.ql_types.specs.declared.TxId.{TxId}

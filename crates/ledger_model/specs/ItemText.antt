@@ -3,7 +3,7 @@ use Rattle.std.specs.Prelude.{ℕ, List, ◌∷◌, ◌++◌, [], codes, ℤ}
 use Rattle.std.specs.Fmt.{signed_decimal}
 use Rattle.ion_values.specs.declared.value.Key.{Key}
 use Rattle.ion_values.specs.declared.value.Key.TheVariants as key
-use Rattle.ion_forms.specs.Write.{bool_text, string_text, clob_text, blob_text}
+use Rattle.ion_model.specs.Write.{bool_text, string_text, clob_text, blob_text}
 use Rattle.ql_types.specs.Ids.{id_text}
 use Rattle.ql_types.specs.declared.DocId.{DocId}
 use Rattle.ql_types.specs.declared.TableId.{TableId}

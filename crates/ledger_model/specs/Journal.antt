@@ -5,7 +5,7 @@ use Rattle.ion_values.specs.declared.value.Value.{Value}
 use Rattle.ion_values.specs.declared.value.Field.{Field}
 use Rattle.ion_values.specs.declared.value.Body.TheVariants as body
 use Rattle.ion_values.specs.declared.time.TimeParts.{TimeParts}
-use Rattle.ion_forms.specs.Write.{value_text}
+use Rattle.ion_model.specs.Write.{value_text}
 use Rattle.ql_types.specs.Ids.{id_text}
 use Rattle.ql_types.specs.declared.Hash32.{Hash32}
 use Rattle.ql_types.specs.declared.Hash.{Hash}

@@ -6,7 +6,7 @@ use Rattle.jiff_core.specs.Calendar.{days_from_civil}
 use Rattle.ion_values.specs.declared.time.TimeParts.{TimeParts}
 use Rattle.ion_values.specs.declared.time.Precision.TheVariants as precision
 use Rattle.ion_values.specs.Time.{is_in_years}
-use Rattle.ion_forms.specs.Timestamp.{timestamp_text}
+use Rattle.ion_model.specs.Timestamp.{timestamp_text}
 
 -- the last of so many, counted from 1, that has begun on the day
 abbrev pub last_begun : (ℕ → ℤ) → ℤ → ℕ → ℕ

@@ -2,7 +2,7 @@
 use Rattle.std.specs.Prelude.{ℕ, List, [], ◌∷◌, ◌++◌, map, codes, slice_get, Option, Some, None}
 use Rattle.std.specs.List.{flat_map}
 use Rattle.std.specs.Fmt.{decimal}
-use Rattle.ion_forms.specs.Write.{value_text, joined, blob_text}
+use Rattle.ion_model.specs.Write.{value_text, joined, blob_text}
 use Rattle.ql_types.specs.declared.Hash32.{Hash32}
 use Rattle.ql_types.specs.declared.TxId.{TxId}
 use Rattle.ledger_model.specs.declared.block.Said.{Said}

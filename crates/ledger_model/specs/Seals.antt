@@ -1,9 +1,9 @@
 -- The hashes of revisions and blocks. A hash of two hashes is that of the pair (FIPS 180-4 for SHA-256, Ion Hash for
 -- values).
 use Rattle.std.specs.Prelude.{◌≡◌, ℕ, List, [], ◌∷◌, map}
-use Rattle.hash_forms.specs.Serialize.{hash_of}
-use Rattle.hash_forms.specs.PairHash.{dot32}
-use Rattle.hash_forms.specs.Tree.{root_of}
+use Rattle.hash_model.specs.Serialize.{hash_of}
+use Rattle.hash_model.specs.PairHash.{dot32}
+use Rattle.hash_model.specs.Tree.{root_of}
 use Rattle.ql_types.specs.declared.Hash32.{Hash32}
 use Rattle.ql_types.specs.declared.Hash.{Hash}
 use Rattle.ql_types.specs.declared.Hash.TheVariants.{Empty, Full}

@@ -2,7 +2,7 @@
 -- (PartiQL).
 use Rattle.std.specs.Prelude.{ℕ, ◌==◌, ◌-◌, ◌^◌, min, Bool, List, length, codes, Option, Some, None, Result, Ok, Err, if◌then◌else◌}
 use Rattle.ion_values.specs.declared.value.Value.{Value}
-use Rattle.ion_grammar.specs.Blanks.{begins}
+use Rattle.ion_model.specs.Blanks.{begins}
 use Rattle.pql_model.specs.declared.statement.SourceKind.{SourceKind}
 use Rattle.pql_model.specs.declared.statement.SourceKind.TheVariants as source
 use Rattle.pql_model.specs.declared.statement.Statement.{Statement}

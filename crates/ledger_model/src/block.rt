@@ -1,5 +1,5 @@
+use containers::{Sequence, Text};
 use ion_values::{IonTime, Value, Values};
-use lists::{Sequence, Text};
 use pql_model::Answer;
 use ql_types::{BlockAddress, DocId, Hash, Hash32, Place, TableId, TxId};
 

@@ -1,5 +1,5 @@
+use containers::{Sequence, Text};
 use ion_values::{Key, Kind};
-use lists::{Sequence, Text};
 use pql_model::ParseKind;
 use ql_types::{DocId, Hash32, Place, TableId, TxId};
 

@@ -1,5 +1,5 @@
+use containers::{Sequence, Text};
 use ion_values::Values;
-use lists::{Sequence, Text};
 use ql_types::Hash32;
 
 /// A statement's text and the values of its parameters, in the order of their question marks.

@@ -4,7 +4,7 @@ use mathlib.Core.List.{IsPrefix}
 use Rattle.ql_types.specs.Ids.{raw_id}
 use Rattle.ql_types.specs.declared.Place.{Place}
 use Rattle.ql_types.specs.declared.TxId.{TxId}
-use Rattle.frame_laws.specs.Touches.{conflict}
+use Rattle.laws_footprint.specs.Touches.{conflict}
 use Rattle.ledger_model.specs.Making.{IsMadeOf}
 use Rattle.ledger_model.specs.declared.block.Block.{Block}
 use Rattle.ledger_model.specs.declared.outcome.Refusal.{Refusal}
@@ -14,10 +14,10 @@ use Rattle.ledger_model.specs.State.{state}
 use Rattle.turn_lock.specs.declared.view.Known.{Known}
 use Rattle.turn_lock.specs.History.{Stands, placed}
 use Rattle.turn_lock.proofs.Lists.{prefix_self}
-use Rattle.core_machine.specs.Entries.{Entry, Opening, begun_at, failed, sealed, wanted}
-use Rattle.entry_laws.specs.Attempts.{Adds, Attempted, Begins, Comes, Commits, Fails, GivesUp, Readies, Refuses, Sees, Wants, WantsBehind, begun_as}
-use Rattle.entry_laws.specs.Seen.{blocks_in}
-use Rattle.entry_laws.specs.Steps.{knows_behind}
+use Rattle.laws_machine.specs.Entries.{Entry, Opening, begun_at, failed, sealed, wanted}
+use Rattle.laws_history.specs.Attempts.{Adds, Attempted, Begins, Comes, Commits, Fails, GivesUp, Readies, Refuses, Sees, Wants, WantsBehind, begun_as}
+use Rattle.laws_history.specs.Seen.{blocks_in}
+use Rattle.laws_history.specs.Steps.{knows_behind}
 use Rattle.txn_core.specs.Opened.{Opened}
 use Rattle.ledger_core.specs.Committing.{tx_of}
 use Rattle.ledger_core.proofs.Digests.{hash_differs, own_is, sends_own}

@@ -1,11 +1,11 @@
 -- The tail behind one entry more.
 use Rattle.std.proofs.Common.{◌≡◌, ℕ, ◌≤◌, ◌<◌, List, [], ◌∷◌, ◌++◌, refl, sym, ap, ◌∙◌, subst, arith, length, take}
-use Rattle.entry_laws.specs.Standings.{Standing}
-use Rattle.core_machine.specs.Entries.{Entry, MayCome, Opening, Reach, comes, reach_at}
-use Rattle.core_machine.proofs.Entries.{run_joined}
-use Rattle.entry_laws.specs.Seen.{blocks_in, reach}
-use Rattle.entry_laws.proofs.Reaches.{comes_behind, reached_mask}
-use Rattle.made_blocks.specs.Before.{IsUnused}
+use Rattle.laws_history.specs.Standings.{Standing}
+use Rattle.laws_machine.specs.Entries.{Entry, MayCome, Opening, Reach, comes, reach_at}
+use Rattle.laws_machine.proofs.Entries.{run_joined}
+use Rattle.laws_history.specs.Seen.{blocks_in, reach}
+use Rattle.laws_history.proofs.Reaches.{comes_behind, reached_mask}
+use Rattle.laws_validity.specs.Before.{IsUnused}
 use Rattle.ledger_model.specs.State.{state}
 use Rattle.txn_core.specs.Opened.{Opened}
 use Rattle.ledger_core.specs.Committing.{IsOpenOn}

@@ -10,8 +10,8 @@ use Rattle.ql_types.proofs.TableId.TheSendSync as table
 use Rattle.ql_types.proofs.Hash.TheSendSync as hash
 use Rattle.ql_types.proofs.Hash32.TheSendSync as hash32
 use Rattle.ql_types.proofs.Place.TheSendSync as place
-use Rattle.lists.proofs.text.Text.TheSendSync as text
-use Rattle.lists.proofs.sequence.Sequence.TheSendSync as sequence
+use Rattle.containers.proofs.text.Text.TheSendSync as text
+use Rattle.containers.proofs.sequence.Sequence.TheSendSync as sequence
 use Rattle.ledger_model.proofs.block.Header.TheSendSync as header
 use Rattle.ledger_model.proofs.block.Metadata.TheSendSync as metadata
 use Rattle.ledger_model.proofs.block.Schema.TheSendSync as schema

@@ -5,7 +5,7 @@ use Rattle.ledger_model.specs.declared.outcome.Outcome.{Outcome}
 use Rattle.ledger_model.specs.declared.script.Job.{Job}
 use Rattle.outside.specs.Told.{StoreTold}
 use Rattle.session_driver.specs.Retries.{Conflicted, Retried}
-use Rattle.entry_laws.specs.Attempts.{Attempted}
+use Rattle.laws_history.specs.Attempts.{Attempted}
 use Rattle.ledger_core.specs.Tails.{TailHeld}
 use Rattle.ledger_shared.specs.Behind.{opening_of}
 use Rattle.ledger_shared.specs.Workers.{Tries, WorkerHeld}

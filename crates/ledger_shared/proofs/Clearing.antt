@@ -7,7 +7,7 @@ use Rattle.turn_lock.specs.declared.view.Known.{Known}
 use Rattle.turn_lock.specs.History.{AreWhole, newborn}
 use Rattle.turn_lock.specs.Rule.{Each}
 use Rattle.turn_lock.proofs.Lists.{each-append, each_front, each_last}
-use Rattle.core_machine.specs.Entries.{Entry}
+use Rattle.laws_machine.specs.Entries.{Entry}
 use Rattle.ledger_core.specs.Tails.{TailHeld}
 use Rattle.ledger_shared.specs.declared.workers.Desk.{Desk}
 use Rattle.ledger_shared.specs.Crew.{IsAt, knowns}

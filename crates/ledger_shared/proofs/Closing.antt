@@ -1,7 +1,7 @@
 -- What is left when the ledger is closed.
 use Rattle.std.proofs.Common.{◌≡◌, ◌∙◌, ℤ, List, Option, sym, ap, subst}
 use Rattle.outside.specs.Told.{StoreTold}
-use Rattle.core_machine.specs.Entries.{Entry}
+use Rattle.laws_machine.specs.Entries.{Entry}
 use Rattle.ledger_core.specs.Tails.{TailHeld}
 use Rattle.ledger_shared.specs.declared.entry.Entry as kept
 use Rattle.ledger_shared.specs.Behind.{Keeps, SharedHeld}

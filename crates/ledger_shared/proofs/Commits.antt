@@ -5,13 +5,13 @@ use Rattle.ql_types.specs.declared.Hash32.{Hash32}
 use Rattle.ledger_model.specs.declared.block.Block.{Block}
 use Rattle.ledger_model.specs.declared.script.Request.{Request}
 use Rattle.ledger_model.specs.Making.{IsMadeOf}
-use Rattle.frame_laws.specs.Touches.{conflict}
-use Rattle.entry_laws.specs.Standings.{Standing}
+use Rattle.laws_footprint.specs.Touches.{conflict}
+use Rattle.laws_history.specs.Standings.{Standing}
 use Rattle.outside.specs.Told.{StoreTold}
-use Rattle.core_machine.specs.Entries.{Entry, MayMake, Opening, failed, reach_at, sealed, wanted}
-use Rattle.entry_laws.specs.Attempts.{begun_as}
-use Rattle.entry_laws.specs.Seen.{blocks_in, reach}
-use Rattle.entry_laws.proofs.Reaches.{reached_mask}
+use Rattle.laws_machine.specs.Entries.{Entry, MayMake, Opening, failed, reach_at, sealed, wanted}
+use Rattle.laws_history.specs.Attempts.{begun_as}
+use Rattle.laws_history.specs.Seen.{blocks_in, reach}
+use Rattle.laws_history.proofs.Reaches.{reached_mask}
 use Rattle.txn_core.specs.Opened.{Opened}
 use Rattle.ledger_core.specs.declared.appending.Receipt.{Receipt}
 use Rattle.ledger_core.specs.declared.commit.CommitFault.{CommitFault}

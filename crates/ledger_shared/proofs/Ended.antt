@@ -12,9 +12,9 @@ use Rattle.ledger_model.specs.Script.{Placed, all_placed}
 use Rattle.turn_lock.specs.declared.view.Known.{Known}
 use Rattle.turn_lock.specs.Rule.{Each}
 use Rattle.turn_lock.proofs.Lists.{each_of_all}
-use Rattle.core_machine.specs.Entries.{Entry, Opening}
-use Rattle.entry_laws.specs.Passes.{place_of}
-use Rattle.entry_laws.specs.Runs.{Served, Works, dealt, told_of}
+use Rattle.laws_machine.specs.Entries.{Entry, Opening}
+use Rattle.laws_history.specs.Passes.{place_of}
+use Rattle.laws_history.specs.Runs.{Served, Works, dealt, told_of}
 use Rattle.ledger_core.specs.Tails.{TailHeld}
 use Rattle.ledger_shared.specs.declared.workers.Desk.{Desk}
 use Rattle.ledger_shared.specs.Behind.{opening_of}

@@ -6,10 +6,10 @@ use Rattle.ql_types.specs.declared.Place.{Place}
 use Rattle.ql_types.specs.declared.TxId.{TxId}
 use Rattle.ledger_model.specs.declared.block.Block.{Block}
 use Rattle.ledger_model.specs.State.{state}
-use Rattle.entry_laws.specs.Standings.{Standing}
-use Rattle.core_machine.specs.Entries.{Entry, Opening, begun_at, reach_at, sealed}
-use Rattle.entry_laws.specs.Seen.{reach}
-use Rattle.entry_laws.proofs.Reaches.{reached_mask}
+use Rattle.laws_history.specs.Standings.{Standing}
+use Rattle.laws_machine.specs.Entries.{Entry, Opening, begun_at, reach_at, sealed}
+use Rattle.laws_history.specs.Seen.{reach}
+use Rattle.laws_history.proofs.Reaches.{reached_mask}
 use Rattle.txn_core.specs.Opened.{Opened}
 use Rattle.ledger_core.specs.Beginning.{begun_on, drawn}
 use Rattle.ledger_core.specs.declared.commit.CommitFault.{CommitFault}

@@ -8,7 +8,7 @@ use Rattle.std.proofs.lemmas.List.{get_or-set_other, get_or-set_same, length-rev
 use Rattle.ledger_model.specs.declared.outcome.PlacedOutcome.{PlacedOutcome}
 use Rattle.ledger_model.specs.declared.script.Job.{Job}
 use Rattle.ledger_model.specs.Script.{all_placed, placed_from}
-use Rattle.entry_laws.specs.Passes.{place_of}
+use Rattle.laws_history.specs.Passes.{place_of}
 use Rattle.ledger_shared.specs.declared.workers.Desk.{Desk}
 use Rattle.ledger_shared.specs.Crew.{AreDealt, dealt_outcomes}
 use Rattle.ledger_shared.specs.Sessions.{job_count}

@@ -7,9 +7,9 @@ use Rattle.ledger_model.specs.declared.outcome.Outcome.TheVariants.{Aborted, Com
 use Rattle.ledger_model.specs.declared.script.Job.{Job}
 use Rattle.session_driver.specs.Retries.{Conflicted, Retried}
 use Rattle.turn_lock.specs.declared.view.Known.{Known}
-use Rattle.core_machine.specs.Entries.{Entry, Opening}
-use Rattle.entry_laws.specs.Attempts.{Adds, Attempted, Begins, Sees, Wants, WantsBehind}
-use Rattle.entry_laws.specs.Runs.{Served, Works}
+use Rattle.laws_machine.specs.Entries.{Entry, Opening}
+use Rattle.laws_history.specs.Attempts.{Adds, Attempted, Begins, Sees, Wants, WantsBehind}
+use Rattle.laws_history.specs.Runs.{Served, Works}
 
 pub record IsOfOne (k now : Known Entry) : Type 0 where
   pub name : now.name ≡ k.name

@@ -5,11 +5,11 @@ use Rattle.std.specs.List.{AllByRecursion}
 use Rattle.ql_types.specs.Ids.{raw_id, transaction_in}
 use Rattle.ql_types.specs.declared.Place.{Place}
 use Rattle.ledger_model.specs.declared.block.Block.{Block}
-use Rattle.entry_laws.specs.Records.{greatest}
-use Rattle.made_blocks.specs.Before.{IsUnused}
+use Rattle.laws_history.specs.Records.{greatest}
+use Rattle.laws_validity.specs.Before.{IsUnused}
 use Rattle.ql_types.proofs.Masks.{unmasked}
-use Rattle.core_machine.specs.Entries.{Entry, IsAmong, IsRunFrom, MayCome, MayMake, Reach, Unused, begun_at, comes, failed, reached, sealed, used, wanted}
-use Rattle.entry_laws.proofs.Reaches.{lasts_on, reached_mask}
+use Rattle.laws_machine.specs.Entries.{Entry, IsAmong, IsRunFrom, MayCome, MayMake, Reach, Unused, begun_at, comes, failed, reached, sealed, used, wanted}
+use Rattle.laws_history.proofs.Reaches.{lasts_on, reached_mask}
 use Rattle.ledger_shared.specs.Told.{opened_by, used_by}
 
 -- the number stands in the id

@@ -2,7 +2,7 @@
 use Rattle.std.proofs.Common.{◌≡◌, ◌∙◌, ℕ, ◌<◌, ◌%◌, ◌==◌, Bool, true, false, cond, List, [], ◌∷◌, map, refl, sym, ap, mod-lt}
 use Rattle.std.proofs.lemmas.Bool.{eqb-false, eqb-true}
 use Rattle.ledger_model.specs.Script.{Placed}
-use Rattle.entry_laws.specs.Runs.{Served, dealt}
+use Rattle.laws_history.specs.Runs.{Served, dealt}
 use Rattle.ledger_shared.specs.Sessions.{dealt_jobs}
 
 abbrev pub placed_in : List Served → List Placed

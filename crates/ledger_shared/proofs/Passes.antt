@@ -13,10 +13,10 @@ use Rattle.turn_lock.specs.History.{IsPart, MayAdd, Stands, UsesStand, placed, w
 use Rattle.turn_lock.specs.History.{Opened as OpenedIn}
 use Rattle.turn_lock.proofs.Lists.{prefix_get}
 use Rattle.turn_lock.proofs.Own.{part_at, stands-snoc, stands_end}
-use Rattle.core_machine.specs.Entries.{Entry, IsRunFrom, Opening, begun_at, failed, reach_at, sealed, wanted}
-use Rattle.entry_laws.specs.Seen.{blocks_in, reach}
-use Rattle.entry_laws.specs.Steps.{knows_behind}
-use Rattle.entry_laws.proofs.Reaches.{blocks_on, blocks_same, fewer_blocks}
+use Rattle.laws_machine.specs.Entries.{Entry, IsRunFrom, Opening, begun_at, failed, reach_at, sealed, wanted}
+use Rattle.laws_history.specs.Seen.{blocks_in, reach}
+use Rattle.laws_history.specs.Steps.{knows_behind}
+use Rattle.laws_history.proofs.Reaches.{blocks_on, blocks_same, fewer_blocks}
 use Rattle.txn_core.specs.Opened.{Opened}
 use Rattle.ledger_core.specs.declared.appending.Receipt.{Receipt}
 use Rattle.ledger_core.specs.declared.begin.BeginFault.{BeginFault}

@@ -7,9 +7,9 @@ use Rattle.ql_types.specs.declared.Hash32.{Hash32}
 use Rattle.ql_types.specs.declared.Place.{Place}
 use Rattle.ledger_model.specs.declared.block.Block.{Block}
 use Rattle.ledger_model.specs.Damages.{Undamaged}
-use Rattle.entry_laws.specs.Standings.{Standing}
-use Rattle.entry_laws.specs.Stores.{Holding}
-use Rattle.core_machine.specs.Entries.{Entry, begun_at, failed, wanted}
+use Rattle.laws_history.specs.Standings.{Standing}
+use Rattle.laws_history.specs.Stores.{Holding}
+use Rattle.laws_machine.specs.Entries.{Entry, begun_at, failed, wanted}
 use Rattle.txn_core.specs.Opened.{Opened}
 use Rattle.ledger_core.specs.declared.commit.CommitFault.{CommitFault}
 use Rattle.ledger_core.specs.declared.commit.CommitFault.TheVariants.{Conflict, DigestDiffers, EndedTxn, JournalFull, OutOfMemory, StoreFault}

@@ -8,9 +8,9 @@ use Rattle.ledger_model.specs.Script.{Placed}
 use Rattle.turn_lock.specs.declared.view.Known.{Known}
 use Rattle.turn_lock.specs.History.{AreWhole, OwnedOnce}
 use Rattle.turn_lock.specs.Rule.{Each}
-use Rattle.core_machine.specs.Entries.{Entry}
-use Rattle.entry_laws.specs.Passes.{ArePasses, pass_in}
-use Rattle.entry_laws.proofs.Passes.{passes_work}
+use Rattle.laws_machine.specs.Entries.{Entry}
+use Rattle.laws_history.specs.Passes.{ArePasses, pass_in}
+use Rattle.laws_history.proofs.Passes.{passes_work}
 use Rattle.ledger_core.specs.Tails.{TailHeld}
 use Rattle.ledger_shared.specs.Behind.{IsRightFor, Keeps, opening_of}
 use Rattle.ledger_shared.specs.Crew.{HaveWorked}

@@ -10,10 +10,10 @@ use Rattle.ledger_model.specs.declared.script.Job.{Job}
 use Rattle.ledger_model.specs.Script.{Placed, all_placed_from, placed_from}
 use Rattle.session_driver.specs.Retries.{Retried}
 use Rattle.turn_lock.specs.declared.view.Known.{Known}
-use Rattle.core_machine.specs.Entries.{Entry, Opening}
-use Rattle.entry_laws.specs.Attempts.{Attempted}
-use Rattle.entry_laws.specs.Runs.{Served, told_of}
-use Rattle.entry_laws.proofs.Driving.{works_more}
+use Rattle.laws_machine.specs.Entries.{Entry, Opening}
+use Rattle.laws_history.specs.Attempts.{Attempted}
+use Rattle.laws_history.specs.Runs.{Served, told_of}
+use Rattle.laws_history.proofs.Driving.{works_more}
 use Rattle.ledger_shared.specs.Sessions.{Serves, course, dealt_jobs, job_count}
 
 -- one job more was run, and its outcome is kept

@@ -9,7 +9,7 @@ use Rattle.turn_lock.specs.declared.view.Known.{Known}
 use Rattle.turn_lock.specs.History.{AreWhole, IsNamed, Stands, after_split, newborn, split_off}
 use Rattle.turn_lock.specs.Rule.{Each}
 use Rattle.turn_lock.proofs.Lists.{each-append, each_map}
-use Rattle.core_machine.specs.Entries.{Entry}
+use Rattle.laws_machine.specs.Entries.{Entry}
 use Rattle.ledger_core.specs.Tails.{TailHeld}
 use Rattle.ledger_shared.specs.declared.workers.Desk.{Desk}
 use Rattle.ledger_shared.specs.Crew.{AreReady, HasRoom, HaveRoom, IsAt, IsIdle, IsOf, knowns}

@@ -7,8 +7,8 @@ use Rattle.ql_types.specs.declared.TxId.{TxId}
 use Rattle.ledger_model.specs.declared.block.Block.{Block}
 use Rattle.ledger_model.specs.Damages.{Undamaged}
 use Rattle.outside.specs.Told.{StoreTold, held}
-use Rattle.entry_laws.specs.Standings.{IsStanding}
-use Rattle.core_machine.specs.Entries.{Entry, Opening}
+use Rattle.laws_history.specs.Standings.{IsStanding}
+use Rattle.laws_machine.specs.Entries.{Entry, Opening}
 use Rattle.txn_core.specs.Opened.{Opened}
 use Rattle.ledger_core.specs.Beginning.{IsBeginFault, begun_on, drawn}
 use Rattle.ledger_core.specs.declared.begin.BeginFault.{BeginFault}

@@ -5,10 +5,10 @@ use Rattle.ql_types.specs.declared.Hash32.{Hash32}
 use Rattle.ql_types.specs.declared.TxId.{TxId}
 use Rattle.ion_values.specs.declared.time.TimeParts.{TimeParts}
 use Rattle.ledger_model.specs.declared.block.Block.{Block}
-use Rattle.entry_laws.specs.Standings.{Standing}
-use Rattle.entry_laws.specs.Stores.{Holding, IsSynced}
+use Rattle.laws_history.specs.Standings.{Standing}
+use Rattle.laws_history.specs.Stores.{Holding, IsSynced}
 use Rattle.outside.specs.Told.{StoreTold, held}
-use Rattle.core_machine.specs.Entries.{Entry, Opening, sealed}
+use Rattle.laws_machine.specs.Entries.{Entry, Opening, sealed}
 use Rattle.txn_core.specs.Opened.{Opened}
 use Rattle.ledger_core.specs.Committing as core
 use Rattle.ledger_core.specs.Committing.{IsAnswer}

@@ -4,9 +4,9 @@ use Rattle.ion_values.specs.declared.time.TimeParts.{TimeParts}
 use Rattle.ql_types.specs.declared.Hash32.{Hash32}
 use Rattle.ledger_model.specs.declared.block.Block.{Block}
 use Rattle.ledger_model.specs.Making.{time_behind}
-use Rattle.entry_laws.specs.Standings.{Standing}
-use Rattle.core_machine.specs.Entries.{Entry, Opening, failed, reach_at, wanted}
-use Rattle.entry_laws.specs.Seen.{blocks_in}
+use Rattle.laws_history.specs.Standings.{Standing}
+use Rattle.laws_machine.specs.Entries.{Entry, Opening, failed, reach_at, wanted}
+use Rattle.laws_history.specs.Seen.{blocks_in}
 use Rattle.txn_core.specs.Opened.{Opened}
 use Rattle.ledger_core.specs.declared.commit.CommitFault.{CommitFault}
 use Rattle.ledger_core.specs.declared.commit.CommitFault.TheVariants.{Conflict, DigestDiffers, EndedTxn, JournalFull, OutOfMemory, StoreFault}

@@ -5,7 +5,7 @@ use Rattle.ion_values.specs.declared.time.TimeParts.{TimeParts}
 use Rattle.ledger_model.specs.declared.block.Block.{Block}
 use Rattle.outside.specs.Clocks.{AddsAnswer}
 use Rattle.turn_lock.proofs.Lists.{prefix_self, prefix_trans}
-use Rattle.core_machine.specs.Entries.{Entry, Reach, begun_at, comes, failed, reached, sealed, wanted}
+use Rattle.laws_machine.specs.Entries.{Entry, Reach, begun_at, comes, failed, reached, sealed, wanted}
 use Rattle.ledger_core.specs.Committing.{IsAnswer}
 use Rattle.ledger_shared.specs.Behind.{AreTimed, GaveBetween, GoesOn, HasTimeOf, IsTimeOf, IsTimed}
 

@@ -6,7 +6,7 @@ use Rattle.turn_lock.specs.History.{AreWhole, IsNamed, OwnedOnce, Stands, after_
 use Rattle.turn_lock.specs.Rule.{Each}
 use Rattle.turn_lock.proofs.Lists.{each_stands, stands_get}
 use Rattle.turn_lock.proofs.Own.{stands_end, stands-snoc}
-use Rattle.entry_laws.proofs.Lists.{stands_front}
+use Rattle.laws_history.proofs.Lists.{stands_front}
 
 module _ {E : Type 0} (ks : List (Known E)) (k : Known E) where
   abbrev before : List (Known E)

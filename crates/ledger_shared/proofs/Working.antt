@@ -9,9 +9,9 @@ use Rattle.ledger_model.specs.declared.script.Job.{Job}
 use Rattle.ledger_model.specs.declared.script.Request.{Request}
 use Rattle.ledger_model.specs.Run.{run, start}
 use Rattle.turn_lock.specs.declared.view.Known.{Known}
-use Rattle.core_machine.specs.Entries.{Entry, Opening}
-use Rattle.entry_laws.specs.Attempts.{GivesUp, Refuses, Spends, Wants}
-use Rattle.entry_laws.specs.Seen.{reach}
+use Rattle.laws_machine.specs.Entries.{Entry, Opening}
+use Rattle.laws_history.specs.Attempts.{GivesUp, Refuses, Spends, Wants}
+use Rattle.laws_history.specs.Seen.{reach}
 use Rattle.txn_core.specs.declared.runs.Ran as end
 use Rattle.txn_core.specs.declared.runs.Ran.TheVariants as variant
 use Rattle.txn_core.specs.Opened.{Opened}

@@ -7,10 +7,10 @@ use Rattle.ion_values.specs.declared.time.TimeParts.{TimeParts}
 use Rattle.outside.specs.Told.{StoreTold, held}
 use Rattle.ledger_model.specs.declared.block.Block.{Block}
 use Rattle.ledger_model.specs.Making.{time_behind}
-use Rattle.entry_laws.specs.Standings.{Standing, IsStanding}
-use Rattle.entry_laws.specs.Stores.{IsSynced}
-use Rattle.core_machine.specs.Entries.{Entry, IsRunFrom, Opening, Reach, begun_at, comes, failed, reach_at, sealed, wanted}
-use Rattle.entry_laws.specs.Seen.{IsRight, blocks_in, reach}
+use Rattle.laws_history.specs.Standings.{Standing, IsStanding}
+use Rattle.laws_history.specs.Stores.{IsSynced}
+use Rattle.laws_machine.specs.Entries.{Entry, IsRunFrom, Opening, Reach, begun_at, comes, failed, reach_at, sealed, wanted}
+use Rattle.laws_history.specs.Seen.{IsRight, blocks_in, reach}
 use Rattle.ledger_core.specs.Tails.{TailHeld, tail_code}
 use Rattle.ledger_shared.specs.EntryCode.{entry_code}
 use Rattle.ledger_shared.specs.Rests.{HoldsRest, tried_in}

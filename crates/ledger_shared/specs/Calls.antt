@@ -9,10 +9,10 @@ use Rattle.ledger_model.specs.Damages.{same_hash}
 use Rattle.ledger_model.specs.Making.{IsMadeOf}
 use Rattle.ledger_model.specs.Run.{ran, run, start}
 use Rattle.ledger_model.specs.State.{state}
-use Rattle.frame_laws.specs.Touches.{conflict}
-use Rattle.core_machine.specs.Entries.{Entry, Opening, begun_at, failed, sealed, wanted}
-use Rattle.entry_laws.specs.Attempts.{begun_as}
-use Rattle.entry_laws.specs.Seen.{blocks_in, reach}
+use Rattle.laws_footprint.specs.Touches.{conflict}
+use Rattle.laws_machine.specs.Entries.{Entry, Opening, begun_at, failed, sealed, wanted}
+use Rattle.laws_history.specs.Attempts.{begun_as}
+use Rattle.laws_history.specs.Seen.{blocks_in, reach}
 use Rattle.txn_core.specs.Opened.{Opened}
 use Rattle.ledger_core.specs.NextBlock.{receipt_of}
 use Rattle.ledger_core.specs.Committing.{is_own, own_digest}

@@ -9,8 +9,8 @@ use Rattle.ledger_model.specs.Script.{Placed, all_placed}
 use Rattle.turn_lock.specs.declared.view.Known.{Known}
 use Rattle.turn_lock.specs.History.{AreWhole}
 use Rattle.turn_lock.specs.Rule.{Each}
-use Rattle.core_machine.specs.Entries.{Entry, Opening}
-use Rattle.entry_laws.specs.Runs.{HasWorked, Served, told_of}
+use Rattle.laws_machine.specs.Entries.{Entry, Opening}
+use Rattle.laws_history.specs.Runs.{HasWorked, Served, told_of}
 use Rattle.ledger_core.specs.Tails.{TailHeld}
 use Rattle.ledger_shared.specs.declared.workers.Desk.{Desk}
 use Rattle.ledger_shared.specs.Behind.{opening_of}

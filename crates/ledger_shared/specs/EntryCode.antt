@@ -6,7 +6,7 @@ use Rattle.ql_types.specs.declared.Place.{Place}
 use Rattle.ql_types.specs.contracts.Place as place
 use Rattle.ledger_model.specs.declared.block.Block.{Block}
 use Rattle.ledger_model.specs.contracts.block.Block as block
-use Rattle.core_machine.specs.Entries.{Entry, begun_at, failed, sealed, wanted}
+use Rattle.laws_machine.specs.Entries.{Entry, begun_at, failed, sealed, wanted}
 
 abbrev pub Parts : Type 0
 Parts = ((Place × (ℕ × ℕ)) ⊎ (ℕ × Block)) ⊎ ((ℕ × (ℕ × Block)) ⊎ (ℕ × Option Block))

@@ -7,9 +7,9 @@ use Rattle.ledger_model.specs.State.{state}
 use Rattle.turn_lock.specs.declared.view.Known.{Known}
 use Rattle.turn_lock.specs.declared.view.Placed.{Placed}
 use Rattle.turn_lock.specs.History.{MayAdd, Stands, placed}
-use Rattle.core_machine.specs.Entries.{Entry, Opening, begun_at}
-use Rattle.entry_laws.specs.Seen.{blocks_in}
-use Rattle.entry_laws.specs.Steps.{knows_behind}
+use Rattle.laws_machine.specs.Entries.{Entry, Opening, begun_at}
+use Rattle.laws_history.specs.Seen.{blocks_in}
+use Rattle.laws_history.specs.Steps.{knows_behind}
 use Rattle.txn_core.specs.Opened.{Opened}
 use Rattle.ledger_shared.specs.Told.{opened_by, used_by}
 

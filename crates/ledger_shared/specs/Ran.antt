@@ -4,8 +4,8 @@ use Rattle.outside.specs.Told.{StoreTold}
 use Rattle.ledger_model.specs.declared.outcome.PlacedOutcome.{PlacedOutcome}
 use Rattle.ledger_model.specs.Script.{Placed}
 use Rattle.turn_lock.specs.declared.view.Known.{Known}
-use Rattle.core_machine.specs.Entries.{Entry}
-use Rattle.entry_laws.specs.Runs.{AreWorkers, Served, told_of}
+use Rattle.laws_machine.specs.Entries.{Entry}
+use Rattle.laws_history.specs.Runs.{AreWorkers, Served, told_of}
 use Rattle.ledger_core.specs.Tails.{TailHeld}
 use Rattle.ledger_shared.specs.Behind.{IsRightFor, Keeps, opening_of}
 

@@ -3,8 +3,8 @@ use Rattle.std.specs.Prelude.{◌≡◌, ◌⊎◌, ℕ, List, [], ◌∷◌, �
 use Rattle.ledger_model.specs.declared.block.Block.{Block}
 use Rattle.ledger_model.specs.Damages.{Undamaged}
 use Rattle.ledger_model.specs.Journal.{line}
-use Rattle.entry_laws.specs.Stores.{HoldsBehind, Holding}
-pub use Rattle.entry_laws.specs.Tried.{tried_behind, tried_in}
+use Rattle.laws_history.specs.Stores.{HoldsBehind, Holding}
+pub use Rattle.laws_history.specs.Tried.{tried_behind, tried_in}
 
 -- It is nothing; or a part of the line of one of these blocks, perhaps none of it or all, and that block is undamaged there;
 -- or what stood there at first, where no block was sealed since.

@@ -5,8 +5,8 @@ use Rattle.ledger_model.specs.declared.outcome.PlacedOutcome.{PlacedOutcome}
 use Rattle.ledger_model.specs.declared.script.Job.{Job}
 use Rattle.ledger_model.specs.Script.{Placed}
 use Rattle.turn_lock.specs.declared.view.Known.{Known}
-use Rattle.core_machine.specs.Entries.{Entry, Opening}
-use Rattle.entry_laws.specs.Runs.{Served, Works, told_of}
+use Rattle.laws_machine.specs.Entries.{Entry, Opening}
+use Rattle.laws_history.specs.Runs.{Served, Works, told_of}
 
 pub record Course : Type 0 where
   pub outcomes : List PlacedOutcome

@@ -1,7 +1,7 @@
 -- The entries that are kept behind the turn, as they are told: each one with its whole block.
 use Rattle.std.specs.Prelude.{ℕ, List, map, Option, Some, None, option_map}
 use Rattle.ql_types.specs.Ids.{transaction_in}
-use Rattle.core_machine.specs.Entries.{Entry, begun_at, failed, sealed, wanted}
+use Rattle.laws_machine.specs.Entries.{Entry, begun_at, failed, sealed, wanted}
 use Rattle.ledger_shared.specs.declared.entry.Entry as kept
 use Rattle.ledger_shared.specs.declared.entry.Entry.TheVariants.{Begun, Failed, Sealed, Wanted}
 

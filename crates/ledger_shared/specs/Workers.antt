@@ -9,8 +9,8 @@ use Rattle.outside.specs.Told.{StoreTold}
 use Rattle.atomic_table.specs.Seated.{TableId, table_id_coded}
 use Rattle.turn_lock.specs.declared.view.Known.{Known}
 use Rattle.turn_lock.specs.declared.view.Placed.{Placed}
-use Rattle.core_machine.specs.Entries.{Entry, Opening}
-use Rattle.entry_laws.specs.Attempts.{Attempted}
+use Rattle.laws_machine.specs.Entries.{Entry, Opening}
+use Rattle.laws_history.specs.Attempts.{Attempted}
 use Rattle.txn_core.specs.Opened.{Opened}
 use Rattle.ledger_core.specs.Tails.{TailHeld, tail_code}
 use Rattle.ledger_shared.specs.EntryCode.{entry_code}

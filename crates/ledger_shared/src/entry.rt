@@ -2,8 +2,8 @@
 ghost use Rattle.std.specs.Prelude.{◌≡◌, ◌+◌, ◌<◌, ◌≤◌, [], ◌∷◌, ◌++◌, length, OnOk};
 ghost use Rattle.std.specs.Vec.{vec_len, vec_capacity};
 
+use containers::OutOfMemory;
 use ledger_model::Block;
-use lists::OutOfMemory;
 use ql_types::{Place, TxId};
 use std::alloc::Global;
 use std::snapshot::Snapshot;

@@ -6,8 +6,8 @@ ghost use Rattle.turn_lock.specs.History.{AreWhole, OwnedOnce, ShareNothing, aft
 ghost use Rattle.turn_lock.specs.History.{with_seen};
 ghost use Rattle.turn_lock.specs.Rule.{Each};
 ghost use Rattle.turn_lock.specs.Seats.{HoldsTurn, Rests, known, own, seen};
-ghost use Rattle.core_machine.specs.Entries.{Entry};
-ghost use Rattle.entry_laws.specs.Steps.{knows_behind};
+ghost use Rattle.laws_machine.specs.Entries.{Entry};
+ghost use Rattle.laws_history.specs.Steps.{knows_behind};
 ghost use Rattle.ledger_shared.specs.Behind.{IsRightFor, Keeps, opening_of};
 ghost use Rattle.ledger_shared.specs.Calls.{Begins, Commits, Extends};
 ghost use Rattle.ledger_shared.specs.Known.{Calls, MayCommit, MayJoin};

@@ -2,7 +2,7 @@
 ghost use Rattle.std.specs.Prelude.{◌≡◌, ℕ, [], Some, slice_get, option_map};
 ghost use Rattle.ql_types.specs.Ids.{transaction_in};
 ghost use Rattle.ledger_model.specs.declared.block.Block.{Block};
-ghost use Rattle.core_machine.specs.Entries.{sealed};
+ghost use Rattle.laws_machine.specs.Entries.{sealed};
 ghost use Rattle.ledger_shared.specs.Behind.{IsRightFor, Keeps, opening_of};
 ghost use Rattle.ledger_shared.specs.Calls.{Begins, Commits, Extends, IsOpen, refusal_of};
 ghost use Rattle.ledger_shared.specs.Told.{all_told, told};
@@ -25,7 +25,7 @@ pub struct Told {
 
 impl Model for Told {
     ghost use Rattle.std.specs.Prelude.{None};
-    ghost use Rattle.core_machine.specs.Entries.{Entry, wanted};
+    ghost use Rattle.laws_machine.specs.Entries.{Entry, wanted};
     ghost use Rattle.ledger_shared.specs.EntryCode.{entry_code};
 
     ghost Value = { Entry };

@@ -15,11 +15,11 @@ use Rattle.ledger_model.specs.declared.block.Schema.TheVariants.{Create, Index, 
 use Rattle.ledger_model.specs.Damages.{Undamaged, UndamagedBehind, has_id, strand_of}
 use Rattle.ledger_model.specs.Follows.{all_differ, created_id, created_ids, document_ids, follows, ids_follow, is_made_by, is_new, made_ids, revision_follows, schema_follows}
 use Rattle.ledger_model.specs.State.{State, Table, all_changed, changed, dropped, empty, state}
-use Rattle.made_blocks.specs.Before.{HasStrand, IsUnused, is_made_in}
-use Rattle.made_blocks.proofs.Journals.{passes_all, state_push, strand_is, undamaged_push}
-use Rattle.made_blocks.proofs.Lists.{all_like, all_mapped, all_push, apart, differ_push, other_way, passing}
-use Rattle.made_blocks.proofs.States.{ids_are_made, is_other}
-use Rattle.frame_laws.specs.Touches.{revisions_in}
+use Rattle.laws_validity.specs.Before.{HasStrand, IsUnused, is_made_in}
+use Rattle.laws_validity.proofs.Journals.{passes_all, state_push, strand_is, undamaged_push}
+use Rattle.laws_validity.proofs.Lists.{all_like, all_mapped, all_push, apart, differ_push, other_way, passing}
+use Rattle.laws_validity.proofs.States.{ids_are_made, is_other}
+use Rattle.laws_footprint.specs.Touches.{revisions_in}
 use Rattle.occ_check.proofs.Names.{table_ids}
 
 -- ---- the ids that a block gives to tables

@@ -14,8 +14,8 @@ use Rattle.ledger_model.specs.declared.block.Schema.{Schema}
 use Rattle.ledger_model.specs.declared.block.Schema.TheVariants.{Create, Index, Drop, Redact}
 use Rattle.ledger_model.specs.Follows.{all_differ, change_follows, has_index, is_active, is_named, schema_follows}
 use Rattle.ledger_model.specs.State.{Indexed, State, Table, active_table, after, all_changed, changed, dropped, indexed, state_from}
-use Rattle.made_blocks.proofs.Lists.{all_append, all_front, all_rest}
-use Rattle.frame_laws.specs.Touches.{change_touches_name, has_name, touches_name}
+use Rattle.laws_validity.proofs.Lists.{all_append, all_front, all_rest}
+use Rattle.laws_footprint.specs.Touches.{change_touches_name, has_name, touches_name}
 use Rattle.versions.specs.Lookups.{name_of}
 use Rattle.occ_check.specs.Behind.{changes_name, is_name}
 

@@ -14,15 +14,15 @@ use Rattle.ledger_model.specs.declared.outcome.Named.{Named}
 use Rattle.ledger_model.specs.Damages.{Undamaged}
 use Rattle.ledger_model.specs.Follows.{continues, follows, latest_of}
 use Rattle.ledger_model.specs.State.{Recorded, State, after, empty, recorded_in, state, state_from}
-use Rattle.made_blocks.specs.Before.{HasStrand}
-use Rattle.made_blocks.proofs.Lists.{all_both, all_like}
-use Rattle.frame_laws.specs.Following as following
-use Rattle.frame_laws.specs.Following.{is_of, is_of_document, touched_by_tables}
-use Rattle.frame_laws.specs.Journalled as journalled
-use Rattle.frame_laws.specs.Own.{AllFollow}
-use Rattle.frame_laws.specs.Touches.{conflict_from, content_in, has_key_in, id_of, named_or, revisions_in, touched}
-use Rattle.frame_laws.proofs.Following.{following_touches}
-use Rattle.frame_laws.proofs.Journals.{undamaged_follow}
+use Rattle.laws_validity.specs.Before.{HasStrand}
+use Rattle.laws_validity.proofs.Lists.{all_both, all_like}
+use Rattle.laws_footprint.specs.Following as following
+use Rattle.laws_footprint.specs.Following.{is_of, is_of_document, touched_by_tables}
+use Rattle.laws_footprint.specs.Journalled as journalled
+use Rattle.laws_footprint.specs.Own.{AllFollow}
+use Rattle.laws_footprint.specs.Touches.{conflict_from, content_in, has_key_in, id_of, named_or, revisions_in, touched}
+use Rattle.laws_footprint.proofs.Following.{following_touches}
+use Rattle.laws_footprint.proofs.Journals.{undamaged_follow}
 use Rattle.occ_check.specs.Behind.{block_touches, change_touches, content_of, earlier, revision_touches}
 use Rattle.occ_check.proofs.Ids.{tables_differ}
 use Rattle.occ_check.proofs.Names.{IsCreated, IsLabelled, all_labelled, all_labelled_before, names_are, state_labelled_before}

@@ -11,9 +11,9 @@ use Rattle.ledger_model.specs.declared.block.Revision.{Revision}
 use Rattle.ledger_model.specs.Follows.{all_differ, continues, created_ids, document_ids, follows, has_table, ids_follow, is_kept, is_of, latest_of, made_ids, revision_follows, schema_follows}
 use Rattle.ledger_model.specs.Script.{or_else}
 use Rattle.ledger_model.specs.State.{Recorded, State, after, recorded_in}
-use Rattle.made_blocks.proofs.Lists.{all_like, other_way, passing}
-use Rattle.frame_laws.specs.Touches.{content_in, id_of, kept, revisions_in}
-use Rattle.frame_laws.proofs.Documents.{latest_of-append}
+use Rattle.laws_validity.proofs.Lists.{all_like, other_way, passing}
+use Rattle.laws_footprint.specs.Touches.{content_in, id_of, kept, revisions_in}
+use Rattle.laws_footprint.proofs.Documents.{latest_of-append}
 use Rattle.versions.specs.Histories.{revisions_of}
 use Rattle.occ_check.specs.Behind.{content_of, earlier}
 

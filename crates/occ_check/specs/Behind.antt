@@ -12,8 +12,8 @@ use Rattle.ledger_model.specs.declared.block.Schema.TheVariants.{Create, Index, 
 use Rattle.ledger_model.specs.declared.outcome.Item.{Item}
 use Rattle.ledger_model.specs.declared.outcome.Item.TheVariants as item
 use Rattle.ledger_model.specs.State.{Recorded, State, Table}
-use Rattle.frame_laws.specs.Following.{is_of, is_of_document}
-use Rattle.frame_laws.specs.Touches.{has_key_in, kept, revisions_in, touches_list}
+use Rattle.laws_footprint.specs.Following.{is_of, is_of_document}
+use Rattle.laws_footprint.specs.Touches.{has_key_in, kept, revisions_in, touches_list}
 use Rattle.versions.specs.Histories.{revisions_of}
 use Rattle.versions.specs.Lookups.{name_of}
 

@@ -1,9 +1,9 @@
 //! Items as values of their own.
 ghost use Rattle.std.specs.Prelude.{◌≡◌, IfOk};
 
+use containers::Sequence;
 use ion_values::{Key, OutOfMemory};
 use ledger_model::Item;
-use lists::Sequence;
 use std::alloc::Global;
 
 /// An item that equals the given one.

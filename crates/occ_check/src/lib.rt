@@ -6,7 +6,7 @@ ghost use Rattle.std.specs.List.{find};
 ghost use Rattle.std.specs.Option.{option_copied};
 ghost use Rattle.ledger_model.specs.Damages.{Undamaged};
 ghost use Rattle.ledger_model.specs.State.{state};
-ghost use Rattle.frame_laws.specs.Touches.{conflict};
+ghost use Rattle.laws_footprint.specs.Touches.{conflict};
 ghost use Rattle.occ_check.specs.Behind.{block_touches};
 
 mod copies;

@@ -3,8 +3,8 @@ ghost use Rattle.std.specs.Prelude.{◌≡◌, IfOk, slice_get};
 ghost use Rattle.std.specs.List.{list_any};
 ghost use Rattle.std.specs.Option.{option_copied};
 ghost use Rattle.ledger_model.specs.State.{recorded_in};
-ghost use Rattle.frame_laws.specs.Following as following;
-ghost use Rattle.frame_laws.specs.Touches as touches;
+ghost use Rattle.laws_footprint.specs.Following as following;
+ghost use Rattle.laws_footprint.specs.Touches as touches;
 ghost use Rattle.occ_check.specs.Behind as behind;
 
 use ion_values::{Key, OutOfMemory, Text};

@@ -4,8 +4,8 @@ use Rattle.std.proofs.lemmas.List.{get_or_append_left}
 use Rattle.std.proofs.Math.Seq.{get_or-append_seam, take-suc}
 use Rattle.std.proofs.lemmas.Bool.Decides.{leb_tells}
 use Rattle.ql_types.specs.declared.Hash32.{Hash32}
-use Rattle.hash_forms.specs.PairHash.{dot32}
-use Rattle.hash_forms.specs.Tree.{height_of, node, pad_hash}
+use Rattle.hash_model.specs.PairHash.{dot32}
+use Rattle.hash_model.specs.Tree.{height_of, node, pad_hash}
 use Rattle.pad_tree.specs.Growing.{after_steps, leaves_in, level_of, level_over, nodes_above, nodes_up_to, pad_of, IsLevel, IsTower, KeptLevel}
 use Rattle.pad_tree.proofs.Room.{height_of-least}
 use Rattle.pad_tree.proofs.Growth.{at_most, lowest, next_is_over, no_step, over_root, past_root, two_below}

@@ -4,8 +4,8 @@ use Rattle.std.proofs.lemmas.List.{get_or_default}
 use Rattle.std.proofs.lemmas.Bool.Decides.{eqb_tells}
 use Rattle.ql_types.specs.declared.Hash.TheVariants.{Full}
 use Rattle.ql_types.specs.declared.Hash32.{Hash32}
-use Rattle.hash_forms.specs.PairHash.{dot32}
-use Rattle.hash_forms.specs.Tree.{node, pad_hash, height_of}
+use Rattle.hash_model.specs.PairHash.{dot32}
+use Rattle.hash_model.specs.Tree.{node, pad_hash, height_of}
 use Rattle.pad_tree.proofs.Room.{height_of-room}
 use Rattle.pad_tree.specs.Paths.{siblings, sibling_of, path_of, folded, PathLeadsToRoot}
 use Rattle.pad_tree.proofs.Pairs.{dot32-comm}

@@ -5,8 +5,8 @@ use Rattle.std.proofs.lemmas.Bool.Decides.{leb_tells}
 use Rattle.std.specs.Prelude.{slice_get}
 use Rattle.ql_types.specs.declared.Hash.TheVariants.{Full}
 use Rattle.ql_types.specs.declared.Hash32.{Hash32}
-use Rattle.hash_forms.specs.PairHash.{dot32}
-use Rattle.hash_forms.specs.Tree.{height_of, node, root_of, root_over}
+use Rattle.hash_model.specs.PairHash.{dot32}
+use Rattle.hash_model.specs.Tree.{height_of, node, root_of, root_over}
 use Rattle.pad_tree.specs.Level.{IsNextLevel}
 use Rattle.pad_tree.specs.Paths.{path_of, path_over, sibling_of}
 use Rattle.pad_tree.specs.Growing.{after_steps, nodes_over, level_over, level_of, pad_of}

@@ -4,8 +4,8 @@ use Rattle.std.proofs.lemmas.List.{get_or_append_left, get_or-append_right, get_
 use Rattle.std.proofs.lemmas.Bool.Decides.{leb_tells}
 use Rattle.ql_types.specs.declared.Hash.TheVariants.{Full}
 use Rattle.ql_types.specs.declared.Hash32.{Hash32}
-use Rattle.hash_forms.specs.PairHash.{dot32}
-use Rattle.hash_forms.specs.Tree.{node, height_of, pad_hash, padded, paired, paired_times, RootLevelByLevel}
+use Rattle.hash_model.specs.PairHash.{dot32}
+use Rattle.hash_model.specs.Tree.{node, height_of, pad_hash, padded, paired, paired_times, RootLevelByLevel}
 use Rattle.pad_tree.proofs.Room.{height_of-room}
 
 length-paired : (xs : List Hash32) (m : ℕ) → length xs ≡ 2 * m → length (paired xs) ≡ m

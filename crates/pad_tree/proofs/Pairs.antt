@@ -11,7 +11,7 @@ use Rattle.std.specs.Cmp.{then_flip}
 use Rattle.std.specs.Cmp.Lexicographic.{slice_cmp}
 use Rattle.sha2.specs.Sha256.{sha256}
 use Rattle.ql_types.specs.declared.Hash32.{Hash32}
-use Rattle.hash_forms.specs.PairHash.{signed_cmp, hash_cmp, dot32}
+use Rattle.hash_model.specs.PairHash.{signed_cmp, hash_cmp, dot32}
 
 signed_cmp-flip : (x y : ℕ) → signed_cmp x y ≡ ordering_reverse (signed_cmp y x)
 signed_cmp-flip x y = grind (arith, nat_tests)

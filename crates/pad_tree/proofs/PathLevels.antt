@@ -1,8 +1,8 @@
 -- The paths in a level and in the next one up.
 use Rattle.std.proofs.Common.{◌≡◌, ◌∙◌, ℕ, zero, suc, ◌/◌, ◌≤◌, List, [], ◌∷◌, ◌++◌, length, get_or, append_assoc, arith, refl, sym, ap}
 use Rattle.ql_types.specs.declared.Hash32.{Hash32}
-use Rattle.hash_forms.specs.PairHash.{dot32}
-use Rattle.hash_forms.specs.Tree.{height_from, node, height_of, pad_hash}
+use Rattle.hash_model.specs.PairHash.{dot32}
+use Rattle.hash_model.specs.Tree.{height_from, node, height_of, pad_hash}
 use Rattle.pad_tree.specs.Level.{IsNextLevel}
 use Rattle.pad_tree.proofs.Next.{node-next}
 use Rattle.pad_tree.proofs.Room.{height_of-half}

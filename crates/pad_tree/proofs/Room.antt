@@ -2,7 +2,7 @@
 use Rattle.std.proofs.Common.{◌≡◌, ℕ, zero, suc, ◌+◌, ◌/◌, ◌^◌, ◌≤◌, ◌<◌, arith, inl, inr}
 use Rattle.std.proofs.Math.Pow.{pow_mono}
 use Rattle.std.proofs.lemmas.Bool.Decides.{leb_tells}
-use Rattle.hash_forms.specs.Tree.{height_from, height_of}
+use Rattle.hash_model.specs.Tree.{height_from, height_of}
 
 -- a number is less than its power of two
 below_pow : (n : ℕ) → n < 2 ^ n

@@ -1,8 +1,8 @@
 -- Worked rows of paths.
 use Rattle.std.proofs.Common.{◌≡◌, [], ◌∷◌, refl}
 use Rattle.ql_types.specs.declared.Hash32.{Hash32}
-use Rattle.hash_forms.specs.PairHash.{dot32}
-use Rattle.hash_forms.specs.Tree.{node, height_from, pad_hash}
+use Rattle.hash_model.specs.PairHash.{dot32}
+use Rattle.hash_model.specs.Tree.{node, height_from, pad_hash}
 use Rattle.pad_tree.specs.Paths.{siblings, path_of, folded}
 
 -- beside the third of three leaves stands a pad, and beside their node that of the first two

@@ -4,8 +4,8 @@ use Rattle.std.proofs.lemmas.List.{get_or-set_same, get_or-set_other, get_or_def
 use Rattle.std.proofs.Math.Seq.{take-append_seam}
 use Rattle.std.proofs.lemmas.Bool.Decides.{eqb_tells, leb_tells}
 use Rattle.ql_types.specs.declared.Hash32.{Hash32}
-use Rattle.hash_forms.specs.PairHash.{dot32}
-use Rattle.hash_forms.specs.Tree.{height_of}
+use Rattle.hash_model.specs.PairHash.{dot32}
+use Rattle.hash_model.specs.Tree.{height_of}
 use Rattle.pad_tree.specs.Growing.{HasRoom, IsLevel, IsTower, KeptLevel, SameNodes, leaves_in, level_of, pad_of}
 use Rattle.pad_tree.proofs.Room.{height_of-least, height_of-room}
 use Rattle.pad_tree.proofs.Growth.{grown, lowest, past_root}

@@ -1,8 +1,8 @@
 -- One level of a padded hash tree and the next one up.
 use Rattle.std.specs.Prelude.{ℕ, ◌≡◌, ◌+◌, ◌/◌, List, length}
 use Rattle.ql_types.specs.declared.Hash32.{Hash32}
-use Rattle.hash_forms.specs.PairHash.{dot32}
-use Rattle.hash_forms.specs.Tree.{node}
+use Rattle.hash_model.specs.PairHash.{dot32}
+use Rattle.hash_model.specs.Tree.{node}
 
 -- the nodes `above` are those over the nodes `below`: half as many, rounded up, and like the pads
 -- below two pads make the pad of the level above

@@ -3,8 +3,8 @@
 use Rattle.std.specs.Prelude.{ℕ, zero, suc, ◌+◌, ◌-◌, ◌/◌, ◌%◌, ◌^◌, ◌<◌, ◌≤◌, ◌≡◌, ◌==◌, List, [], ◌∷◌, length, slice_index_or, fold, if◌then◌else◌}
 use Rattle.ql_types.specs.declared.Hash.TheVariants.{Full}
 use Rattle.ql_types.specs.declared.Hash32.{Hash32}
-use Rattle.hash_forms.specs.PairHash.{dot32}
-use Rattle.hash_forms.specs.Tree.{node, height_of, pad_hash, root_of}
+use Rattle.hash_model.specs.PairHash.{dot32}
+use Rattle.hash_model.specs.Tree.{node, height_of, pad_hash, root_of}
 
 -- the other place under the same node
 abbrev pub sibling_of : ℕ → ℕ

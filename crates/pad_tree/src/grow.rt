@@ -1,13 +1,13 @@
 //! A padded hash tree that is made of all its leaves at once, and grows a leaf at a time.
 ghost use Rattle.std.specs.Prelude.{◌≡◌, ◌+◌, ◌<◌, ◌≤◌, ◌^◌, [], ◌∷◌, ◌++◌, length, IfOk, OnOk, OnErr};
-ghost use Rattle.hash_forms.specs.Tree.{height_of, root_of};
+ghost use Rattle.hash_model.specs.Tree.{height_of, root_of};
 ghost use Rattle.pad_tree.specs.Growing.{after_steps, leaves_in, nodes_above, HasRoom, IsTower, SameNodes};
 ghost use Rattle.pad_tree.specs.Paths.{path_of};
 
 use crate::levels::Level;
 use crate::paths::{Hashes, sibling};
 use crate::{height, pad};
-use lists::{OutOfMemory, Sequence};
+use containers::{OutOfMemory, Sequence};
 use ql_types::{Hash, Hash32, Steps};
 use std::alloc::Global;
 use std::marker::Model;

@@ -1,9 +1,9 @@
 //! One level of a padded hash tree that grows.
 ghost use Rattle.std.specs.Prelude.{◌≡◌, ◌+◌, ◌-◌, ◌*◌, ◌<◌, ◌≤◌, ◌^◌, min, [], ◌∷◌, ◌++◌, length, take, slice_index_or, IfOk, OnOk};
-ghost use Rattle.hash_forms.specs.PairHash.{dot32};
+ghost use Rattle.hash_model.specs.PairHash.{dot32};
 ghost use Rattle.pad_tree.specs.Growing.{after_steps, level_over};
 
-use lists::OutOfMemory;
+use containers::OutOfMemory;
 use pair_hash::dot_full;
 use ql_types::{Hash32, Steps};
 use std::alloc::Global;

@@ -2,15 +2,15 @@
 #![tactic(auto)]
 
 ghost use Rattle.std.specs.Prelude.{◌≡◌, ℕ, ◌<◌, ◌≤◌, ◌^◌, ◌↔◌, [], IfOk};
-ghost use Rattle.hash_forms.specs.Tree.{pad_hash, height_of, root_of, RootLevelByLevel};
+ghost use Rattle.hash_model.specs.Tree.{pad_hash, height_of, root_of, RootLevelByLevel};
 ghost use Rattle.pad_tree.specs.Level.{IsNextLevel};
 
 mod grow;
 mod levels;
 mod paths;
 
+use containers::OutOfMemory;
 pub use grow::Grow;
-use lists::OutOfMemory;
 use pair_hash::dot_full;
 pub use paths::{Hashes, fold_hashes, fold_path, path, path_leads_to_root};
 use ql_types::{Hash, Hash32};
@@ -21,7 +21,7 @@ use std::alloc::Global;
 const PAD_FORM: [u8; 6] = *b"\x0B\x70pad\x0E";
 
 /// The hash at each place of the lowest level that has no leaf.
-#[tactic(auto, unfolding(hash_forms::specs::Tree::pad_hash))]
+#[tactic(auto, unfolding(hash_model::specs::Tree::pad_hash))]
 fn pad() -> Hash32
     ensures { result ≡ pad_hash }
 {

@@ -1,10 +1,10 @@
 //! The paths of leaves in padded hash trees, from a leaf to the root.
 ghost use Rattle.std.specs.Prelude.{◌≡◌, ◌+◌, ◌<◌, ◌^◌, length, IfOk, SomeIff};
-ghost use Rattle.hash_forms.specs.Tree.{height_of};
+ghost use Rattle.hash_model.specs.Tree.{height_of};
 ghost use Rattle.pad_tree.specs.Paths.{sibling_of, path_of, folded, FitsTree, PathLeadsToRoot};
 
 use crate::{height, next_level, pad};
-use lists::{OutOfMemory, Sequence};
+use containers::{OutOfMemory, Sequence};
 use pair_hash::dot_full;
 use ql_types::Hash32;
 use std::alloc::Global;

@@ -7,7 +7,7 @@ use Rattle.std.specs.Int.{cast_signed}
 use Rattle.std.specs.Ordering.{int_cmp, is_lt, ordering_then}
 use Rattle.std.specs.Cmp.Lexicographic.{slice_cmp}
 use Rattle.std.specs.declared.cmp.Ordering.{Ordering}
-use Rattle.hash_forms.specs.PairHash.{comes_before, signed_cmp, hash_cmp}
+use Rattle.hash_model.specs.PairHash.{comes_before, signed_cmp, hash_cmp}
 use Rattle.pair_hash.specs.Signed.{signed_bytes}
 
 -- for two bytes

@@ -3,7 +3,7 @@
 
 ghost use Rattle.std.specs.Prelude.{◌≡◌, ℕ, ◌<◌, slice_index, reverse};
 ghost use Rattle.std.specs.Ordering.{is_lt};
-ghost use Rattle.hash_forms.specs.PairHash.{comes_before, signed_cmp, dot32, dot_of, dot_each};
+ghost use Rattle.hash_model.specs.PairHash.{comes_before, signed_cmp, dot32, dot_of, dot_each};
 ghost use Rattle.pair_hash.specs.Signed.{signed_bytes};
 
 use ql_types::{Hash, Hash32};
@@ -50,7 +50,7 @@ fn before_by_all(a: &Hash32, b: &Hash32) -> bool
 }
 
 /// SHA-256 of the two hashes, the lesser one first.
-#[tactic(auto, unfolding(hash_forms::specs::PairHash::dot32))]
+#[tactic(auto, unfolding(hash_model::specs::PairHash::dot32))]
 pub fn dot_full(a: &Hash32, b: &Hash32) -> Hash32
     ensures { result ≡ dot32 a.now b.now }
 {

@@ -6,7 +6,7 @@ ghost use Rattle.pmap.specs.Levels.{pairs_in, pairs_of, BeginsWith, IsParted, Ar
 use crate::entry::{Entry, Leaf, Middle, Upper};
 use crate::keyed::Keyed;
 use crate::search::{Place, find, row_for};
-use lists::{OutOfMemory, Sequence};
+use containers::{OutOfMemory, Sequence};
 use pvec::{FULL, Row, Shared, copied, member, single, spliced};
 use ql_types::Steps;
 use std::alloc::Global;

@@ -13,7 +13,7 @@ use crate::entry::{Entry, Leaf, Middle, Upper};
 use crate::keyed::Keyed;
 use crate::levels::{rows_with, value_of};
 use crate::range::{Left, Range, started};
-use lists::{OutOfMemory, Sequence};
+use containers::{OutOfMemory, Sequence};
 use pvec::{Shared, single};
 use ql_types::Steps;
 use std::alloc::Global;

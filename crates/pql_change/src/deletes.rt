@@ -4,8 +4,8 @@ ghost use Rattle.std.specs.Option.{option_map_or};
 ghost use Rattle.pql_model.specs.Effects as spec;
 ghost use Rattle.pql_change.specs.Touched.{ids_in};
 
+use containers::{OutOfMemory, Sequence};
 use indexmap::IndexSet;
-use lists::{OutOfMemory, Sequence};
 use pql_model::{Bindings, DocIds, Scope};
 use ql_types::DocId;
 use std::alloc::Global;

@@ -9,9 +9,9 @@ ghost use Rattle.pql_change.specs.Touched.{alteration_of, document_of, rows_in, 
 use crate::changes::{insert, remove, set};
 use crate::context::Context;
 use crate::vacant::vacant;
+use containers::{OutOfMemory, Sequence};
 use indexmap::IndexMap;
 use ion_values::{Value, copy};
-use lists::{OutOfMemory, Sequence};
 use pql_model::{Bindings, Bound, Change, Expr, Path, Row, Rows, Scope, Setting, root_at};
 use ql_types::DocId;
 use std::alloc::Global;

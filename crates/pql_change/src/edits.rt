@@ -3,9 +3,9 @@ ghost use Rattle.std.specs.Prelude.{◌≡◌, IfOk};
 ghost use Rattle.pql_model.specs.Changes as spec;
 ghost use Rattle.pql_change.specs.Edits.{done};
 
-use crate::containers::{less_element, less_field, with_element, with_field, with_put};
+use crate::elements::{less_element, less_field, with_element, with_field, with_put};
+use containers::OutOfMemory;
 use ion_values::Value;
-use lists::OutOfMemory;
 use pql_model::{Evaluated, Selector};
 use std::alloc::Global;
 

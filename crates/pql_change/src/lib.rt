@@ -3,11 +3,11 @@
 
 mod along;
 mod changes;
-mod containers;
 mod context;
 mod deletes;
 mod documents;
 mod edits;
+mod elements;
 mod laws;
 mod members;
 mod selectors;

@@ -4,8 +4,8 @@ ghost use Rattle.std.specs.List.{insert, remove};
 ghost use Rattle.std.specs.Option.{option_map_or};
 ghost use Rattle.pql_model.specs.Changes as spec;
 
+use containers::{OutOfMemory, Sequence, Text};
 use ion_values::{Body, Field, Fields, Value, Values};
-use lists::{OutOfMemory, Sequence, Text};
 use pql_model::Evaluated;
 use std::alloc::Global;
 

@@ -5,8 +5,8 @@ ghost use Rattle.pql_model.specs.Names.{called_in_row, resolve};
 ghost use Rattle.pql_change.specs.Contexts.{context_of};
 
 use crate::context::Context;
+use containers::{OutOfMemory, Sequence};
 use ion_values::{Body, Value};
-use lists::{OutOfMemory, Sequence};
 use pql_expr::eval;
 use pql_model::{Evaluated, Path, PathStep, Scope, Selector, Selectors, resolve};
 use std::alloc::Global;

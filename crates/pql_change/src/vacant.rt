@@ -5,8 +5,8 @@ ghost use Rattle.ion_values.specs.declared.value.Kind.TheVariants as kind;
 ghost use Rattle.pql_model.specs.Changes.{field};
 ghost use Rattle.pql_model.specs.Made.{made};
 
+use containers::{Sequence, Text};
 use ion_values::{Body, Field, Kind, Value};
-use lists::{Sequence, Text};
 use std::alloc::Global;
 
 /// A null.

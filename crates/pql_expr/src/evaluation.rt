@@ -14,8 +14,8 @@ use crate::made::{answer, is_unknown, null, truth};
 use crate::operators::{between, settled};
 use crate::paths::{Root, at_index, copied, id_value, root_of};
 use crate::words::{OneOperand, TwoOperands, with_lent, with_one, with_two, with_value};
+use containers::{OutOfMemory, Sequence};
 use ion_values::{Body, Field, Value, copy};
-use lists::{OutOfMemory, Sequence};
 use pql_model::{Evaluated, Expr, Member, Path, PathStep, Scope, field_of};
 use std::alloc::Global;
 

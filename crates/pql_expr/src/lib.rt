@@ -3,8 +3,8 @@
 
 mod arithmetic;
 mod comparisons;
-mod containers;
 mod context;
+mod elements;
 mod evaluation;
 mod logic;
 mod made;

@@ -13,8 +13,8 @@ use crate::comparisons::{are_equal, at_least, at_most, greater, less};
 use crate::logic::{conjunction, disjunction, truth_in, truth_of};
 use crate::made::{is_null, null, truth};
 use crate::texts::{joined, like};
+use containers::OutOfMemory;
 use ion_values::Value;
-use lists::OutOfMemory;
 use pql_model::{Evaluated, Operator};
 use std::alloc::Global;
 

@@ -7,8 +7,8 @@ ghost use Rattle.pql_model.specs.Made.{found, made, onward, seen};
 ghost use Rattle.pql_model.specs.Steps as spec;
 ghost use Rattle.pql_expr.specs.Contexts.{meant_at};
 
+use containers::{OutOfMemory, Sequence};
 use ion_values::{Body, Value, copy};
-use lists::{OutOfMemory, Sequence};
 use pql_model::{Bound, Evaluated, Resolved, field_of, id_text, resolve};
 use ql_types::DocId;
 use std::alloc::Global;

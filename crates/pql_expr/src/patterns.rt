@@ -4,7 +4,7 @@ ghost use Rattle.std.specs.Option.{option_map_or};
 ghost use Rattle.pql_model.specs.Texts as spec;
 ghost use Rattle.pql_expr.specs.Ends.{by_length, longer, takes};
 
-use lists::OutOfMemory;
+use containers::OutOfMemory;
 use std::alloc::Global;
 use std::mem;
 

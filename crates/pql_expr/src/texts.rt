@@ -6,8 +6,8 @@ ghost use Rattle.pql_model.specs.Texts as spec;
 
 use crate::made::{answer, is_null, null, truth};
 use crate::patterns::fits;
+use containers::{OutOfMemory, Text};
 use ion_values::{Body, Value};
-use lists::{OutOfMemory, Text};
 use pql_model::Evaluated;
 use std::alloc::Global;
 

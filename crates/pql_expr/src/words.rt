@@ -6,13 +6,13 @@ ghost use Rattle.pql_model.specs.Made.{found};
 ghost use Rattle.pql_model.specs.declared.scope.Evaluated.TheVariants.{Found};
 
 use crate::arithmetic::minus;
-use crate::containers::{is_in, is_in_value, size};
+use crate::elements::{is_in, is_in_value, size};
 use crate::logic::{negation, truth_in};
 use crate::made::{is_missing, is_unknown, truth};
 use crate::operators::{is_like, is_like_with, operate, operate_with};
 use crate::texts::char_length;
+use containers::OutOfMemory;
 use ion_values::Value;
-use lists::OutOfMemory;
 use pql_model::{Evaluated, Operator};
 use std::alloc::Global;
 

@@ -7,8 +7,8 @@ ghost use Rattle.pql_model.specs.From as from;
 ghost use Rattle.pql_model.specs.Made.{made};
 ghost use Rattle.pql_model.specs.Tables as spec;
 
+use containers::{OutOfMemory, Sequence, Text};
 use ion_values::{Body, Kind, Value};
-use lists::{OutOfMemory, Sequence, Text};
 use pql_expr::eval;
 use pql_model::{Evaluated, Expr, Probe, Rows, Tables, View};
 use std::alloc::Global;

@@ -4,9 +4,9 @@ use Rattle.std.proofs.lemmas.Bool.{lt-ltb}
 use Rattle.std.specs.Prelude.{cond}
 use Rattle.std.specs.Char.{encode_utf8}
 use Rattle.std.specs.Str.{chars, is_utf8}
-use Rattle.ion_grammar.specs.Lex as ion_lex
-use Rattle.ion_grammar.specs.Numbers.{is_spelled, lex_number}
-use Rattle.ion_grammar.specs.Read.{read_text}
+use Rattle.ion_model.specs.Lex as ion_lex
+use Rattle.ion_model.specs.Numbers.{is_spelled, lex_number}
+use Rattle.ion_model.specs.Read.{read_text}
 use Rattle.pql_model.specs.declared.expr.Expr.{out-Expr}
 use Rattle.pql_model.specs.declared.ParseKind.{ParseKind}
 use Rattle.pql_model.specs.declared.ParseKind.TheVariants as kind

@@ -2,8 +2,8 @@
 use Rattle.std.proofs.Common.{◌≡◌, ℕ, pos, neg_ℤ, Bool, true, List, [], ◌∷◌, Option, Some, None, Ok, codes, refl}
 use Rattle.std.specs.Char.{encode_utf8}
 use Rattle.std.specs.Str.{chars, is_utf8}
-use Rattle.ion_grammar.specs.Lex as ion_lex
-use Rattle.ion_grammar.specs.Read.{read_text}
+use Rattle.ion_model.specs.Lex as ion_lex
+use Rattle.ion_model.specs.Read.{read_text}
 use Rattle.ion_values.specs.declared.value.Body.TheVariants as body
 use Rattle.ion_values.specs.declared.value.Kind.TheVariants as ion
 use Rattle.pql_model.specs.declared.expr.Expr.{Expr, out-Expr}

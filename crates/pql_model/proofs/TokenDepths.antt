@@ -8,16 +8,16 @@ use Rattle.std.specs.Str.Parse.{digits_value}
 use Rattle.ion_values.specs.Depth.{depth_of}
 use Rattle.ion_values.specs.declared.value.Body.TheFolds.{the_lemmas}
 use Rattle.ion_values.specs.declared.value.Value.{Value}
-use Rattle.ion_grammar.specs.Blanks.{begins, is_space}
-use Rattle.ion_grammar.specs.Read.{Answer, read_text}
-use Rattle.ion_grammar.specs.Words.{begins_word}
+use Rattle.ion_model.specs.Blanks.{begins, is_space}
+use Rattle.ion_model.specs.Read.{Answer, read_text}
+use Rattle.ion_model.specs.Words.{begins_word}
 use Rattle.pql_model.specs.declared.token.Lexed.{Lexed}
 use Rattle.pql_model.specs.declared.token.Lexed.TheVariants as lexed
 use Rattle.pql_model.specs.declared.token.Located.{Located}
 use Rattle.pql_model.specs.declared.token.Symbol.{Symbol}
 use Rattle.pql_model.specs.declared.token.Token.{Token}
 use Rattle.pql_model.specs.declared.token.Token.TheVariants as token
-use Rattle.ion_grammar.proofs.Depths.{read_is_shallow}
+use Rattle.ion_model.proofs.Depths.{read_is_shallow}
 use Rattle.pql_model.specs.Tokens.{backquoted, closed, ion_token, is_float_mark, lex, lex_at, lex_number, lex_symbol, number, number_of, number_token, pairs, places_of, plain, quoted, singles, symbol_in, symbol_token, to_quote, tokens, tokens_from, turn, undoubled, whole_len}
 use Rattle.pql_model.proofs.Gives.{token_depth, tokens_depth}
 

@@ -2,7 +2,7 @@
 -- the targets of changes as in Amazon QLDB's PartiQL). The rules judge the marks that were set in reading the statement, in text order.
 use Rattle.std.specs.Prelude.{ℕ, ◌==◌, ◌&&◌, ◌||◌, not, Bool, true, false, nat_lt, List, [], ◌∷◌, length, map, take, drop, codes, is_some, Option, Some, None, if◌then◌else◌}
 use Rattle.std.specs.List.{list_any}
-use Rattle.ion_grammar.specs.Blanks.{begins}
+use Rattle.ion_model.specs.Blanks.{begins}
 use Rattle.pql_model.specs.declared.ParseKind.{ParseKind}
 use Rattle.pql_model.specs.declared.ParseKind.TheVariants as kind
 use Rattle.pql_model.specs.declared.mark.Mark.{Mark}

@@ -7,7 +7,7 @@ use Rattle.std.specs.declared.option.Option.TheVariants.{None, Some}
 use Rattle.ion_values.specs.declared.value.Value.{Value}
 use Rattle.ion_values.specs.declared.value.Key.{Key}
 pub use Rattle.ion_values.specs.Keys.{is_same_key}
-use Rattle.ion_grammar.specs.Blanks.{begins}
+use Rattle.ion_model.specs.Blanks.{begins}
 use Rattle.ion_order.specs.Key.{key_of}
 use Rattle.pql_model.specs.declared.tables.Probe.{Probe}
 use Rattle.pql_model.specs.declared.tables.Probe.TheVariants as probe

@@ -8,9 +8,9 @@ use Rattle.std.specs.Str.Parse.{digits_value}
 use Rattle.ion_values.specs.declared.value.Body.{Body}
 use Rattle.ion_values.specs.declared.value.Body.TheVariants as body
 use Rattle.ion_values.specs.declared.value.Value.{Value}
-use Rattle.ion_grammar.specs.Blanks.{begins, is_space, is_line_end}
-use Rattle.ion_grammar.specs.Words.{begins_word, is_word_char}
-use Rattle.ion_grammar.specs.Read.{Answer, read_text}
+use Rattle.ion_model.specs.Blanks.{begins, is_space, is_line_end}
+use Rattle.ion_model.specs.Words.{begins_word, is_word_char}
+use Rattle.ion_model.specs.Read.{Answer, read_text}
 use Rattle.pql_model.specs.declared.ParseKind.TheVariants as kind
 use Rattle.pql_model.specs.declared.token.Symbol.{Symbol}
 use Rattle.pql_model.specs.declared.token.Symbol.TheVariants as symbol

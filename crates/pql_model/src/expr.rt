@@ -1,5 +1,5 @@
+use containers::{Boxed, Sequence, Text};
 use ion_values::Value;
-use lists::{Boxed, Sequence, Text};
 
 /// The operators that stand between two operands.
 #[derive(Clone, Copy, Debug, PartialEq, Eq)]

@@ -2,7 +2,7 @@
 ghost use Rattle.std.specs.Prelude.{◌≡◌, IfOk};
 ghost use Rattle.ql_types.specs.Ids as spec;
 
-use lists::{OutOfMemory, Text};
+use containers::{OutOfMemory, Text};
 use ql_types::id_digits;
 use std::alloc::Global;
 use std::str;

@@ -1,4 +1,4 @@
-use lists::{Sequence, Text};
+use containers::{Sequence, Text};
 
 /// Marks in the order in which they were set.
 pub type Marks = Sequence<Mark>;

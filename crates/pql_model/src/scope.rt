@@ -1,5 +1,5 @@
+use containers::{Sequence, Text};
 use ion_values::Value;
-use lists::{Sequence, Text};
 use ql_types::DocId;
 
 /// What an expression means under a row.

@@ -1,4 +1,4 @@
-use lists::{Sequence, Text};
+use containers::{Sequence, Text};
 
 /// Which member of a container a step of a change's path asks for: the field of that name, the
 /// element at that place, counted from 0, or none at all.

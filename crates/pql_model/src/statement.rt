@@ -1,5 +1,5 @@
 use crate::expr::{Expr, Path};
-use lists::{Sequence, Text};
+use containers::{Sequence, Text};
 
 /// A statement of the profile of PartiQL. The `from` of an UPDATE or a DELETE has one source.
 #[derive(Drop)]

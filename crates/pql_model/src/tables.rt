@@ -4,8 +4,8 @@ ghost use Rattle.pql_model.specs.Tables.{meeting};
 ghost use Rattle.pql_model.specs.declared.tables.Row.{Row};
 ghost use Rattle.pql_model.specs.declared.tables.View.{View};
 
+use containers::{Sequence, Text};
 use ion_values::{Key, OutOfMemory, Value, Values};
-use lists::{Sequence, Text};
 use ql_types::DocId;
 use std::alloc::Global;
 

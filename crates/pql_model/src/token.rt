@@ -1,6 +1,6 @@
 use crate::ParseKind;
+use containers::{Sequence, Text};
 use ion_values::Value;
-use lists::{Sequence, Text};
 
 /// A symbol of one or two characters.
 #[derive(Clone, Copy, Debug, PartialEq, Eq)]

@@ -6,7 +6,7 @@ use Rattle.pql_model.specs.declared.statement.Setting.{Setting}
 use Rattle.pql_model.specs.Words.{is_symbol}
 use Rattle.pql_model.specs.Productions.{Fault, Production, Reader, advanced, choose, give, onward, past, refuse, token_of}
 use Rattle.pql_parse.specs.ClosedStatements.{item, items, items_behind, setting, settings, settings_behind}
-use Rattle.pql_grammar.proofs.Onward.{chosen, not_chosen}
+use Rattle.pql_expr_parser.proofs.Onward.{chosen, not_chosen}
 
 -- ---- items
 

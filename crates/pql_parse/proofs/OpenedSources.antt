@@ -13,8 +13,8 @@ use Rattle.pql_model.specs.Expressions.{constant_of, expression, free_path}
 use Rattle.pql_model.specs.Grammar as spec
 use Rattle.pql_model.specs.Grammar.{begins_history, conditioned, constant_or_not, source_of, table_or_path}
 use Rattle.pql_parse.specs.ClosedStatements.{alias, another, bounds, conditioned_source, const, end_bound, filter_of, from_clause, history_of, id_name, inner_joined, joined, plain_id_name, rooted_path, source, source_kind, source_there, sources}
-use Rattle.pql_grammar.specs.Closed.{name}
-use Rattle.pql_grammar.proofs.Onward.{same_cond, optional_opens, marked_opens}
+use Rattle.pql_expr_parser.specs.Closed.{name}
+use Rattle.pql_expr_parser.proofs.Onward.{same_cond, optional_opens, marked_opens}
 
 -- ---- constants and what may be left out
 

@@ -16,8 +16,8 @@ use Rattle.pql_model.specs.Expressions.{expression, free_path}
 use Rattle.pql_model.specs.Grammar as spec
 use Rattle.pql_model.specs.Grammar.{begins_step, item_role, of_one, source_of}
 use Rattle.pql_parse.specs.ClosedStatements.{alias, at_place, change, change_or_table, create, data_or_table, delete, ended, filter_of, filtered, from, from_clause, index, insert, inserted, insertion, item, item_value, items, plain_id_name, select, selection, setting, settings, statement, table, target, update}
-use Rattle.pql_grammar.specs.Closed.{name}
-use Rattle.pql_grammar.proofs.Onward.{made_then, same_cond, same_onward, optional_opens}
+use Rattle.pql_expr_parser.specs.Closed.{name}
+use Rattle.pql_expr_parser.proofs.Onward.{made_then, same_cond, same_onward, optional_opens}
 
 -- ---- items
 

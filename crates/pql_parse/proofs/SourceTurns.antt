@@ -8,7 +8,7 @@ use Rattle.pql_model.specs.Expressions.{expression}
 use Rattle.pql_model.specs.Grammar.{conditioned, source, sources_behind}
 use Rattle.pql_parse.specs.ClosedStatements as closed
 use Rattle.pql_parse.specs.Parts.{another, conditioned_source, some_source}
-use Rattle.pql_grammar.proofs.Onward.{cond_then, same_cond, onward_some, same_onward, then_onward}
+use Rattle.pql_expr_parser.proofs.Onward.{cond_then, same_cond, onward_some, same_onward, then_onward}
 
 -- how the sources go on behind these
 abbrev pub behind : ℕ → List Source → Option Source → Production (List Source)

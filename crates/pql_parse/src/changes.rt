@@ -1,12 +1,12 @@
 //! What a writing statement does to documents.
 ghost use Rattle.pql_parse.specs.ClosedStatements as closed;
-ghost use Rattle.pql_grammar.specs.Gives.{seen, Gives};
+ghost use Rattle.pql_expr_parser.specs.Gives.{seen, Gives};
 
-use lists::{Boxed, Sequence};
-use pql_grammar::answer::ParseAnswer;
-use pql_grammar::expressions::expression;
-use pql_grammar::parser::Parser;
-use pql_grammar::paths::free_path;
+use containers::{Boxed, Sequence};
+use pql_expr_parser::answer::ParseAnswer;
+use pql_expr_parser::expressions::expression;
+use pql_expr_parser::parser::Parser;
+use pql_expr_parser::paths::free_path;
 use pql_model::{Change, Expr, ParseKind, Path, Role, Setting, Settings};
 
 /// SET, INSERT or REMOVE.

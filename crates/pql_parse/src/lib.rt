@@ -9,4 +9,4 @@ mod sources;
 mod statements;
 
 pub use parsing::parse;
-pub use pql_grammar::answer::ParseAnswer;
+pub use pql_expr_parser::answer::ParseAnswer;

@@ -1,14 +1,14 @@
 ghost use Rattle.std.specs.Prelude.{◌≤◌, length};
 ghost use Rattle.pql_model.specs.Parse as spec;
-ghost use Rattle.pql_grammar.specs.Gives.{GivesWhole};
+ghost use Rattle.pql_expr_parser.specs.Gives.{GivesWhole};
 
 use crate::rules::{broken, sources_of};
 use crate::statements::whole_statement;
-use lists::Sequence;
-use pql_grammar::answer::ParseAnswer;
-use pql_grammar::parser::Parser;
+use containers::Sequence;
+use pql_expr_parser::answer::ParseAnswer;
+use pql_expr_parser::parser::Parser;
+use pql_lexer::tokens;
 use pql_model::{ParseKind, Place, Statement};
-use pql_tokens::tokens;
 use std::alloc::Global;
 
 /// How many bytes a text may have.

@@ -13,7 +13,7 @@ use crate::rules::aggregates::first_mixed;
 use crate::rules::meanings::{Meanings, is_target, meanings_of};
 use crate::rules::names::{Firsts, first_known, first_variables, is_before};
 use crate::rules::places::{is_path_at, seen_by};
-use lists::OutOfMemory;
+use containers::OutOfMemory;
 use pql_model::{Mark, ParseKind, Place, Role, Source, Statement};
 use std::alloc::Global;
 

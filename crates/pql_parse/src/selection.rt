@@ -2,13 +2,13 @@
 ghost use Rattle.std.specs.Prelude.{◌≡◌};
 ghost use Rattle.pql_model.specs.Grammar as spec;
 ghost use Rattle.pql_parse.specs.ClosedStatements as closed;
-ghost use Rattle.pql_grammar.specs.Gives.{seen, Gives};
+ghost use Rattle.pql_expr_parser.specs.Gives.{seen, Gives};
 
 use crate::sources::alias;
-use lists::{Boxed, Sequence};
-use pql_grammar::answer::ParseAnswer;
-use pql_grammar::expressions::expression;
-use pql_grammar::parser::Parser;
+use containers::{Boxed, Sequence};
+use pql_expr_parser::answer::ParseAnswer;
+use pql_expr_parser::expressions::expression;
+use pql_expr_parser::parser::Parser;
 use pql_model::{Expr, Mark, ParseKind, Place, Role, Select, SelectItem, SelectItems};
 
 /// A star, one value, or items.

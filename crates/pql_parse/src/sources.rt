@@ -2,14 +2,14 @@
 ghost use Rattle.std.specs.Prelude.{◌≡◌, ◌∷◌, ◌++◌, [], IfOk, OnOk, unwrap_or};
 ghost use Rattle.pql_model.specs.Grammar as spec;
 ghost use Rattle.pql_parse.specs.ClosedStatements as closed;
-ghost use Rattle.pql_grammar.specs.Gives.{seen, Gives};
+ghost use Rattle.pql_expr_parser.specs.Gives.{seen, Gives};
 ghost use Rattle.pql_parse.specs.Parts.{Knows};
 
-use lists::{Boxed, OutOfMemory, Sequence, Text};
-use pql_grammar::answer::ParseAnswer;
-use pql_grammar::expressions::expression;
-use pql_grammar::parser::Parser;
-use pql_grammar::paths::free_path;
+use containers::{Boxed, OutOfMemory, Sequence, Text};
+use pql_expr_parser::answer::ParseAnswer;
+use pql_expr_parser::expressions::expression;
+use pql_expr_parser::parser::Parser;
+use pql_expr_parser::paths::free_path;
 use pql_model::{
     Expr, FromClause, ParseKind, Path, Place, Role, Source, SourceKind, Sources, last_name,
 };

@@ -3,15 +3,15 @@ ghost use Rattle.std.specs.Prelude.{◌≡◌, IfOk};
 ghost use Rattle.pql_model.specs.Grammar as spec;
 ghost use Rattle.pql_model.specs.Productions.{token_of};
 ghost use Rattle.pql_parse.specs.ClosedStatements as closed;
-ghost use Rattle.pql_grammar.specs.Gives.{seen, Gives};
+ghost use Rattle.pql_expr_parser.specs.Gives.{seen, Gives};
 
 use crate::changes::change;
 use crate::selection::selection;
 use crate::sources::{alias, filter, from_clause, id_name, source_of};
-use lists::{Boxed, OutOfMemory, Sequence};
-use pql_grammar::answer::ParseAnswer;
-use pql_grammar::expressions::expression;
-use pql_grammar::parser::Parser;
+use containers::{Boxed, OutOfMemory, Sequence};
+use pql_expr_parser::answer::ParseAnswer;
+use pql_expr_parser::expressions::expression;
+use pql_expr_parser::parser::Parser;
 use pql_model::{Expr, FromClause, ParseKind, Source, SourceKind, Statement, Token};
 use std::alloc::Global;
 

@@ -5,8 +5,8 @@ ghost use Rattle.pql_model.specs.Lists.{field_in};
 
 use crate::aggregates::aggregate;
 use crate::made::made;
+use containers::{OutOfMemory, Sequence, Text};
 use ion_values::{Body, Field, Fields, Value};
-use lists::{OutOfMemory, Sequence, Text};
 use pql_expr::eval;
 use pql_model::{Evaluated, Expr, Scope, SelectItem, last_name};
 use std::alloc::Global;

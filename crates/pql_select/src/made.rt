@@ -2,8 +2,8 @@
 ghost use Rattle.std.specs.Prelude.{◌≡◌};
 ghost use Rattle.pql_model.specs.Made as spec;
 
+use containers::Sequence;
 use ion_values::{Body, Kind, Value};
-use lists::Sequence;
 use pql_model::Evaluated;
 use std::alloc::Global;
 

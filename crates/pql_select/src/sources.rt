@@ -3,8 +3,8 @@ ghost use Rattle.std.specs.Prelude.{◌≡◌, ◌++◌, IfOk, OnOk};
 ghost use Rattle.pql_model.specs.Answers as spec;
 
 use crate::made::made;
+use containers::{OutOfMemory, Sequence};
 use ion_values::{Body, Field, Fields, Value};
-use lists::{OutOfMemory, Sequence};
 use pql_model::{Bound, Scope};
 use std::alloc::Global;
 

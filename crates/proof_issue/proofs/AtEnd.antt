@@ -5,9 +5,9 @@ use Rattle.std.specs.Prelude.{IfSome, slice_get}
 use Rattle.ql_types.specs.declared.Hash32.{Hash32}
 use Rattle.pad_tree.specs.Paths.{path_of}
 use Rattle.ledger_model.specs.declared.block.Block.{Block}
-use Rattle.proof_forms.specs.declared.Proof.{Proof}
-use Rattle.proof_forms.specs.Issued.{block_hashes, proof_for}
-use Rattle.proof_forms.proofs.Ends.{all_hashes}
+use Rattle.proof_model.specs.declared.Proof.{Proof}
+use Rattle.proof_model.specs.Issued.{block_hashes, proof_for}
+use Rattle.proof_model.proofs.Ends.{all_hashes}
 use Rattle.proof_issue.specs.Parts.{proof_with}
 use Rattle.proof_issue.specs.Refusals.{refusal, refusal_at_end}
 use Rattle.proof_issue.specs.declared.NoSuch.TheVariants as none_such

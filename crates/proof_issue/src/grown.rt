@@ -1,13 +1,13 @@
 //! Proofs by a tree that grows with its journal.
 ghost use Rattle.std.specs.Prelude.{◌≡◌, ◌-◌, None, length, slice_get, IfOk, IfSome, MatchResult};
-ghost use Rattle.proof_forms.specs.Chained.{Chained};
-ghost use Rattle.proof_forms.specs.Issued.{block_hashes, proof_for, IsAccepted};
+ghost use Rattle.proof_model.specs.Chained.{Chained};
+ghost use Rattle.proof_model.specs.Issued.{block_hashes, proof_for, IsAccepted};
 ghost use Rattle.proof_issue.specs.Refusals as spec;
 
 use crate::{NoSuch, Wanted, block_of, proof_with};
 use ledger_model::{Block, Blocks};
 use pad_tree::Grow;
-use proof_forms::{Proof, proofs_verify};
+use proof_model::{Proof, proofs_verify};
 use std::alloc::Global;
 
 /// The block of the revision, where there is such a revision.

@@ -2,24 +2,24 @@
 #![tactic(auto)]
 
 ghost use Rattle.std.specs.Prelude.{◌≡◌, ◌<◌, true, List, ◌++◌, length, map, slice_get, IfOk, IfSome, MatchResult, OnOk};
-ghost use Rattle.hash_forms.specs.Serialize.{hash_of};
-ghost use Rattle.hash_forms.specs.Tree.{root_of};
+ghost use Rattle.hash_model.specs.Serialize.{hash_of};
+ghost use Rattle.hash_model.specs.Tree.{root_of};
 ghost use Rattle.ledger_model.specs.declared.block.Block.{Block};
 ghost use Rattle.ledger_model.specs.Damages.{has_hashes};
 ghost use Rattle.ledger_model.specs.Journal.{info_value};
-ghost use Rattle.proof_forms.specs.Chained.{Chained, IsLinked};
-ghost use Rattle.proof_forms.specs.Issued.{hashes_to, IsDigest, proof_for, IsAccepted};
+ghost use Rattle.proof_model.specs.Chained.{Chained, IsLinked};
+ghost use Rattle.proof_model.specs.Issued.{hashes_to, IsDigest, proof_for, IsAccepted};
 ghost use Rattle.proof_issue.specs.Parts as parts;
 ghost use Rattle.proof_issue.specs.Refusals as spec;
 
 mod grown;
 
+use containers::Sequence;
 pub use grown::prove_grown;
 use ion_values::OutOfMemory;
 use ledger_model::{Block, Blocks, Revision};
-use lists::Sequence;
 use pad_tree::{Hashes, path, root};
-use proof_forms::{Digest, Proof, proofs_verify};
+use proof_model::{Digest, Proof, proofs_verify};
 use ql_types::{Hash, Hash32};
 use std::alloc::Global;
 

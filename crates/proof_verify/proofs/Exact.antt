@@ -13,11 +13,11 @@ use Rattle.ledger_model.specs.Script.{or_else}
 use Rattle.ledger_model.specs.Seals.{revision_hash}
 use Rattle.ledger_model.specs.Follows.{same_address}
 use Rattle.ledger_model.specs.Damages.{same_hash}
-use Rattle.value_parts.proofs.Inverse.{left, right}
-use Rattle.proof_forms.specs.declared.Digest.{Digest}
-use Rattle.proof_forms.specs.declared.Proof.{Proof}
-use Rattle.proof_forms.specs.Verified.{path_length, root_by, Verified}
-use Rattle.proof_forms.proofs.Chains.{same_hash-is}
+use Rattle.value_codec.proofs.Inverse.{left, right}
+use Rattle.proof_model.specs.declared.Digest.{Digest}
+use Rattle.proof_model.specs.declared.Proof.{Proof}
+use Rattle.proof_model.specs.Verified.{path_length, root_by, Verified}
+use Rattle.proof_model.proofs.Chains.{same_hash-is}
 use Rattle.proof_verify.specs.declared.ProofFault.{ProofFault}
 use Rattle.proof_verify.specs.declared.ProofFault.TheVariants as fault
 use Rattle.proof_verify.specs.Faults.{strand_fault, address_fault, tip_fault, index_fault, length_fault, hash_fault, root_fault, place_fault, fault_of, IsRefused, FaultsAreExact}

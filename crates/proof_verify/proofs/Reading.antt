@@ -1,7 +1,7 @@
 -- What a value that can't be read spells.
 use Rattle.std.proofs.Common.{◌≡◌, ℕ, Bool, List, [], ◌∷◌, length, get_or, Option, Some, None, refl, sym, subst, arith}
 use Rattle.ion_values.specs.declared.value.Value.{Value}
-use Rattle.value_parts.proofs.Inverse.{Gets, Puts, cons}
+use Rattle.value_codec.proofs.Inverse.{Gets, Puts, cons}
 use Rattle.proof_verify.specs.declared.ProofFault.{ProofFault}
 use Rattle.proof_verify.specs.declared.ProofFault.TheVariants as fault
 use Rattle.proof_verify.specs.Bundles.{Spells, SpellsNone, IsUnread, IsUnreadable, IsNamed}

@@ -4,9 +4,9 @@ use Rattle.ion_values.specs.declared.value.Value.{Value}
 use Rattle.ledger_model.specs.declared.block.Revision.{Revision}
 use Rattle.ledger_model.specs.Journal.{revision_value}
 use Rattle.ledger_model.specs.Whole.{is_plain_revision}
-use Rattle.proof_forms.specs.declared.Digest.{Digest}
-use Rattle.proof_forms.specs.declared.Proof.{Proof}
-use Rattle.proof_forms.specs.ProofValues.{digest_value, proof_value, digest_fits, proof_fits}
+use Rattle.proof_model.specs.declared.Digest.{Digest}
+use Rattle.proof_model.specs.declared.Proof.{Proof}
+use Rattle.proof_model.specs.ProofValues.{digest_value, proof_value, digest_fits, proof_fits}
 use Rattle.proof_verify.specs.declared.ProofFault.{ProofFault}
 use Rattle.proof_verify.specs.declared.ProofFault.TheVariants as fault
 

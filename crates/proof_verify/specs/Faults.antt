@@ -6,9 +6,9 @@ use Rattle.ledger_model.specs.Script.{or_else}
 use Rattle.ledger_model.specs.Seals.{revision_hash}
 use Rattle.ledger_model.specs.Follows.{same_address}
 use Rattle.ledger_model.specs.Damages.{same_hash}
-use Rattle.proof_forms.specs.declared.Digest.{Digest}
-use Rattle.proof_forms.specs.declared.Proof.{Proof}
-use Rattle.proof_forms.specs.Verified.{path_length, root_by, Verified}
+use Rattle.proof_model.specs.declared.Digest.{Digest}
+use Rattle.proof_model.specs.declared.Proof.{Proof}
+use Rattle.proof_model.specs.Verified.{path_length, root_by, Verified}
 use Rattle.proof_verify.specs.declared.ProofFault.{ProofFault}
 use Rattle.proof_verify.specs.declared.ProofFault.TheVariants as fault
 

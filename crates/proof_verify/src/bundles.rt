@@ -6,7 +6,7 @@ use crate::ProofFault;
 use block_form::revision_in;
 use ion_values::{Text, Values};
 use ledger_model::Revision;
-use proof_forms::{Digest, Proof, digest_in, proof_in};
+use proof_model::{Digest, Proof, digest_in, proof_in};
 use std::alloc::Global;
 
 /// The fault that a field of a bundle can't be read.

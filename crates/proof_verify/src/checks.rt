@@ -1,9 +1,9 @@
 //! The checks of a proof, in order.
 ghost use Rattle.std.specs.Prelude.{◌≡◌, ◌+◌, ◌≤◌, length, IfOk, MatchResult};
-ghost use Rattle.hash_forms.specs.Tree.{height_of};
+ghost use Rattle.hash_model.specs.Tree.{height_of};
 ghost use Rattle.ledger_model.specs.Damages as damages;
 ghost use Rattle.ledger_model.specs.Follows as follows;
-ghost use Rattle.proof_forms.specs.Verified.{Verified, block_height, path_length, root_by};
+ghost use Rattle.proof_model.specs.Verified.{Verified, block_height, path_length, root_by};
 ghost use Rattle.proof_verify.specs.Faults as spec;
 ghost use Rattle.proof_verify.specs.Faults.{FaultsAreExact};
 
@@ -13,7 +13,7 @@ use ion_values::OutOfMemory;
 use ledger_model::Revision;
 use pad_tree::{fold_hashes, height};
 use pair_hash::dot_full;
-use proof_forms::{Digest, Proof};
+use proof_model::{Digest, Proof};
 use ql_types::{BlockAddress, Hash32};
 use std::alloc::Global;
 

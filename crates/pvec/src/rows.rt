@@ -2,7 +2,7 @@ ghost use Rattle.std.specs.Prelude.{◌≡◌, [], ◌∷◌, ◌+◌, ◌<◌, 
 ghost use Rattle.std.specs.Option.{option_copied};
 
 use crate::shared::Shared;
-use lists::{OutOfMemory, Sequence};
+use containers::{OutOfMemory, Sequence};
 use std::alloc::Global;
 
 /// Shared members in order.

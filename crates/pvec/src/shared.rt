@@ -1,7 +1,7 @@
 ghost use Rattle.std.specs.Prelude.{◌≡◌, IfOk};
 ghost use Rattle.std.specs.Arc.{arc_value};
 
-use lists::OutOfMemory;
+use containers::OutOfMemory;
 use std::alloc::Global;
 use std::marker::Model;
 use std::sync::Arc;

@@ -5,7 +5,7 @@ ghost use Rattle.pvec.specs.Rows.{joined, items_of, IsPacked, IsLevelled, IsGrow
 
 use crate::rows::{FULL, Row, member, pushed, replaced, single};
 use crate::shared::Shared;
-use lists::OutOfMemory;
+use containers::OutOfMemory;
 use std::alloc::Global;
 use std::marker::Model;
 use std::sync::Arc;

@@ -11,7 +11,7 @@ use Rattle.ion_values.specs.declared.value.Field.{Field}
 use Rattle.ion_values.specs.declared.value.Body.{Body, out-Body}
 use Rattle.ion_values.specs.declared.value.Body.TheOpen.{Body-F}
 use Rattle.ion_values.specs.declared.value.Body.TheFolds.{the_lemmas}
-use Rattle.ion_grammar.specs.Short.{is_short, field_short, all_short}
+use Rattle.ion_model.specs.Short.{is_short, field_short, all_short}
 use Rattle.ledger_model.specs.Values.{list_at}
 use Rattle.script_form.specs.Answers.{IsCountable, members_in}
 

@@ -8,7 +8,7 @@ use Rattle.jiff_core.proofs.CalendarLemmas.{days_from_civil-day_count, day_count
 use Rattle.jiff_core.proofs.SignedLemmas.{signed_arith, one_part, unsigned_abs-parts, int_div_euclid-parts, back_small}
 use Rattle.ion_values.proofs.Years.{first_day, day_after_last}
 use Rattle.ion_values.specs.Time.{is_in_years, is_date, is_clock, is_fraction, is_time, utc_minutes}
-use Rattle.ion_forms.specs.Timestamp.{timestamp_text}
+use Rattle.ion_model.specs.Timestamp.{timestamp_text}
 use borrow.Author.Tests as tests
 use Rattle.ledger_model.specs.Moment.{last_begun, year_of, month_of, day_of, time_at, time_on, minutes_of, moment_text, utc_time, day_number}
 

@@ -11,9 +11,9 @@ mod pieces;
 
 pub use answers::put_rows;
 pub use causes::put_cause;
+use containers::{OutOfMemory, Text};
 pub use items::put_item;
 use ledger_model::{Blocks, Outcomes, PlacedOutcome};
-use lists::{OutOfMemory, Text};
 use outcomes::put_outcome;
 pub use pieces::{put_blob, put_body, put_id, put_number, put_string};
 use std::alloc::Global;

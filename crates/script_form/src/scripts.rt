@@ -8,12 +8,12 @@ mod fields;
 mod jobs;
 mod statements;
 
+use containers::Sequence;
 use ion_values::{OutOfMemory, Value, Values};
 use jobs::{Stop, read_job};
 use ledger_model::{Job, Script, ScriptKind, Session};
-use lists::Sequence;
 use std::alloc::Global;
-use value_parts::takes::into_list;
+use value_codec::takes::into_list;
 
 /// Why no script is read.
 #[derive(Clone, Copy, Debug, PartialEq, Eq)]

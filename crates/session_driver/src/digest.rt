@@ -1,13 +1,13 @@
 //! The digest that a commit sends.
 ghost use Rattle.std.specs.Prelude.{◌≡◌, fold, IfOk};
-ghost use Rattle.hash_forms.specs.PairHash.{dot32};
-ghost use Rattle.hash_forms.specs.Serialize.{hash_of};
+ghost use Rattle.hash_model.specs.PairHash.{dot32};
+ghost use Rattle.hash_model.specs.Serialize.{hash_of};
 ghost use Rattle.ledger_model.specs.Journal.{string};
 ghost use Rattle.ledger_model.specs.CommitDigest.{first_digest, with_statement};
 
+use containers::Sequence;
 use ion_hash::hash;
 use ion_values::{Body, OutOfMemory, Text, Value};
-use lists::Sequence;
 use pair_hash::dot_full;
 use pql_model::id_text;
 use ql_types::{Hash32, TxId};

@@ -9,7 +9,7 @@ use crate::counted::Counted;
 use crate::law::{Board, Pass};
 use crate::plays::Next;
 use crate::steps::{gather, hand_back, level, note, open_table, seize, shut, take_out};
-use lists::OutOfMemory;
+use containers::OutOfMemory;
 use std::alloc::Global;
 use std::marker::Brand;
 use std::snapshot::Snapshot;

@@ -6,7 +6,7 @@ use Rattle.std.proofs.lemmas.Bool.{and_from}
 use Rattle.ion_values.specs.declared.value.Value.{Value}
 use Rattle.ion_values.specs.Within.{all_true, text_within, within}
 use Rattle.ledger_model.specs.declared.block.Said.{Said}
-use Rattle.made_blocks.specs.Makes.{said_within}
+use Rattle.laws_validity.specs.Makes.{said_within}
 
 one-by-one : (vs : List Value) → list_all within vs ≡ all_true (map within vs)
 one-by-one [] = refl

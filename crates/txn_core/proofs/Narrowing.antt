@@ -25,17 +25,17 @@ use Rattle.ledger_model.specs.Footprints.{Schemas}
 use Rattle.ledger_model.specs.State as state
 use Rattle.ledger_model.specs.State.{Recorded, State, active_table, draft_of}
 use Rattle.ledger_model.specs.Views.{latest, latest_from, put, row_of}
-use Rattle.frame_laws.specs.Covered.{data_in, document_shown, is_known, is_met_by, is_read, known_of, reads_of, table_of}
-use Rattle.frame_laws.specs.Meets.{meets_one}
-use Rattle.frame_laws.specs.Own.{IdsFit}
-use Rattle.frame_laws.specs.Restriction.{AllKnown, Covers, Reads, cut, read_with, rows_given}
-use Rattle.frame_laws.specs.Touches.{id_of}
-use Rattle.frame_laws.proofs.Combinations.{flat_map-same}
-use Rattle.frame_laws.proofs.Committed.{document, showing}
-use Rattle.frame_laws.proofs.Documents.{IsLatest, all_latest}
-use Rattle.frame_laws.proofs.Restricts.{restriction}
-use Rattle.frame_laws.proofs.Rows.{all_joined, here_at, is_plain, known_user, latest_fit, next_at, rows_fit, user_shown}
-use Rattle.frame_laws.proofs.Sources.{history_rows, ids_fit, known_showing, latest_fits}
+use Rattle.laws_footprint.specs.Covered.{data_in, document_shown, is_known, is_met_by, is_read, known_of, reads_of, table_of}
+use Rattle.laws_footprint.specs.Meets.{meets_one}
+use Rattle.laws_footprint.specs.Own.{IdsFit}
+use Rattle.laws_footprint.specs.Restriction.{AllKnown, Covers, Reads, cut, read_with, rows_given}
+use Rattle.laws_footprint.specs.Touches.{id_of}
+use Rattle.laws_footprint.proofs.Combinations.{flat_map-same}
+use Rattle.laws_footprint.proofs.Committed.{document, showing}
+use Rattle.laws_footprint.proofs.Documents.{IsLatest, all_latest}
+use Rattle.laws_footprint.proofs.Restricts.{restriction}
+use Rattle.laws_footprint.proofs.Rows.{all_joined, here_at, is_plain, known_user, latest_fit, next_at, rows_fit, user_shown}
+use Rattle.laws_footprint.proofs.Sources.{history_rows, ids_fit, known_showing, latest_fits}
 use Rattle.versions.specs.Live.{AllFit}
 use Rattle.versions.specs.Lookups.{is_among, those_among}
 use Rattle.view_rows.specs.Named.{AreNamed, rows_among}

@@ -14,7 +14,7 @@ use Rattle.ledger_model.specs.declared.block.Draft.{Draft}
 use Rattle.ledger_model.specs.declared.outcome.Item.{Item}
 use Rattle.ledger_model.specs.declared.outcome.Item.TheVariants as item
 use Rattle.ledger_model.specs.State.{State}
-use Rattle.frame_laws.specs.Meets.{meets, meets_one}
+use Rattle.laws_footprint.specs.Meets.{meets, meets_one}
 use Rattle.versions.specs.Indexes.{documents_with}
 use Rattle.versions.specs.Lookups.{is_among}
 use Rattle.view_rows.specs.Named.{AreNamed}

@@ -11,9 +11,9 @@ use Rattle.ledger_model.specs.declared.outcome.Item.{Item}
 use Rattle.ledger_model.specs.State as state
 use Rattle.ledger_model.specs.State.{State, draft_of}
 use Rattle.ledger_model.specs.Views.{latest, row_of}
-use Rattle.frame_laws.specs.Covered.{known_of, reads_of}
-use Rattle.frame_laws.specs.Meets.{meets, meets_one}
-use Rattle.frame_laws.specs.Restriction.{Covers}
+use Rattle.laws_footprint.specs.Covered.{known_of, reads_of}
+use Rattle.laws_footprint.specs.Meets.{meets, meets_one}
+use Rattle.laws_footprint.specs.Restriction.{Covers}
 use Rattle.versions.specs.Lookups.{is_among, those_among}
 use Rattle.view_rows.specs.Named.{AreNamed, rows_among}
 

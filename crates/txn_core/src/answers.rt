@@ -3,8 +3,8 @@ ghost use Rattle.std.specs.Prelude.{◌≡◌, IfOk};
 ghost use Rattle.ledger_model.specs.Values.{named_id};
 
 use crate::values::plain;
+use containers::Sequence;
 use ion_values::{Body, Field, OutOfMemory, Text, Value};
-use lists::Sequence;
 use pql_model::id_text;
 use std::alloc::Global;
 

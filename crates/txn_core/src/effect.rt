@@ -3,9 +3,9 @@ ghost use Rattle.std.specs.Prelude.{◌≡◌, []};
 ghost use Rattle.ledger_model.specs.Run.{nothing};
 ghost use Rattle.txn_core.specs.Effects.{effect_of};
 
+use containers::Sequence;
 use ion_values::Values;
 use ledger_model::{Drafts, Item, SchemaList};
-use lists::Sequence;
 use std::alloc::Global;
 
 /// What one statement does: its answer's rows, its changes of the schema, its revisions, how many ids it makes, and

@@ -3,9 +3,9 @@ ghost use Rattle.std.specs.Prelude.{◌≡◌, ◌<◌, ◌^◌, [], ◌∷◌, 
 ghost use Rattle.std.specs.Option.{IfSome};
 ghost use Rattle.txn_core.specs.Narrow.{AreEnough, DraftsFit, IsNarrow, MeetAlone};
 
+use containers::Sequence;
 use ion_values::OutOfMemory;
 use ledger_model::{Draft, Item};
-use lists::Sequence;
 use pql_model::DocIds;
 use ql_types::DocId;
 use std::alloc::Global;

@@ -2,7 +2,7 @@
 //! here but looking.
 ghost use Rattle.std.specs.Prelude.{IsTrue};
 ghost use Rattle.std.specs.List.{list_all};
-ghost use Rattle.made_blocks.specs.Makes.{IsWithinAll, change_within, content_within, draft_within, said_within};
+ghost use Rattle.laws_validity.specs.Makes.{IsWithinAll, change_within, content_within, draft_within, said_within};
 
 use crate::transaction::Txn;
 use ion_values::{is_within, text_is_within, values_are_within};

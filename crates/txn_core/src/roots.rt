@@ -6,9 +6,9 @@ ghost use Rattle.ledger_model.specs.Writing.{first_own, is_at, is_root, own_tabl
 ghost use Rattle.txn_core.specs.Writes.{writes};
 
 use crate::limits::reserved;
+use containers::Sequence;
 use ion_values::OutOfMemory;
 use ledger_model::Refusal;
-use lists::Sequence;
 use pql_model::{Change, Path, Resolved, Setting, Source, SourceKind};
 use std::alloc::Global;
 

@@ -9,9 +9,9 @@ ghost use Rattle.view_rows.specs.Seen.{drafts_seen};
 
 use crate::narrow::narrowed;
 use crate::views::{latest_over, latest_read};
+use containers::Sequence;
 use ion_values::{OutOfMemory, Text};
 use ledger_model::{Draft, Item};
-use lists::Sequence;
 use pql_model::{DocIds, Probe, Rows, Tables, View};
 use ql_types::TableId;
 use std::alloc::Global;

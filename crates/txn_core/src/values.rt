@@ -3,8 +3,8 @@ ghost use Rattle.std.specs.Prelude.{◌≡◌, []};
 ghost use Rattle.ion_values.specs.declared.value.Body.{out-Body};
 ghost use Rattle.ledger_model.specs.Values.{is_struct, kind_of};
 
+use containers::Sequence;
 use ion_values::{Body, Kind, Value};
-use lists::Sequence;
 use std::alloc::Global;
 
 /// The type of a value.

@@ -8,9 +8,9 @@ ghost use Rattle.txn_core.specs.Seen.{place_in};
 ghost use Rattle.versions.specs.Lookups.{those_among};
 ghost use Rattle.view_rows.specs.Seen.{drafts_seen, draft_seen};
 
+use containers::Sequence;
 use ion_values::OutOfMemory;
 use ledger_model::{Content, Draft, Drafts};
-use lists::Sequence;
 use pql_model::DocIds;
 use ql_types::DocId;
 use std::alloc::Global;

@@ -1,7 +1,7 @@
 //! Lists that versions share.
 ghost use Rattle.std.specs.Prelude.{◌≡◌, [], IfOk};
 
-use lists::{OutOfMemory, Sequence};
+use containers::{OutOfMemory, Sequence};
 use pvec::Shared;
 use std::alloc::Global;
 use std::marker::Model;

@@ -12,9 +12,9 @@ ghost use Rattle.versions.specs.Newest.{id_of, put};
 ghost use Rattle.versions.specs.Places.{ids_of, place_in, put_place};
 
 use crate::recorded::Recorded;
+use containers::Sequence;
 use index_post::Positions;
 use ion_values::OutOfMemory;
-use lists::Sequence;
 use pmap::PMap;
 use pvec::PVec;
 use ql_types::{DocId, Steps};

@@ -12,10 +12,10 @@ ghost use Rattle.versions.specs.Newest.{id_of, put};
 
 use crate::latest::{Latest, Spot};
 use crate::recorded::Recorded;
+use containers::Sequence;
 use index_post::{Filed, Positions};
 use ion_values::OutOfMemory;
 use ledger_model::Content;
-use lists::Sequence;
 use pql_model::DocIds;
 use ql_types::TableId;
 use std::alloc::Global;

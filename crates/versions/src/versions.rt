@@ -19,9 +19,9 @@ use crate::recorded::Recorded;
 use crate::tables::{
     Indexed, Table, active_count, active_table, has_index, index_count, name_of, tables_after,
 };
+use containers::Sequence;
 use ion_values::{Key, OutOfMemory, Text};
 use ledger_model::{Block, Revision};
-use lists::Sequence;
 use pql_model::DocIds;
 use ql_types::{DocId, TableId};
 use std::alloc::Global;

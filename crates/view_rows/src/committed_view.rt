@@ -10,9 +10,9 @@ ghost use Rattle.view_rows.specs.Shown.{live_rows};
 
 use crate::probes::meets;
 use block_form::revision_value;
+use containers::Sequence;
 use ion_values::OutOfMemory;
 use ledger_model::{Content, Row};
-use lists::Sequence;
 use pql_model::{Probe, Rows};
 use ql_types::{DocId, TableId};
 use std::alloc::Global;

@@ -10,9 +10,9 @@ ghost use Rattle.view_rows.specs.Shown.{AreNext, historic, is_shown_before};
 
 use crate::bounds::Bounds;
 use crate::committed_view::push_row;
+use containers::Sequence;
 use ion_values::OutOfMemory;
 use ledger_model::Content;
-use lists::Sequence;
 use pql_model::{Probe, Rows};
 use ql_types::{DocId, TableId};
 use std::alloc::Global;

@@ -4,9 +4,9 @@ ghost use Rattle.ledger_model.specs.State.{draft_of};
 ghost use Rattle.versions.specs.Held.{drafts_lent, recorded_of};
 ghost use Rattle.view_rows.specs.Seen.{draft_seen, drafts_seen};
 
+use containers::Sequence;
 use ion_values::OutOfMemory;
 use ledger_model::{Content, Draft};
-use lists::Sequence;
 use ql_types::{DocId, TableId};
 use std::alloc::Global;
 use versions::Recorded;

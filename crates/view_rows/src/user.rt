@@ -7,9 +7,9 @@ ghost use Rattle.view_rows.specs.Seen.{draft_seen, drafts_seen};
 
 use crate::probes::meets;
 use crate::seen::Seen;
+use containers::Sequence;
 use ion_values::{OutOfMemory, Value, copy};
 use ledger_model::{Content, Row};
-use lists::Sequence;
 use pql_model::{Probe, Rows};
 use ql_types::TableId;
 use std::alloc::Global;

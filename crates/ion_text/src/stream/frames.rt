@@ -1,9 +1,9 @@
 ghost use Rattle.std.specs.Prelude.{◌≡◌, OnOk};
-ghost use Rattle.ion_grammar.specs.Table as table;
+ghost use Rattle.ion_model.specs.Table as table;
 
-use ion_grammar::{Frame, Last, Members, Scalar, Token};
+use containers::Sequence;
+use ion_model::{Frame, Last, Members, Scalar, Token};
 use ion_values::{Body, Field, OutOfMemory, Text, Value};
-use lists::Sequence;
 use std::alloc::Global;
 use std::mem;
 

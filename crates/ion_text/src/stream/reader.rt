@@ -1,7 +1,7 @@
 ghost use Rattle.std.specs.Prelude.{◌≡◌, reverse};
-ghost use Rattle.ion_grammar.specs.Table as table;
+ghost use Rattle.ion_model.specs.Table as table;
 ghost use Rattle.ion_values.specs.declared.fault.IonKind.TheVariants as fault;
-ghost use Rattle.ion_grammar.specs.Read.{finish, finish_at, may_end, refused};
+ghost use Rattle.ion_model.specs.Read.{finish, finish_at, may_end, refused};
 ghost use Rattle.ion_text.specs.Stream.{open_of, Takes, Leaves, Gives};
 
 use crate::stream::ReadFault;
@@ -9,9 +9,9 @@ use crate::stream::frames::{
     annotate, body_of, is_symbol_table, may_begin, may_close, may_comma, may_name, opened, put,
     settle, settle_before,
 };
-use ion_grammar::{Frame, Last, Members, Token};
+use containers::Sequence;
+use ion_model::{Frame, Last, Members, Token};
 use ion_values::{Body, IonFault, IonKind, OutOfMemory, Text, Values};
-use lists::Sequence;
 use std::alloc::Global;
 use std::mem;
 

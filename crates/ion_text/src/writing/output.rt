@@ -1,10 +1,10 @@
 //! The text that values are written to.
 ghost use Rattle.std.specs.Prelude.{◌≡◌, [], ◌++◌, true, encode_utf8, IfOk, OnOk};
 ghost use Rattle.base64.specs.Rfc4648.{encode};
-ghost use Rattle.ion_forms.specs.Write.{base64_digits};
+ghost use Rattle.ion_model.specs.Write.{base64_digits};
 
 use base64::engine::general_purpose::STANDARD;
-use lists::{OutOfMemory, Text};
+use containers::{OutOfMemory, Text};
 use std::alloc::Global;
 use std::marker::Model;
 

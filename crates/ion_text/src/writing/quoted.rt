@@ -2,11 +2,11 @@
 ghost use Rattle.std.specs.Prelude.{◌≡◌, ◌++◌, ◌∷◌, [], ◌<◌, ◌≤◌, encode_utf8, OnOk};
 ghost use Rattle.std.specs.Char.{digit_char};
 ghost use Rattle.std.specs.List.{flat_map, list_all, list_any};
-ghost use Rattle.ion_forms.specs.Quoted.{begins_name, clob_escape, clob_text, continues_name, escape, hex_escape, is_bare, is_control, is_identifier, is_keyword, quoted, string_text, symbol_text};
+ghost use Rattle.ion_model.specs.Quoted.{begins_name, clob_escape, clob_text, continues_name, escape, hex_escape, is_bare, is_control, is_identifier, is_keyword, quoted, string_text, symbol_text};
 ghost use Rattle.ion_text.specs.Escapes.{has_escape};
 
 use super::output::Output;
-use lists::OutOfMemory;
+use containers::OutOfMemory;
 
 /// Puts an ASCII character.
 pub fn put_ascii(out: &mut Output, byte: u8) -> Result<(), OutOfMemory>

@@ -1,12 +1,12 @@
 //! Nulls, truths, numbers and blobs.
 ghost use Rattle.std.specs.Prelude.{◌≡◌, ◌++◌, OnOk};
 ghost use Rattle.std.specs.Fmt.{signed_decimal};
-ghost use Rattle.ion_forms.specs.Write.{blob_text, bool_text, decimal_text, null_text};
+ghost use Rattle.ion_model.specs.Write.{blob_text, bool_text, decimal_text, null_text};
 
 use super::output::Output;
+use containers::OutOfMemory;
 use ion_values::{Decimal, Kind};
 use itoa::Buffer;
-use lists::OutOfMemory;
 
 /// Puts the text of a null.
 pub fn put_null(out: &mut Output, kind: Kind) -> Result<(), OutOfMemory>

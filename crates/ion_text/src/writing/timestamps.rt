@@ -1,11 +1,11 @@
 //! Timestamps.
 ghost use Rattle.std.specs.Prelude.{◌≡◌, ◌++◌, ◌∷◌, [], OnOk};
-ghost use Rattle.ion_forms.specs.Timestamp.{clock_text, day_text, digit, first_digits, four_digits, fraction_text, minute_text, month_text, offset_text, second_text, timestamp_text, two_digits};
+ghost use Rattle.ion_model.specs.Timestamp.{clock_text, day_text, digit, first_digits, four_digits, fraction_text, minute_text, month_text, offset_text, second_text, timestamp_text, two_digits};
 
 use super::output::Output;
 use super::quoted::put_ascii;
+use containers::OutOfMemory;
 use ion_values::{IonTime, Precision, TimeParts};
-use lists::OutOfMemory;
 
 // The last digit of the number.
 fn put_digit(out: &mut Output, number: u32) -> Result<(), OutOfMemory>

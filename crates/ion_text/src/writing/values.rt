@@ -1,14 +1,14 @@
 //! Values with all that is in them.
 ghost use Rattle.std.specs.Prelude.{◌≡◌, ◌++◌, ◌<◌, map, IfOk, OnOk};
 ghost use Rattle.std.specs.List.{flat_map};
-ghost use Rattle.ion_forms.specs.Write.{annotation_text, body_text, field_text, joined, parted, value_text};
+ghost use Rattle.ion_model.specs.Write.{annotation_text, body_text, field_text, joined, parted, value_text};
 
 use super::output::Output;
 use super::quoted::{put_ascii, put_clob, put_string, put_symbol};
 use super::scalars::{put_blob, put_bool, put_decimal, put_int, put_null};
 use super::timestamps::put_timestamp;
+use containers::{OutOfMemory, Text};
 use ion_values::{Body, Field, Names, Value};
-use lists::{OutOfMemory, Text};
 use std::alloc::Global;
 
 /// The value's text, in the one spelling that values have when they are written.

@@ -1,5 +1,5 @@
 use Rattle.std.proofs.Common.{◌≡◌}
-use Rattle.frame_laws.specs.Touches.{conflict}
+use Rattle.laws_footprint.specs.Touches.{conflict}
 use Rattle.occ_check.proofs.Standing.{conflict_at}
 use Rattle.occ_check.proofs.first_conflict.Given as goal
 

@@ -1,6 +1,6 @@
 use Rattle.std.proofs.Common.{◌≡◌, ◌<◌, ℕ, get_or, length}
 use Rattle.ql_types.specs.declared.Hash32.{Hash32}
-use Rattle.hash_forms.specs.Tree.{node}
+use Rattle.hash_model.specs.Tree.{node}
 use Rattle.pad_tree.proofs.next_level.Given as goal
 
 abbrev pub invariant-places : goal.invariant-places

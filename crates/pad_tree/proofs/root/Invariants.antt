@@ -1,5 +1,5 @@
 use Rattle.std.proofs.Common.{◌≡◌, vec_len}
-use Rattle.hash_forms.specs.Tree.{root_over, root_of}
+use Rattle.hash_model.specs.Tree.{root_over, root_of}
 use Rattle.pad_tree.proofs.root.Given as goal
 
 abbrev pub invariant-levels : goal.invariant-levels

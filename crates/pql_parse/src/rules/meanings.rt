@@ -3,7 +3,7 @@ ghost use Rattle.std.specs.Prelude.{◌≡◌, IfOk};
 ghost use Rattle.pql_model.specs.Rules as spec;
 ghost use Rattle.pql_parse.specs.Ruled.{HasMeanings, Variable, is_meant, told};
 
-use lists::OutOfMemory;
+use containers::OutOfMemory;
 use pql_model::{Source, SourceKind};
 use std::alloc::Global;
 use std::collections::BTreeMap;

@@ -2,7 +2,7 @@
 ghost use Rattle.std.specs.Prelude.{◌≡◌, IfOk};
 ghost use Rattle.pql_parse.specs.Ruled.{HasFirsts, found, has_name, has_variable, is_below};
 
-use lists::OutOfMemory;
+use containers::OutOfMemory;
 use pql_model::Source;
 use std::alloc::Global;
 use std::collections::BTreeMap;

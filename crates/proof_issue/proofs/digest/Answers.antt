@@ -1,6 +1,6 @@
 use Rattle.std.proofs.Common.{rules}
 use Rattle.std.specs.Prelude.{slice_get, Some, ◌≡◌}
-use Rattle.proof_forms.proofs.Chains.{place_is, strand_is}
+use Rattle.proof_model.proofs.Chains.{place_is, strand_is}
 use Rattle.proof_issue.proofs.digest.Goals as goal
 
 pub returns-clause-digest : goal.returns-clause-digest

@@ -2,9 +2,9 @@ use Rattle.std.proofs.Common.{◌≡◌, ◌∙◌, sym}
 use Rattle.std.proofs.lemmas.Option.{get_or_from_slice_get}
 use Rattle.ql_types.specs.declared.Hash32.{Hash32}
 use Rattle.ql_types.specs.declared.Hash.TheVariants.{Empty, Full}
-use Rattle.hash_forms.specs.Serialize.{hash_of}
+use Rattle.hash_model.specs.Serialize.{hash_of}
 use Rattle.ledger_model.specs.Journal.{info_value}
-use Rattle.proof_forms.proofs.Chains.{info_entry}
+use Rattle.proof_model.proofs.Chains.{info_entry}
 use Rattle.proof_issue.proofs.info_hash.Goals as goal
 
 same : (a b : Hash32) → Full a ≡ Full b → a ≡ b

@@ -1,7 +1,7 @@
 use Rattle.std.proofs.Common.{◌∙◌, sym, ap, subst, take}
-use Rattle.proof_forms.specs.declared.Proof.{Proof}
-use Rattle.proof_forms.specs.Issued.{IsAccepted, proof_for}
-use Rattle.proof_forms.proofs.Chains.{linked}
+use Rattle.proof_model.specs.declared.Proof.{Proof}
+use Rattle.proof_model.specs.Issued.{IsAccepted, proof_for}
+use Rattle.proof_model.proofs.Chains.{linked}
 use Rattle.proof_issue.proofs.prove.Goals as goal
 
 pub proof_of-requires-clause-linked : goal.proof_of-requires-clause-linked

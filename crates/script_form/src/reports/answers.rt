@@ -1,13 +1,13 @@
 //! The answers of a committed transaction.
 ghost use Rattle.std.specs.Prelude.{◌≡◌, ◌++◌, map, slice_get, OnOk};
-ghost use Rattle.ion_forms.specs.Write.{joined, value_text};
+ghost use Rattle.ion_model.specs.Write.{joined, value_text};
 ghost use Rattle.ledger_model.specs.Journal.{said_in};
 ghost use Rattle.ledger_model.specs.Report.{answer_text, answers_text};
 
+use containers::{OutOfMemory, Text};
 use ion_text::write;
 use ion_values::Value;
 use ledger_model::{Blocks, Said, Told};
-use lists::{OutOfMemory, Text};
 use std::alloc::Global;
 
 /// Puts the answers of the block of this number.

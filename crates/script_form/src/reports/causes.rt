@@ -3,9 +3,9 @@ ghost use Rattle.std.specs.Prelude.{◌≡◌, ◌++◌, OnOk};
 ghost use Rattle.ledger_model.specs.CauseText.{cause_text, kind_name, not_a_document_text, parameter_count_text, parse_kind_name};
 
 use super::pieces::{put_counted, put_named};
+use containers::{OutOfMemory, Text};
 use ion_values::Kind;
 use ledger_model::{ParseKind, Refusal};
-use lists::{OutOfMemory, Text};
 use std::alloc::Global;
 
 /// Puts the code and the fields of a refusal.

@@ -4,9 +4,9 @@ ghost use Rattle.ledger_model.specs.ItemText.{doc_text, index_value_text, item_t
 
 use super::moments::put_moment;
 use super::pieces::{put_blob, put_bool, put_clob, put_identified, put_int, put_named, put_string};
+use containers::{OutOfMemory, Text};
 use ion_values::Key;
 use ledger_model::Item;
-use lists::{OutOfMemory, Text};
 use ql_types::{DocId, TableId};
 use std::alloc::Global;
 

@@ -3,12 +3,12 @@ ghost use Rattle.std.specs.Prelude.{◌≡◌, ◌++◌, ◌<◌, ◌≤ℤ◌, 
 ghost use Rattle.jiff_core.specs.Calendar.{days_from_civil};
 ghost use Rattle.ion_values.specs.Time.{IsTime, is_in_years};
 ghost use Rattle.ledger_model.specs.Moment.{day_number, minutes_of, moment_text, nanos_of_day, time_at, time_on, utc_time};
-ghost use Rattle.ion_forms.specs.Timestamp.{timestamp_text};
+ghost use Rattle.ion_model.specs.Timestamp.{timestamp_text};
 
 use super::pieces::{put_body, put_int};
+use containers::{OutOfMemory, Text};
 use ion_values::{Body, IonTime, Precision, TimeParts};
 use jiff_core::civil::Date;
-use lists::{OutOfMemory, Text};
 use std::alloc::Global;
 
 /// A day in billionths of a second.

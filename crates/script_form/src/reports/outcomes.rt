@@ -6,8 +6,8 @@ use super::answers::put_block;
 use super::causes::put_cause;
 use super::items::put_item;
 use super::pieces::{put_blob, put_counted, put_id, put_number};
+use containers::{OutOfMemory, Text};
 use ledger_model::{Blocks, Named, Outcome, Refusal};
-use lists::{OutOfMemory, Text};
 use ql_types::{Hash32, TxId};
 use std::alloc::Global;
 

@@ -1,12 +1,12 @@
 //! Numbers, ids, texts and bytes.
 ghost use Rattle.std.specs.Prelude.{◌≡◌, ◌++◌, OnOk};
 ghost use Rattle.std.specs.Fmt.{decimal, signed_decimal};
-ghost use Rattle.ion_forms.specs.Write.{blob_text, body_text, bool_text, clob_text, string_text};
+ghost use Rattle.ion_model.specs.Write.{blob_text, body_text, bool_text, clob_text, string_text};
 ghost use Rattle.ledger_model.specs.ItemText.{quoted_id};
 
+use containers::{OutOfMemory, Sequence, Text};
 use ion_text::write;
 use ion_values::{Body, Value};
-use lists::{OutOfMemory, Sequence, Text};
 use ql_types::id_digits;
 use std::alloc::Global;
 

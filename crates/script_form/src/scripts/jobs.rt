@@ -7,7 +7,7 @@ use super::fields::{abort_said, digest_said, has_unknown, repeats, retries_said,
 use ion_values::{Fields, OutOfMemory, Value};
 use ledger_model::{Job, ScriptKind};
 use std::alloc::Global;
-use value_parts::takes::into_fields;
+use value_codec::takes::into_fields;
 
 /// Why no transaction is read.
 #[derive(Clone, Copy, Debug, PartialEq, Eq)]

@@ -3,11 +3,11 @@ ghost use Rattle.std.specs.Prelude.{◌≡◌, IfOk};
 ghost use Rattle.ledger_model.specs.Script.{each, in_fields, in_two, request_of};
 ghost use Rattle.ledger_model.specs.ReadScript.{statements_in};
 
+use containers::Sequence;
 use ion_values::{Body, Field, Fields, OutOfMemory, Value, Values};
 use ledger_model::{Asked, Request};
-use lists::Sequence;
 use std::alloc::Global;
-use value_parts::takes::{into_list, into_string};
+use value_codec::takes::{into_list, into_string};
 
 /// The statement of which `f` is the text and `g` the parameters.
 fn in_fields(f: Field, g: Field) -> Option<Request>

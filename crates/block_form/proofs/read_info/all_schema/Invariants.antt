@@ -1,7 +1,7 @@
 use Rattle.std.proofs.Common.{◌≡◌, length, drop}
 use Rattle.ledger_model.specs.Script.{each}
 use Rattle.block_form.specs.ReadBack.{schema_in}
-use Rattle.value_parts.proofs.Each.{behind}
+use Rattle.value_codec.proofs.Each.{behind}
 use Rattle.block_form.proofs.read_info.all_schema.Given as goal
 
 -- what was read so far and what the rest gives is what all give

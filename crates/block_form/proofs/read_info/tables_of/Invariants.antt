@@ -1,6 +1,6 @@
 use Rattle.std.proofs.Common.{◌≡◌, drop}
 use Rattle.block_form.specs.ReadBack.{tables_of}
-use Rattle.value_parts.proofs.Each.{behind}
+use Rattle.value_codec.proofs.Each.{behind}
 use Rattle.block_form.proofs.read_info.tables_of.Given as goal
 
 -- what was read so far and what the rest gives is what all give

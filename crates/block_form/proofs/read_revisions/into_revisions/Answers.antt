@@ -3,7 +3,7 @@ use Rattle.std.proofs.lemmas.Iterator.Adapters.{YieldsList-from_vec}
 use Rattle.std.proofs.lemmas.Iterator.Consumers.{YieldsList-end, YieldsList-turn}
 use Rattle.ledger_model.specs.Script.{each}
 use Rattle.block_form.specs.ReadBack.{revision_in}
-use Rattle.value_parts.proofs.Each.{behind, each_all, each_more, each_none, start}
+use Rattle.value_codec.proofs.Each.{behind, each_all, each_more, each_none, start}
 use Rattle.block_form.proofs.read_revisions.into_revisions.Goals as goal
 
 pub revisions-init : goal.revisions-init

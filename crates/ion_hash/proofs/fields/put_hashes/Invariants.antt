@@ -1,5 +1,5 @@
 use Rattle.std.proofs.Common.{◌≡◌, ◌++◌, take}
-use Rattle.hash_forms.specs.Serialize.{escape, joined}
+use Rattle.hash_model.specs.Serialize.{escape, joined}
 use Rattle.ion_hash.proofs.fields.put_hashes.Given as goal
 
 abbrev pub invariant-loop-hash : goal.invariant-loop-hash

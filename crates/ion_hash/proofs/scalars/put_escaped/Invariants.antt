@@ -1,5 +1,5 @@
 use Rattle.std.proofs.Common.{◌++◌, length}
-use Rattle.hash_forms.specs.Serialize.{escape}
+use Rattle.hash_model.specs.Serialize.{escape}
 use Rattle.ion_hash.proofs.Plain.{Puts}
 use Rattle.ion_hash.proofs.scalars.put_escaped.Given as goal
 

@@ -1,5 +1,5 @@
 use Rattle.std.proofs.Common.{◌≡◌, ◌++◌, map, take}
-use Rattle.hash_forms.specs.Serialize.{field_hash, joined, serialize}
+use Rattle.hash_model.specs.Serialize.{field_hash, joined, serialize}
 use Rattle.ion_hash.proofs.values.+serialize.Given as goal
 
 abbrev pub invariant-put_values-loop-value : goal.invariant-put_values-loop-value

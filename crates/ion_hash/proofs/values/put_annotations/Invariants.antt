@@ -1,6 +1,6 @@
 use Rattle.std.proofs.Common.{◌≡◌, ◌++◌, take}
 use Rattle.std.specs.List.{flat_map}
-use Rattle.hash_forms.specs.Serialize.{symbol_bytes}
+use Rattle.hash_model.specs.Serialize.{symbol_bytes}
 use Rattle.ion_hash.proofs.values.put_annotations.Given as goal
 
 abbrev pub invariant-loop-name : goal.invariant-loop-name

@@ -1,7 +1,7 @@
 -- A text that is UTF-8 is read from its first byte on.
 use Rattle.std.proofs.Common.{◌∙◌}
 use Rattle.std.proofs.lemmas.Bool.{cond-true}
-use Rattle.ion_grammar.specs.Read.{read_text}
+use Rattle.ion_model.specs.Read.{read_text}
 use Rattle.ion_text.proofs.ReadBack.{run_back}
 use Rattle.ion_text.proofs.ValueUtf8.{written_is_utf8}
 use Rattle.ion_text.proofs.laws.written_is_read.Goals as goal

@@ -1,5 +1,5 @@
 use Rattle.std.proofs.Common.{length, subst}
-use Rattle.ion_grammar.proofs.Lengths.{ShortAnswer, utf8_short}
+use Rattle.ion_model.proofs.Lengths.{ShortAnswer, utf8_short}
 use Rattle.ion_text.proofs.stream.read_stream.Goals as goal
 
 pub returns-clause-short : goal.returns-clause-short

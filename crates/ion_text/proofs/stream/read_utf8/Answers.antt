@@ -1,7 +1,7 @@
 use Rattle.std.proofs.Common.{◌≡◌, ◌≤◌, ◌+◌, Err, ap, ◌∙◌, sym, subst, length, arith}
-use Rattle.ion_grammar.specs.Lex.{lex}
-use Rattle.ion_grammar.specs.Table.{accept}
-use Rattle.ion_grammar.specs.Read.{Answer, go_on, refused}
+use Rattle.ion_model.specs.Lex.{lex}
+use Rattle.ion_model.specs.Table.{accept}
+use Rattle.ion_model.specs.Read.{Answer, go_on, refused}
 use Rattle.ion_text.specs.Stream.{open_of, Gives}
 use Rattle.ion_text.specs.declared.stream.ReadFault.{ReadFault}
 use Rattle.ion_text.proofs.Passed.{behind, turned, passed}

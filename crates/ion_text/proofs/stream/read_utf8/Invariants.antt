@@ -1,5 +1,5 @@
 use Rattle.std.proofs.Common.{◌≡◌, ◌≤◌, ◌-◌, drop, length}
-use Rattle.ion_grammar.specs.Read.{run, read_utf8}
+use Rattle.ion_model.specs.Read.{run, read_utf8}
 use Rattle.ion_text.specs.Stream.{open_of}
 use Rattle.ion_text.proofs.stream.read_utf8.Given as goal
 

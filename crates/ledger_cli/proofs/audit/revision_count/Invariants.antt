@@ -1,5 +1,5 @@
 use Rattle.std.proofs.Common.{◌≡◌, ◌+◌, ◌*◌, ◌≤◌, drop}
-use Rattle.command_claims.specs.Outputs.{revision_count}
+use Rattle.cli_model.specs.Outputs.{revision_count}
 use Rattle.ledger_cli.proofs.audit.revision_count.Given as goal
 
 -- those of the blocks in front are counted, fewer than 2^64 for each

@@ -1,5 +1,5 @@
 use Rattle.std.proofs.Common.{◌∙◌}
-use Rattle.entry_laws.specs.Calls.{span}
+use Rattle.laws_history.specs.Calls.{span}
 use Rattle.ledger_cli.specs.declared.ends.Status.TheVariants as status
 use Rattle.ledger_cli.proofs.Ending.{made_line, unmade_line}
 use Rattle.ledger_cli.proofs.ends.end_by_blocks.Goals as goal

@@ -1,6 +1,6 @@
 use Rattle.std.proofs.Common.{Err, codes, sym, subst, ap}
-use Rattle.entry_laws.specs.Calls.{span}
-use Rattle.command_claims.specs.Lines.{faults_line}
+use Rattle.laws_history.specs.Calls.{span}
+use Rattle.cli_model.specs.Lines.{faults_line}
 use Rattle.ledger_cli.specs.declared.ends.Status.TheVariants as status
 use Rattle.ledger_cli.specs.declared.stop.Stop.{Stop}
 use Rattle.ledger_cli.specs.Ends.{EndsBy, count_line}

@@ -1,4 +1,4 @@
-use Rattle.entry_laws.specs.Calls.{span}
+use Rattle.laws_history.specs.Calls.{span}
 use Rattle.ledger_cli.proofs.Ending.{wanted_line}
 use Rattle.ledger_cli.proofs.ends.end_by_want.Goals as goal
 

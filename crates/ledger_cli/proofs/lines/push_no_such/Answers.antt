@@ -2,7 +2,7 @@ use Rattle.std.proofs.Common.{◌≡◌, ◌∙◌, ◌++◌, ℕ, ap₂, sym, s
 use Rattle.std.specs.Prelude.{codes}
 use Rattle.std.specs.Fmt.{decimal}
 use Rattle.proof_issue.specs.declared.NoSuch.{NoSuch}
-use Rattle.command_claims.specs.Lines.{no_such_text}
+use Rattle.cli_model.specs.Lines.{no_such_text}
 use Rattle.ledger_cli.proofs.lines.push_no_such.Goals as goal
 
 pub returns-in_ok-push_two-in-Block : goal.returns-in_ok-push_two-in-Block

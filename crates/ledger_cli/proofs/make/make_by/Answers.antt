@@ -1,5 +1,5 @@
 use Rattle.std.proofs.Common.{ℕ, subst}
-use Rattle.entry_laws.specs.Calls.{span}
+use Rattle.laws_history.specs.Calls.{span}
 use Rattle.ledger_cli.specs.Making.{Makes}
 use Rattle.ledger_cli.specs.Runs.{HasLoaded}
 use Rattle.id_seed.specs.Seed.{mask_of}

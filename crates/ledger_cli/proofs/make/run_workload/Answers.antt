@@ -1,7 +1,7 @@
 use Rattle.std.proofs.Common.{List, refl, subst, inr}
 use Rattle.ledger_model.specs.Script.{all_placed}
 use Rattle.ledger_model.specs.declared.script.Job.{Job}
-use Rattle.ledger_first.specs.FirstRuns.{HaveAllRun}
+use Rattle.run_after_setup.specs.FirstRuns.{HaveAllRun}
 use Rattle.ledger_cli.specs.Making.{at_first}
 use Rattle.ledger_cli.proofs.Making.{makes_all}
 use Rattle.ledger_cli.proofs.make.run_workload.Goals as goal

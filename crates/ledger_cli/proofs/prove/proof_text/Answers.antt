@@ -2,10 +2,10 @@ use Rattle.std.proofs.Common.{◌≡◌, ◌∙◌, List, Option, Some, ap, sym,
 use Rattle.std.specs.Prelude.{option_and_then, option_copied, slice_get, IfSome}
 use Rattle.ledger_model.specs.declared.block.Block.{Block}
 use Rattle.ledger_model.specs.declared.block.Revision.{Revision}
-use Rattle.proof_forms.specs.Issued.{proof_for}
-use Rattle.command_claims.specs.Journals.{tip_in}
-use Rattle.command_claims.specs.Outputs.{bundle_text}
-use Rattle.command_claims.proofs.Addresses.{addresses}
+use Rattle.proof_model.specs.Issued.{proof_for}
+use Rattle.cli_model.specs.Journals.{tip_in}
+use Rattle.cli_model.specs.Outputs.{bundle_text}
+use Rattle.cli_model.proofs.Addresses.{addresses}
 use Rattle.ledger_cli.proofs.Proving.{found, found_some, not_none, same_revision}
 use Rattle.ledger_cli.proofs.prove.proof_text.Goals as goal
 

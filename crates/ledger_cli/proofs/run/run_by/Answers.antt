@@ -2,8 +2,8 @@ use Rattle.std.proofs.Common.{◌≡◌, ◌∙◌, ◌⊎◌, sym, ap, subst, i
 use Rattle.std.specs.Prelude.{IfOk}
 use Rattle.ledger_model.specs.Script.{all_placed}
 use Rattle.outside.specs.Told.{held}
-use Rattle.entry_laws.specs.Calls.{span}
-use Rattle.command_claims.specs.Runs.{Terms, IsReportOf, HoldsRun}
+use Rattle.laws_history.specs.Calls.{span}
+use Rattle.cli_model.specs.Runs.{Terms, IsReportOf, HoldsRun}
 use Rattle.ledger_cli.specs.Clocks.{AreCovered, GoesOn, clock_told}
 use Rattle.ledger_cli.specs.Runs.{HasLoaded}
 use Rattle.ledger_cli.specs.Stops.{load_stop}

@@ -2,7 +2,7 @@ use Rattle.std.proofs.Common.{List, subst}
 use Rattle.ledger_model.specs.Script.{all_placed}
 use Rattle.ledger_model.specs.declared.block.Block.{Block}
 use Rattle.ledger_model.specs.declared.script.Job.{Job}
-use Rattle.entry_laws.proofs.Places.{InOrder-all_placed}
+use Rattle.laws_history.proofs.Places.{InOrder-all_placed}
 use Rattle.ledger_cli.specs.Runs.{Reports, Settles}
 use Rattle.ledger_cli.proofs.Loaded.{done_by, goes_at, left_at, stop_at}
 use Rattle.ledger_cli.proofs.run.run_on.Goals as goal

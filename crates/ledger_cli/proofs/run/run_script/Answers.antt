@@ -1,7 +1,7 @@
 use Rattle.std.proofs.Common.{List, ℕ, None, Some, refl, to_z, of_z, to_z-of_z, FitsSigned, w64, rules}
 use Rattle.ledger_model.specs.Script.{all_placed}
-use Rattle.entry_laws.specs.Calls.{span}
-use Rattle.command_claims.specs.Runs.{Terms, IsReportOf}
+use Rattle.laws_history.specs.Calls.{span}
+use Rattle.cli_model.specs.Runs.{Terms, IsReportOf}
 use Rattle.ledger_cli.specs.Clocks.{AreCovered, ClockTold, IsSoOnTerms, clock_told}
 use Rattle.ledger_cli.proofs.Asked.{Leaves, done_so, left_as, so_at_same, so_by_clock}
 use Rattle.ledger_cli.proofs.Clocks.{extends_same}

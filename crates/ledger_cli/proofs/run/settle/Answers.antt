@@ -1,7 +1,7 @@
 use Rattle.std.proofs.Common.{ap, sym, refl, subst}
 use Rattle.ledger_cli.specs.declared.stop.Stop.{Stop}
 use Rattle.ledger_cli.specs.Stops.{IsTailStop}
-use Rattle.entry_laws.specs.Calls.{span}
+use Rattle.laws_history.specs.Calls.{span}
 use Rattle.ledger_cli.proofs.Leaving.{synced_by}
 use Rattle.ledger_cli.proofs.Loaded.{settle_stops}
 use Rattle.ledger_cli.proofs.run.settle.Goals as goal

@@ -2,9 +2,9 @@ use Rattle.std.proofs.Common.{◌≡◌, ◌∙◌, ℕ, ap, sym, subst, arith, 
 use Rattle.std.specs.Prelude.{IfSome}
 use Rattle.std.specs.Int.{cast_unsigned}
 use Rattle.id_seed.specs.Seed.{mask_of}
-use Rattle.command_words.specs.declared.IdSource.{IdSource}
-use Rattle.entry_laws.specs.Calls.{span}
-use Rattle.command_claims.specs.Clocks.{GaveFirst, given_by, mask_between, seed_of}
+use Rattle.cli_args.specs.declared.IdSource.{IdSource}
+use Rattle.laws_history.specs.Calls.{span}
+use Rattle.cli_model.specs.Clocks.{GaveFirst, given_by, mask_between, seed_of}
 use Rattle.ledger_cli.proofs.Clocks.{first_answered, first_given}
 use Rattle.ledger_cli.proofs.times.mask_by.Goals as goal
 

@@ -1,7 +1,7 @@
 use Rattle.std.proofs.Common.{◌≡◌, false, None, Some, Option, map, refl, subst}
 use Rattle.std.specs.Prelude.{string_bytes}
-use Rattle.command_words.specs.declared.Command.{Command}
-use Rattle.command_claims.specs.Top.{asks_clock}
+use Rattle.cli_args.specs.declared.Command.{Command}
+use Rattle.cli_model.specs.Top.{asks_clock}
 use Rattle.ledger_cli.proofs.Ending.{does_so, keeps_all, refused_ends, takes_none, wanted_ends}
 use Rattle.ledger_cli.proofs.Words.{has_workers}
 use Rattle.ledger_cli.proofs.top.do_asked.Goals as goal

@@ -1,8 +1,8 @@
 use Rattle.std.proofs.Common.{List, subst, sym}
 use Rattle.ledger_model.specs.declared.block.Block.{Block}
-use Rattle.entry_laws.specs.Calls.{span}
-use Rattle.command_claims.specs.Journals.{Reads}
-use Rattle.command_claims.specs.Journals as asks
+use Rattle.laws_history.specs.Calls.{span}
+use Rattle.cli_model.specs.Journals.{Reads}
+use Rattle.cli_model.specs.Journals as asks
 use Rattle.ledger_cli.proofs.Answering.{answered_so, unread_so}
 use Rattle.ledger_cli.proofs.work.audit.Goals as goal
 

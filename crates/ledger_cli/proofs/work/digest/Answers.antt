@@ -1,5 +1,5 @@
-use Rattle.entry_laws.specs.Calls.{span}
-use Rattle.command_claims.specs.Journals as asks
+use Rattle.laws_history.specs.Calls.{span}
+use Rattle.cli_model.specs.Journals as asks
 use Rattle.ledger_cli.proofs.Answering.{answered_so, unread_so}
 use Rattle.ledger_cli.proofs.work.digest.Goals as goal
 

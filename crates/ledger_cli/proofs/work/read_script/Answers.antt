@@ -1,7 +1,7 @@
 use Rattle.std.proofs.Common.{◌≡◌, ℕ, List, Result, Err, sym, ap, subst, rules}
 use Rattle.ledger_model.specs.declared.script.Job.{Job}
 use Rattle.ledger_model.specs.Judging.{judged}
-use Rattle.entry_laws.specs.Calls.{span}
+use Rattle.laws_history.specs.Calls.{span}
 use Rattle.ledger_cli.specs.declared.stop.Stop.{Stop}
 use Rattle.ledger_cli.specs.Inputs.{ReadsScript}
 use Rattle.ledger_cli.specs.Judgements.{JudgesTo}

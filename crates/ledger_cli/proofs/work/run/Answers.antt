@@ -1,6 +1,6 @@
 use Rattle.std.proofs.Common.{◌≡◌, refl}
-use Rattle.entry_laws.specs.Calls.{span}
-use Rattle.command_claims.specs.Calls.{outside}
+use Rattle.laws_history.specs.Calls.{span}
+use Rattle.cli_model.specs.Calls.{outside}
 use Rattle.ledger_cli.proofs.Asked.{keeps_run, unasked, works_run, works_unread}
 use Rattle.ledger_cli.proofs.Ending.{keeps_run_all}
 use Rattle.ledger_cli.proofs.work.run.Goals as goal

@@ -1,8 +1,8 @@
 use Rattle.std.proofs.Common.{◌≡◌, Some, refl, sym, subst}
-use Rattle.command_words.specs.declared.Command.{Command}
-use Rattle.entry_laws.specs.Calls.{span}
-use Rattle.command_claims.specs.Calls.{outside}
-use Rattle.command_claims.specs.Top.{Keeps}
+use Rattle.cli_args.specs.declared.Command.{Command}
+use Rattle.laws_history.specs.Calls.{span}
+use Rattle.cli_model.specs.Calls.{outside}
+use Rattle.cli_model.specs.Top.{Keeps}
 use Rattle.ledger_cli.specs.Ends.{Works}
 use Rattle.ledger_cli.proofs.Answering.{works_digest, works_proof, works_counts}
 use Rattle.ledger_cli.proofs.Ending.{takes_none}

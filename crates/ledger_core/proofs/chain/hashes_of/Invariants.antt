@@ -1,5 +1,5 @@
 use Rattle.std.proofs.Common.{◌≡◌, take}
-use Rattle.proof_forms.specs.Issued.{block_hashes}
+use Rattle.proof_model.specs.Issued.{block_hashes}
 use Rattle.ledger_core.proofs.chain.hashes_of.Given as goal
 
 -- the hashes of the blocks so far

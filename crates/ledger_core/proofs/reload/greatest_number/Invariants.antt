@@ -1,5 +1,5 @@
 use Rattle.std.proofs.Common.{◌≡◌, ◌^◌, ◌<◌, max, drop}
-use Rattle.entry_laws.specs.Records.{greatest}
+use Rattle.laws_history.specs.Records.{greatest}
 use Rattle.ledger_core.proofs.reload.greatest_number.Given as goal
 
 -- the greatest number so far and that of the rest are that of all

@@ -2,7 +2,7 @@ use Rattle.std.proofs.Common.{◌≡◌, ◌∙◌, ◌^◌, ◌<◌, List, ap, 
 use Rattle.ledger_model.specs.declared.block.Block.{Block}
 use Rattle.ledger_model.specs.Recovered.{IsJournal}
 use Rattle.ledger_model.specs.State.{state}
-use Rattle.entry_laws.specs.Records.{greatest, mask_of}
+use Rattle.laws_history.specs.Records.{greatest, mask_of}
 use Rattle.journal_text.specs.Feeding.{taken}
 use Rattle.ledger_core.proofs.Bounds.{undamaged_bound}
 use Rattle.ledger_core.proofs.Read.{is-read}

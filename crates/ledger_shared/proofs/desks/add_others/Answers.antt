@@ -2,7 +2,7 @@ use Rattle.std.proofs.Common.{◌∙◌, [], ◌∷◌, ◌++◌, ap, arith, len
 use Rattle.turn_lock.specs.declared.view.Known.{Known}
 use Rattle.turn_lock.specs.History.{AreWhole}
 use Rattle.turn_lock.specs.Rule.{Each}
-use Rattle.core_machine.specs.Entries.{Entry}
+use Rattle.laws_machine.specs.Entries.{Entry}
 use Rattle.ledger_shared.specs.Crew.{IsIdle, IsOf, knowns}
 use Rattle.ledger_shared.proofs.Setting.{next_idle, next_room, next_whole, whole_first}
 use Rattle.ledger_shared.proofs.desks.add_others.Goals as goal

@@ -1,6 +1,6 @@
 use Rattle.std.proofs.Common.{◌≡◌, ◌∙◌, ◌≤◌, ◌<◌, List, get_or, length, ap, subst, sym, arith}
 use Rattle.ql_types.specs.declared.Hash32.{Hash32}
-use Rattle.hash_forms.specs.Tree.{height_of}
+use Rattle.hash_model.specs.Tree.{height_of}
 use Rattle.pad_tree.specs.Growing.{leaves_in, level_of, pad_of}
 use Rattle.pad_tree.specs.Paths.{sibling_of}
 use Rattle.pad_tree.proofs.Growth.{level_short, lowest, path_first, path_last, path_step, place_step}

@@ -1,6 +1,6 @@
 use Rattle.std.proofs.Common.{◌≡◌, ◌∙◌, ◌+◌, ◌-◌, ◌/◌, List, [], ◌∷◌, ◌++◌, length, length-append, ap, sym, arith}
 use Rattle.ql_types.specs.declared.Hash32.{Hash32}
-use Rattle.hash_forms.specs.Tree.{height_of}
+use Rattle.hash_model.specs.Tree.{height_of}
 use Rattle.pad_tree.specs.Growing.{after_steps, leaves_in}
 use Rattle.pad_tree.proofs.Growth.{no_step, step_more, two_below}
 use Rattle.pad_tree.proofs.Towers.{count_first, raised_first, raised_leaves, raised_next, raised_tower}

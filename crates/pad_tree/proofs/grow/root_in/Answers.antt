@@ -1,7 +1,7 @@
 use Rattle.std.proofs.Common.{◌≡◌, ◌∙◌, List, get_or, length, ap, arith}
 use Rattle.ql_types.specs.declared.Hash.TheVariants.{Full}
 use Rattle.ql_types.specs.declared.Hash32.{Hash32}
-use Rattle.hash_forms.specs.Tree.{height_of}
+use Rattle.hash_model.specs.Tree.{height_of}
 use Rattle.pad_tree.specs.Growing.{leaves_in}
 use Rattle.pad_tree.proofs.Growth.{root_is_top}
 use Rattle.pad_tree.proofs.Towers.{count_is, level_is}

@@ -3,7 +3,7 @@ use Rattle.pql_model.specs.declared.statement.Setting.{Setting}
 use Rattle.pql_model.specs.Words.{is_symbol}
 use Rattle.pql_model.specs.Productions.{Fault, Found, Reader, token_of}
 use Rattle.pql_parse.specs.ClosedStatements.{settings_behind}
-use Rattle.pql_grammar.specs.Gives.{seen}
+use Rattle.pql_expr_parser.specs.Gives.{seen}
 use Rattle.pql_parse.proofs.ItemTurns.{setting_last, setting_more}
 use Rattle.pql_parse.proofs.changes.settings.Goals as goal
 

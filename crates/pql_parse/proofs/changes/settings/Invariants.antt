@@ -1,6 +1,6 @@
 use Rattle.std.proofs.Common.{◌≡◌}
 use Rattle.pql_parse.specs.ClosedStatements.{settings, settings_behind}
-use Rattle.pql_grammar.specs.Gives.{seen}
+use Rattle.pql_expr_parser.specs.Gives.{seen}
 use Rattle.pql_parse.proofs.changes.settings.Given as goal
 
 abbrev pub invariant-settings : goal.invariant-settings

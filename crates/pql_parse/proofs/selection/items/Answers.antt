@@ -3,7 +3,7 @@ use Rattle.pql_model.specs.declared.statement.SelectItem.{SelectItem}
 use Rattle.pql_model.specs.Words.{is_symbol}
 use Rattle.pql_model.specs.Productions.{Fault, Found, Reader, token_of}
 use Rattle.pql_parse.specs.ClosedStatements.{items_behind}
-use Rattle.pql_grammar.specs.Gives.{seen}
+use Rattle.pql_expr_parser.specs.Gives.{seen}
 use Rattle.pql_parse.proofs.ItemTurns.{item_last, item_more}
 use Rattle.pql_parse.proofs.selection.items.Goals as goal
 

@@ -1,6 +1,6 @@
 use Rattle.std.proofs.Common.{◌≡◌}
 use Rattle.pql_parse.specs.ClosedStatements.{items, items_behind}
-use Rattle.pql_grammar.specs.Gives.{seen}
+use Rattle.pql_expr_parser.specs.Gives.{seen}
 use Rattle.pql_parse.proofs.selection.items.Given as goal
 
 abbrev pub invariant-items : goal.invariant-items

@@ -1,6 +1,6 @@
 use Rattle.std.proofs.Common.{◌≡◌}
 use Rattle.pql_parse.specs.ClosedStatements.{sources, sources_behind}
-use Rattle.pql_grammar.specs.Gives.{seen}
+use Rattle.pql_expr_parser.specs.Gives.{seen}
 use Rattle.pql_parse.specs.Parts.{Knows}
 use Rattle.pql_parse.proofs.sources.sources.Given as goal
 

@@ -1,7 +1,7 @@
 use Rattle.std.proofs.Common.{◌≡◌, ◌∙◌, ◌-◌, length, subst, sym, take}
-use Rattle.proof_forms.specs.declared.Proof.{Proof}
-use Rattle.proof_forms.specs.Issued.{IsAccepted}
-use Rattle.proof_forms.proofs.Chains.{linked}
+use Rattle.proof_model.specs.declared.Proof.{Proof}
+use Rattle.proof_model.specs.Issued.{IsAccepted}
+use Rattle.proof_model.proofs.Chains.{linked}
 use Rattle.proof_issue.proofs.AtEnd.{found_for_the_end, has_leaf, is_for_the_end}
 use Rattle.proof_issue.proofs.grown.prove_grown.Goals as goal
 

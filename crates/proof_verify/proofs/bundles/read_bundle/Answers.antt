@@ -1,12 +1,12 @@
 use Rattle.std.proofs.Common.{◌≡◌, ◌∙◌, [], ◌∷◌, refl, sym, subst, inl, inr, codes, arith}
 use Rattle.block_form.specs.ReadBack.{revision_in}
-use Rattle.value_parts.proofs.Inverse.{cons}
+use Rattle.value_codec.proofs.Inverse.{cons}
 use Rattle.block_form.proofs.OfRevisions.{revision-gets, revision-puts}
 use Rattle.ledger_model.specs.Journal.{revision_value}
 use Rattle.ledger_model.specs.Whole.{is_plain_revision}
-use Rattle.proof_forms.specs.ProofValues.{digest_value, digest_fits, proof_value, proof_fits}
-use Rattle.proof_forms.specs.ReadProofs.{digest_in, proof_in}
-use Rattle.proof_forms.proofs.Inverses.{digest-gets, digest-puts, proof-gets, proof-puts}
+use Rattle.proof_model.specs.ProofValues.{digest_value, digest_fits, proof_value, proof_fits}
+use Rattle.proof_model.specs.ReadProofs.{digest_in, proof_in}
+use Rattle.proof_model.proofs.Inverses.{digest-gets, digest-puts, proof-gets, proof-puts}
 use Rattle.proof_verify.specs.Bundles.{IsUnreadable}
 use Rattle.proof_verify.proofs.Reading.{spells, spells_none, three, unreadable}
 use Rattle.proof_verify.proofs.bundles.read_bundle.Goals as goal

@@ -1,6 +1,6 @@
 use Rattle.std.proofs.Common.{◌≡◌, drop, fold}
-use Rattle.hash_forms.specs.PairHash.{dot32}
-use Rattle.hash_forms.specs.Serialize.{hash_of}
+use Rattle.hash_model.specs.PairHash.{dot32}
+use Rattle.hash_model.specs.Serialize.{hash_of}
 use Rattle.session_driver.proofs.digest.with_params.Given as goal
 
 -- what is so far with what is left comes to what the start with all comes to

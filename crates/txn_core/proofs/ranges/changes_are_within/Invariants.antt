@@ -1,6 +1,6 @@
 use Rattle.std.proofs.Common.{◌≡◌, drop}
 use Rattle.std.specs.List.{list_all}
-use Rattle.made_blocks.specs.Makes.{change_within}
+use Rattle.laws_validity.specs.Makes.{change_within}
 use Rattle.txn_core.proofs.ranges.changes_are_within.Given as goal
 
 -- those in front are within

@@ -1,6 +1,6 @@
 use Rattle.std.proofs.Common.{◌≡◌}
 use Rattle.std.proofs.lemmas.Result.{IfOk-weaker}
-use Rattle.event_form.specs.Lines as line
+use Rattle.interleavings.specs.Lines as line
 use Rattle.interleavings.specs.Desks.{Aborts, AreOpen, named}
 use Rattle.interleavings.proofs.Answered.{aborts_nothing, drops}
 use Rattle.interleavings.proofs.Lists.{left_open}

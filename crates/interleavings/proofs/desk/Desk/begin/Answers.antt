@@ -1,6 +1,6 @@
 use Rattle.std.proofs.Common.{◌≡◌, ◌-◌, ◌^◌, ◌∙◌}
 use Rattle.std.proofs.lemmas.Result.{IfOk-weaker}
-use Rattle.event_form.specs.Lines as line
+use Rattle.interleavings.specs.Lines as line
 use Rattle.interleavings.specs.Desks.{AreOpen, Begins}
 use Rattle.interleavings.proofs.Answered.{opens, spent}
 use Rattle.interleavings.proofs.Lists.{begun_apart, begun_left}

@@ -1,6 +1,6 @@
 use Rattle.std.proofs.Common.{◌≡◌}
 use Rattle.std.proofs.lemmas.Result.{IfOk-weaker}
-use Rattle.event_form.specs.Lines as line
+use Rattle.interleavings.specs.Lines as line
 use Rattle.interleavings.specs.Desks.{AreOpen, Commits, named}
 use Rattle.interleavings.proofs.Answered.{closes, commits_nothing}
 use Rattle.interleavings.proofs.Lists.{committed_open, left_open, named_open}

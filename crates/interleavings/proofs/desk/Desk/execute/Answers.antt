@@ -1,7 +1,7 @@
 use Rattle.std.proofs.Common.{◌≡◌, ℕ, List, subst}
 use Rattle.std.proofs.lemmas.Result.{IfOk-weaker}
 use Rattle.txn_core.specs.Opened.{Executed, asked}
-use Rattle.event_form.specs.Lines as line
+use Rattle.interleavings.specs.Lines as line
 use Rattle.interleavings.specs.Desks.{AreOpen, Executes, named}
 use Rattle.interleavings.proofs.Answered.{does, does_nothing}
 use Rattle.interleavings.proofs.Lists.{executed_apart, executed_named, left_open}

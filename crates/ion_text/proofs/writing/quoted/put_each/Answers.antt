@@ -3,7 +3,7 @@ use Rattle.std.specs.List.{flat_map}
 use Rattle.std.specs.Str.{encode_utf8_all}
 use Rattle.std.proofs.lemmas.Str.{encodes-append}
 use Rattle.std.proofs.lemmas.List.Concat.{flat_map-append}
-use Rattle.ion_forms.specs.Quoted.{escape}
+use Rattle.ion_model.specs.Quoted.{escape}
 use Rattle.ion_text.proofs.writing.quoted.put_each.Goals as goal
 
 one_more : (f : ℕ → List ℕ) (start out new seen : List ℕ) (c : ℕ)

@@ -1,7 +1,7 @@
 use Rattle.std.proofs.Common.{◌≡◌, ◌++◌}
 use Rattle.std.specs.List.{flat_map}
 use Rattle.std.specs.Str.{encode_utf8_all}
-use Rattle.ion_forms.specs.Quoted.{escape}
+use Rattle.ion_model.specs.Quoted.{escape}
 use Rattle.ion_text.proofs.writing.quoted.put_each.Given as goal
 
 abbrev pub invariant-loop-character : goal.invariant-loop-character

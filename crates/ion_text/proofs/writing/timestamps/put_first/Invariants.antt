@@ -1,5 +1,5 @@
 use Rattle.std.proofs.Common.{◌≡◌, ◌++◌}
-use Rattle.ion_forms.specs.Timestamp.{first_digits}
+use Rattle.ion_model.specs.Timestamp.{first_digits}
 use Rattle.ion_text.proofs.writing.timestamps.put_first.Given as goal
 
 abbrev pub invariant-loop-left : goal.invariant-loop-left

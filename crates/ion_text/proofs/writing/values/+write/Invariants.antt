@@ -1,6 +1,6 @@
 use Rattle.std.proofs.Common.{◌≡◌, ◌++◌, ◌∷◌, map, take}
 use Rattle.std.specs.List.{flat_map}
-use Rattle.ion_forms.specs.Write.{value_text, field_text}
+use Rattle.ion_model.specs.Write.{value_text, field_text}
 use Rattle.ion_text.proofs.writing.values.+write.Given as goal
 
 abbrev pub invariant-put_fields-loop-field : goal.invariant-put_fields-loop-field

@@ -1,6 +1,6 @@
 use Rattle.std.proofs.Common.{◌≡◌, ◌++◌, take}
 use Rattle.std.specs.List.{flat_map}
-use Rattle.ion_forms.specs.Write.{annotation_text}
+use Rattle.ion_model.specs.Write.{annotation_text}
 use Rattle.ion_text.proofs.writing.values.put_annotations.Given as goal
 
 abbrev pub invariant-loop-name : goal.invariant-loop-name

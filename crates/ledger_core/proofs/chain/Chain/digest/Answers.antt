@@ -2,7 +2,7 @@ use Rattle.std.proofs.Common.{◌≡◌, ◌-◌, List, Some, length, subst, sym
 use Rattle.std.specs.Prelude.{slice_get}
 use Rattle.ledger_model.specs.declared.block.Block.{Block}
 use Rattle.ledger_model.specs.Rooms.{Kept}
-use Rattle.proof_forms.specs.Chained.{Chained}
+use Rattle.proof_model.specs.Chained.{Chained}
 use Rattle.ledger_core.proofs.Leaves.{grown_digest, no_blocks}
 use Rattle.ledger_core.proofs.chain.Chain.digest.Goals as goal
 

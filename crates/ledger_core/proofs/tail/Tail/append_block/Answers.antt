@@ -1,6 +1,6 @@
 use Rattle.std.proofs.Common.{◌≡◌, ◌∙◌, [], ◌∷◌, ◌++◌, ap, arith, length, sym, subst, inl, inr}
 use Rattle.ledger_model.specs.Journal.{line}
-use Rattle.entry_laws.specs.Standings.{IsStanding}
+use Rattle.laws_history.specs.Standings.{IsStanding}
 use Rattle.ledger_core.specs.Tails.{TailHeld, joined}
 use Rattle.ledger_core.proofs.Bounds.{undamaged_bound}
 use Rattle.ledger_core.proofs.Joined.{appended, faulted, holds-more, left_with, may-hold, tried_with}

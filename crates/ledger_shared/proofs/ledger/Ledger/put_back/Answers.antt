@@ -1,7 +1,7 @@
 use Rattle.std.proofs.Common.{◌∙◌, sym, ap}
 use Rattle.turn_lock.specs.declared.view.Known.{Known}
 use Rattle.turn_lock.specs.Seats.{known, own, seen}
-use Rattle.core_machine.specs.Entries.{Entry}
+use Rattle.laws_machine.specs.Entries.{Entry}
 use Rattle.ledger_shared.proofs.Passes.{joins_none, joins_one, put_none, put_one}
 use Rattle.ledger_shared.proofs.ledger.Ledger.put_back.Goals as goal
 

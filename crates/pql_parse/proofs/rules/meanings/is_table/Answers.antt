@@ -1,6 +1,6 @@
 use Rattle.std.proofs.Common.{not, ap, sym, ◌∙◌, codes}
 use Rattle.std.proofs.lemmas.Str.Pattern.{starts_text}
-use Rattle.ion_grammar.specs.Blanks.{begins}
+use Rattle.ion_model.specs.Blanks.{begins}
 use Rattle.pql_model.specs.Rules.{is_table}
 use Rattle.pql_parse.proofs.rules.meanings.is_table.Goals as goal
 

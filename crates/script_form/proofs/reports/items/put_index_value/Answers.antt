@@ -1,5 +1,5 @@
 use Rattle.std.proofs.Common.{codes}
-use Rattle.ion_forms.specs.Write.{string_text}
+use Rattle.ion_model.specs.Write.{string_text}
 use Rattle.ledger_model.specs.ItemText.{quoted_id, key_text}
 use Rattle.script_form.proofs.Grouped.{six}
 use Rattle.script_form.proofs.reports.items.put_index_value.Goals as goal

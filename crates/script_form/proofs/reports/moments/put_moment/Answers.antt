@@ -1,5 +1,5 @@
 use Rattle.std.proofs.Common.{◌≡◌, ◌++◌, ◌∙◌, ℕ, List, OnOk, ap, sym, subst, to_z-of_z}
-use Rattle.ion_forms.specs.Timestamp.{timestamp_text}
+use Rattle.ion_model.specs.Timestamp.{timestamp_text}
 use Rattle.script_form.proofs.Moments.{text_in_years}
 use Rattle.script_form.proofs.reports.moments.put_moment.Goals as goal
 

@@ -1,0 +1,78 @@
+-- How the input of a call is read, and the script or the bundle that it spells.
+use Rattle.std.specs.Prelude.{◌≡◌, ◌<◌, ◌≤◌, ℕ, List, length, Ok, Err}
+use Rattle.ion_model.specs.Read.{read_text}
+use Rattle.ion_values.specs.declared.fault.IonFault.{IonFault}
+use Rattle.ion_values.specs.declared.value.Value.{Value}
+use Rattle.ledger_model.specs.declared.script.Job.{Job}
+use Rattle.ledger_model.specs.Judging.{Judged, faulty, misspelt, scripted, judged}
+use Rattle.outside.specs.Told.{SourceTold}
+use Rattle.laws_history.specs.Calls.{Span}
+use Rattle.laws_history.specs.Streams.{Taken, WasRead}
+use Rattle.cli_model.specs.Lines.{BadInput}
+use Rattle.cli_model.specs.Lines as bad
+
+-- the longest input, in bytes, and how deep one may nest
+abbrev pub longest : ℕ
+longest = 16777216
+
+abbrev pub deepest : ℕ
+deepest = 80
+
+-- a part of the input was read that is too long already
+pub record IsTooLong (source : Span SourceTold) : Type 0 where
+  pub input : List ℕ
+  pub taken : Taken source input
+  pub long : longest < length input
+
+-- the source wasn't asked for anything
+abbrev pub IsIdle : Span SourceTold → Type 0
+IsIdle source = source.after ≡ source.before
+
+-- it failed
+abbrev pub SourceFailed : Span SourceTold → Type 0
+SourceFailed source = source.before.faults < source.after.faults
+
+-- ---- scripts
+
+-- the whole input was read, and it is judged so
+pub record IsJudged (source : Span SourceTold) (what : Judged) : Type 0 where
+  pub input : List ℕ
+  pub read : WasRead source input
+  pub judged_is : judged input ≡ what
+
+-- the input spells this script
+abbrev pub HasScript : Span SourceTold → List (List Job) → Type 0
+HasScript source script = IsJudged source (scripted script)
+
+-- the whole input was read, and it is a script
+pub record SpellsScript (source : Span SourceTold) : Type 0 where
+  pub script : List (List Job)
+  pub has : HasScript source script
+
+-- why the input is no script
+abbrev pub IsNoScript : BadInput → Span SourceTold → Type 0
+IsNoScript bad.too_long source = IsTooLong source
+IsNoScript (bad.faulty fault) source = IsJudged source (faulty fault)
+IsNoScript (bad.misspelt fault) source = IsJudged source (misspelt fault)
+
+-- ---- values
+
+-- the whole input was read, which isn't too long, and it is the text of these values
+pub record HasValues (source : Span SourceTold) (values : List Value) : Type 0 where
+  pub input : List ℕ
+  pub read : WasRead source input
+  pub short : length input ≤ longest
+  pub text_of : read_text deepest input ≡ Ok values
+
+-- it is no text of values, by this fault
+pub record HasNoValues (source : Span SourceTold) (fault : IonFault) : Type 0 where
+  pub input : List ℕ
+  pub read : WasRead source input
+  pub short : length input ≤ longest
+  pub text_of : read_text deepest input ≡ Err fault
+
+-- why the input is no text of values
+abbrev pub IsNoText : BadInput → Span SourceTold → Type 0
+IsNoText bad.too_long source = IsTooLong source
+IsNoText (bad.faulty fault) source = HasNoValues source fault
+IsNoText (bad.misspelt fault) source = ⊥

@@ -1,5 +1,0 @@
-use Rattle.core_machine.proofs.Once.{commits_stand_once}
-use Rattle.core_machine.proofs.commits_stand_once.Goals as goal
-
-pub returns : goal.returns
-returns c = commits_stand_once

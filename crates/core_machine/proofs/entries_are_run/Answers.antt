@@ -1,5 +1,0 @@
-use Rattle.core_machine.proofs.Entries.{entries_are_run}
-use Rattle.core_machine.proofs.entries_are_run.Goals as goal
-
-pub returns : goal.returns
-returns c = entries_are_run

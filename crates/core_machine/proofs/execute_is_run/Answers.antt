@@ -1,5 +1,0 @@
-use Rattle.core_machine.proofs.OnBase.{execute_is_run}
-use Rattle.core_machine.proofs.execute_is_run.Goals as goal
-
-pub returns : goal.returns
-returns c = execute_is_run

@@ -1,5 +1,0 @@
-use Rattle.entry_laws.proofs.NoConflicts.{none_conflicts}
-use Rattle.entry_laws.proofs.none_conflicts.Goals as goal
-
-pub returns : goal.returns
-returns c = none_conflicts

@@ -1,9 +1,0 @@
-use Rattle.std.proofs.Common.{◌≡◌, drop, length}
-use Rattle.ledger_model.specs.Script.{each}
-use Rattle.value_parts.proofs.Each.{behind}
-use Rattle.event_form.specs.Events.{time_in}
-use Rattle.event_form.proofs.events.all_times.Given as goal
-
--- what was read so far and what the rest gives is what all give, and it is as long as what was gone over
-abbrev pub invariant-times : goal.invariant-times
-invariant-times l = (behind l.times (each time_in (drop l.value-index l.values)) ≡ each time_in l.values) × (length l.times ≡ l.value-index)

@@ -1,5 +1,0 @@
-use Rattle.hash_forms.proofs.Digits.{digits_tell_numbers}
-use Rattle.hash_forms.proofs.laws.digits_tell_numbers.Goals as goal
-
-pub returns : goal.returns
-returns c = digits_tell_numbers

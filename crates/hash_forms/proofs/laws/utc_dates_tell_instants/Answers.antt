@@ -1,5 +1,0 @@
-use Rattle.hash_forms.proofs.UtcDates.{utc_dates_tell_instants}
-use Rattle.hash_forms.proofs.laws.utc_dates_tell_instants.Goals as goal
-
-pub returns : goal.returns
-returns c = utc_dates_tell_instants

@@ -1,3 +1,0 @@
-pub mod Quoted
-pub mod Timestamp
-pub mod Write

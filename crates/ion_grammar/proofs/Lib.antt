@@ -1,6 +1,0 @@
-pub mod Depths
-pub mod Lengths
-mod NumberRows
-mod ReadRows
-mod TextRows
-mod TextsUtf8

@@ -1,5 +1,0 @@
-use Rattle.ion_grammar.proofs.TextsUtf8.{texts_are_utf8}
-use Rattle.ion_grammar.proofs.laws.texts_are_utf8.Goals as goal
-
-pub returns : goal.returns
-returns c = texts_are_utf8

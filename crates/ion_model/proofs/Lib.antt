@@ -1,0 +1,7 @@
+pub mod Depths
+pub mod Lengths
+mod NumberRows
+mod ReadRows
+mod TextRows
+mod TextsUtf8
+mod WriteRows

@@ -1,0 +1,16 @@
+pub mod Blanks
+pub mod Escapes
+pub mod Laws
+pub mod Lex
+pub mod Lobs
+pub mod Numbers
+pub mod Read
+pub mod Short
+pub mod Spans
+pub mod Table
+pub mod Texts
+pub mod Timestamps
+pub mod Words
+pub mod Quoted
+pub mod Timestamp
+pub mod Write

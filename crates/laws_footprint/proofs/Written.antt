@@ -1,0 +1,74 @@
+-- The sources whose documents a statement changes are user views and paths, where it isn't refused for their tables'
+-- names and they are no histories.
+use Rattle.std.proofs.Common.{◌≡◌, ℕ, zero, suc, ◌+◌, Bool, true, false, not, ◌||◌, codes, length, List, [], ◌∷◌, ◌++◌, take, refl, ap, subst, arith, slice_get, Option, Some, None}
+use Rattle.std.specs.Prelude.{nat_eq, if◌then◌else◌}
+use Rattle.std.specs.Cmp.Lexicographic.{pointwise}
+use Rattle.std.proofs.lemmas.Bool.{and_from, and_parts, both_ways, false_from_ne_true, false≢true}
+use Rattle.pql_model.specs.declared.statement.Source.{Source}
+use Rattle.pql_model.specs.declared.statement.SourceKind.{SourceKind}
+use Rattle.pql_model.specs.declared.statement.SourceKind.TheVariants as source
+use Rattle.pql_model.specs.Tables.{is_committed}
+use Rattle.ledger_model.specs.declared.outcome.Refusal.{Refusal}
+use Rattle.ledger_model.specs.declared.outcome.Refusal.TheVariants.{ReservedName}
+use Rattle.ledger_model.specs.Progress.{or_else}
+use Rattle.ledger_model.specs.Statements.{is_reserved}
+use Rattle.ledger_model.specs.Writing.{first_own, own_table}
+use Rattle.laws_footprint.specs.Covered.{is_no_history}
+use Rattle.laws_footprint.specs.Framed.{no_history_of}
+use Rattle.laws_footprint.proofs.Equality.{inside}
+use Rattle.laws_footprint.proofs.Rows.{is_plain}
+
+prefix : (front more xs : List ℕ) → pointwise nat_eq (front ++ more) (take (length (front ++ more)) xs) ≡ true
+    → pointwise nat_eq front (take (length front) xs) ≡ true
+prefix [] more xs h = refl
+prefix (y ∷ ys) more [] h = absurd (false≢true h)
+prefix (y ∷ ys) more (x ∷ xs) h =
+    let parts = and_parts (nat_eq y x) _ h in
+    and_from (nat_eq y x) _ parts.0 (prefix ys more xs parts.1)
+
+-- the name of a committed view is the ledger's own
+committed_reserved : (name : List ℕ) → is_committed name ≡ true → is_reserved name ≡ true
+committed_reserved name h = prefix (codes "_ql_") (codes "committed_") name h
+
+not_own : (b : Bool) (cause : Refusal) → (if b then Some cause else None) ≡ None → b ≡ false
+not_own true cause h = cc
+not_own false cause h = refl
+
+none_first : (a b : Option Refusal) → or_else a b ≡ None → (a ≡ None) × (b ≡ None)
+none_first None b h = (refl, h)
+none_first (Some cause) b h = cc
+
+if_written : (b : Bool) (o : Option Refusal) → (if b then o else None) ≡ None → b ≡ true → o ≡ None
+if_written true o h e = h
+if_written false o h e = absurd (false≢true e)
+
+plain_kind : (kind : SourceKind) → own_table kind ≡ None → is_no_history kind ≡ true → is_plain kind ≡ true
+plain_kind (source.Table name) own past =
+    let not_reserved = not_own (is_reserved name) (ReservedName name) own in
+    ap not (false_from_ne_true (is_committed name) (λ c.
+    both_ways (is_reserved name) not_reserved (committed_reserved name c)))
+plain_kind (source.History name start end) own past = absurd (false≢true past)
+plain_kind (source.Path path) own past = refl
+
+no_past : (a b : Bool) → (a || not b) ≡ true → b ≡ true → a ≡ true
+no_past true b h e = refl
+no_past false true h e = absurd (false≢true h)
+no_past false false h e = absurd (false≢true e)
+
+-- they are user views, where the statement isn't refused and they are no histories
+pub written_plain : (w : ℕ → Bool) (k : ℕ) (ss : List Source) → first_own w k ss ≡ None → no_history_of w k ss ≡ true
+    → (n : ℕ) (x : Source) → slice_get ss n ≡ Some x → w (k + n) ≡ true → is_plain x.from ≡ true
+written_plain w k [] own past n x at h = cc
+written_plain w k (y ∷ ys) own past zero x at h =
+    let here : k + 0 ≡ k = omega arith in
+    let w_here = subst (λ i. w i ≡ true) here h in
+    let owns = none_first (if w k then own_table y.from else None) (first_own w (k + 1) ys) own in
+    let pasts = and_parts (is_no_history y.from || not (w k)) (no_history_of w (k + 1) ys) past in
+    subst (λ (z : Source). is_plain z.from ≡ true) (inside y x at)
+    (plain_kind y.from (if_written (w k) (own_table y.from) owns.0 w_here)
+    (no_past (is_no_history y.from) (w k) pasts.0 w_here))
+written_plain w k (y ∷ ys) own past (suc n) x at h =
+    let there : k + suc n ≡ k + 1 + n = omega arith in
+    let owns = none_first (if w k then own_table y.from else None) (first_own w (k + 1) ys) own in
+    let pasts = and_parts (is_no_history y.from || not (w k)) (no_history_of w (k + 1) ys) past in
+    written_plain w (k + 1) ys owns.1 pasts.1 n x at (subst (λ i. w i ≡ true) there h)

@@ -1,0 +1,9 @@
+pub mod Inversions
+pub mod Statements
+pub mod Blocks
+pub mod Histories
+pub mod Places
+pub mod Adding
+pub mod Behind
+pub mod Moving
+pub mod Joining

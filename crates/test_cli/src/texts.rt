@@ -1,0 +1,77 @@
+//! Texts that rows name.
+use crate::failing::STORE_FAULT;
+use crate::runs::{COMMITTED, FIRST, FOUR_OUTCOMES, RUN, SESSIONS};
+use crate::verdicts::HONEST;
+use std::alloc::Global;
+use test_fixtures::{ONE_BLOCK, ONE_BUNDLE, THREE_BLOCKS, THREE_BUNDLE, THREE_STATEMENTS};
+
+/// What the third of the three blocks begins with.
+const THIRD: &str = "{blockAddress:{strandId:\"0000000000000000000000\",sequenceNo:2}";
+
+fn two_blocks() -> Option<&'static str> {
+    let (front, _) = THREE_BLOCKS.split_once(THIRD)?;
+    Some(front)
+}
+
+/// The text of a name. Of what is told the line feed at the end is left out.
+fn named(name: &str) -> Option<&'static str> {
+    match name {
+        "RUN" => Some(RUN),
+        "FIRST" => Some(FIRST),
+        "COMMITTED" => Some(COMMITTED),
+        "FIRST_LINE" => Some(THREE_STATEMENTS),
+        "STORE_FAULT" => Some(STORE_FAULT),
+        "SESSIONS" => Some(SESSIONS),
+        "FOUR_OUTCOMES" => Some(FOUR_OUTCOMES),
+        "ONE_BLOCK" => Some(ONE_BLOCK),
+        "ONE_BUNDLE" => Some(ONE_BUNDLE),
+        "ONE_PROOF" => Some(ONE_BUNDLE.trim_end()),
+        "TWO_BLOCKS" => two_blocks(),
+        "THREE_BLOCKS" => Some(THREE_BLOCKS),
+        "THREE_BUNDLE" => Some(THREE_BUNDLE),
+        "THREE_PROOF" => Some(THREE_BUNDLE.trim_end()),
+        "HONEST" => Some(HONEST),
+        "LINE_FEED" => Some("\n"),
+        _ => None,
+    }
+}
+
+/// The text with changes, apart at each `;`: what stands there, `>`, and what takes its place.
+fn changed(alloc: Global, text: &str, changes: &str) -> Option<String> {
+    let mut text = String::from_str(alloc, text).ok()?;
+    for change in changes.split(';').filter(|change| !change.is_empty()) {
+        let (old, new) = change.split_once('>')?;
+        let (front, back) = text.as_str().split_once(old)?;
+        text = format!(in alloc; "{front}{new}{back}").ok()?;
+    }
+    Some(text)
+}
+
+/// What stands for a name, with its changes behind `~` where it has any, or for a count and a part behind `*`.
+fn text_of(alloc: Global, name: &str) -> Option<String> {
+    if let Some((name, changes)) = name.split_once('~') {
+        return changed(alloc, named(name)?, changes);
+    }
+    match name.split_once('*') {
+        Some((count, part)) => repeated(alloc, part, count.parse::<usize>().ok()?),
+        None => String::from_str(alloc, named(name)?).ok(),
+    }
+}
+
+fn repeated(alloc: Global, part: &str, count: usize) -> Option<String> {
+    let mut text = String::new(alloc);
+    for _ in 0..count {
+        text.push_str(part).ok()?;
+    }
+    Some(text)
+}
+
+/// The text in which something may stand between two `@` for another text.
+pub fn spelled(alloc: Global, text: &str) -> Option<String> {
+    let Some((before, rest)) = text.split_once('@') else {
+        return String::from_str(alloc, text).ok();
+    };
+    let (name, after) = rest.split_once('@')?;
+    let text = text_of(alloc, name)?;
+    format!(in alloc; "{before}{text}{after}").ok()
+}
