@@ -10,8 +10,8 @@ import time
 from pathlib import Path
 
 TOP = Path(__file__).resolve().parent.parent
-sys.path.insert(0, str(TOP / "bench"))
-import verify
+sys.path.insert(0, str(TOP / "tools"))
+import ledger_verify
 
 RUNS = {1_000: 5, 10_000: 3, 100_000: 3}
 TIME = "2020-01-01T00:00:00.000Z"
@@ -23,13 +23,13 @@ def id_text(number, made):
     raw, digits = number << 24 | made, ""
     while raw or len(digits) < 22:
         raw, digit = divmod(raw, 62)
-        digits = verify.DIGITS[digit] + digits
+        digits = ledger_verify.DIGITS[digit] + digits
     return digits
 
 
 def hash_of(text):
     """The hash of a value that is given as text."""
-    return verify.sha(verify.serialized(verify.read(verify.tokens(text))))
+    return ledger_verify.hash_of(ledger_verify.read_values(text.encode())[0])
 
 
 def line_of(sequence, previous):
@@ -43,20 +43,20 @@ def line_of(sequence, previous):
     else:
         data = f'{{number:{sequence},owner:"p{sequence % 97}"}}'
         metadata = f'{{id:"{made}",version:0,txTime:{TIME},txId:"{tx}"}}'
-        second = verify.dot(hash_of(data), hash_of(metadata))
+        second = ledger_verify.dot(hash_of(data), hash_of(metadata))
         said = f'{{statement:"INSERT INTO t ?",parameters:[{data}],answer:[{{documentId:"{made}"}}]}}'
         schema, documents = "", f'{{documentId:"{made}",tableId:"{table}"}}'
-        revisions = f"{{blockAddress:{address},hash:{verify.blob(second)},data:{data},metadata:{metadata}}}"
+        revisions = f"{{blockAddress:{address},hash:{ledger_verify.written_blob(second)},data:{data},metadata:{metadata}}}"
     info = f"{{place:{{session:1,transaction:{number}}},statements:[{said}],schema:[{schema}],documents:[{documents}]}}"
     count = 1 if revisions else 0
     header = f'{{blockAddress:{address},transactionId:"{tx}",blockTimestamp:{TIME},revisionCount:{count}}}'
     hashes = [hash_of(info), second, hash_of(header)]
-    entries = verify.dot(verify.dot(hashes[0], second) if second else hashes[0], hashes[2])
-    block = verify.dot(entries, previous)
+    entries = ledger_verify.dot(ledger_verify.dot(hashes[0], second) if second else hashes[0], hashes[2])
+    block = ledger_verify.dot(entries, previous)
     return (
-        f'{{blockAddress:{address},transactionId:"{tx}",blockTimestamp:{TIME},blockHash:{verify.blob(block)},'
-        f"entriesHash:{verify.blob(entries)},previousBlockHash:{verify.blob(previous)},"
-        f"entriesHashList:[{','.join(map(verify.blob, hashes))}],transactionInfo:{info},revisions:[{revisions}]}}\n"
+        f'{{blockAddress:{address},transactionId:"{tx}",blockTimestamp:{TIME},blockHash:{ledger_verify.written_blob(block)},'
+        f"entriesHash:{ledger_verify.written_blob(entries)},previousBlockHash:{ledger_verify.written_blob(previous)},"
+        f"entriesHashList:[{','.join(map(ledger_verify.written_blob, hashes))}],transactionInfo:{info},revisions:[{revisions}]}}\n"
     ), block
 
 

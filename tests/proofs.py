@@ -1,6 +1,6 @@
 #!/usr/bin/env python3
 """Checks the program's digests and proofs without the program: it runs a script, folds the journal's lines to the digest by
-bench/verify.py's hashes, has that verifier accept what `prove` writes, and sees it refuse each bundle of which one byte is another
+tools/ledger-verify's hashes, has that verifier accept what `prove` writes, and sees it refuse each bundle of which one byte is another
 one. The program's own `verify` has to say the same of each. Ends with status 1 where something isn't as it should be.
 
     tests/proofs.py [PROGRAM]
@@ -14,15 +14,15 @@ import tempfile
 
 HERE = os.path.dirname(os.path.abspath(__file__))
 ROOT = os.path.dirname(HERE)
-sys.path.insert(0, os.path.join(ROOT, "bench"))
-import verify
+sys.path.insert(0, os.path.join(ROOT, "tools"))
+import ledger_verify
 
 PROGRAM = os.path.join(ROOT, "crates", "ledger", "out", "ledger")
 RUN = ["run", "--workers", "1", "--seed", "7", "--at", "2020-01-01T00:00:00.000Z"]
 SCRIPT = b"""[{statements:["CREATE TABLE t",{text:"INSERT INTO t ?",params:[[{a:1.50},{b:'x y'},{c:"q"}]]}]},
  {statements:[]},{statements:["SELECT * FROM t"]},
  {statements:[{text:"INSERT INTO t ?",params:[{d:[null,{{YQ==}},2020-02-29T23:59:59.999+01:00],e:x::(a+b)}]}]}]"""
-PAD = verify.sha(verify.symbol("pad"))
+PAD = ledger_verify.hash_of(ledger_verify.Value((), "symbol", "pad"))
 
 
 def run(program, journal, words, data=b""):
@@ -38,37 +38,35 @@ def check(holds, what):
 
 def values_of(text):
     """The values of a text."""
-    words, values = verify.tokens(text), []
-    while words[0][0] != "end":
-        values.append(verify.read(words))
-    return values
+    return ledger_verify.read_values(text.encode(), 256)
 
 
 def fields_of(value):
-    return {name: member for name, member in value[2]}
+    return dict(value.content)
 
 
 def root(leaves):
     """The root of the padded tree over some hashes."""
     level = leaves + [PAD] * ((1 << (len(leaves) - 1).bit_length()) - len(leaves))
     while len(level) > 1:
-        level = [verify.dot(a, b) for a, b in zip(level[::2], level[1::2])]
+        level = [ledger_verify.dot(a, b) for a, b in zip(level[::2], level[1::2])]
     return level[0]
 
 
 def block_hash(block, previous):
     """The hash of a block behind the hash of the block before it, computed anew from what the block says."""
     said = fields_of(block)
-    revisions = [verify.read_revision(revision) for revision in said["revisions"][2]]
-    check(all(stated == computed for _, stated, computed in revisions), "a revision's hash")
+    revisions = [ledger_verify.read_revision(revision) for revision in said["revisions"].content]
+    check(all(one.stated == one.computed for one in revisions), "a revision's hash")
     header = [(name, said[name]) for name in ("blockAddress", "transactionId", "blockTimestamp")]
-    header = ([], "struct", header + [("revisionCount", ([], "int", len(revisions)))])
-    entries = verify.sha(verify.serialized(said["transactionInfo"]))
+    count = ledger_verify.Value((), "int", len(revisions))
+    header = ledger_verify.Value((), "struct", header + [("revisionCount", count)])
+    entries = ledger_verify.hash_of(said["transactionInfo"])
     if revisions:
-        entries = verify.dot(entries, root([computed for _, _, computed in revisions]))
-    entries = verify.dot(entries, verify.sha(verify.serialized(header)))
-    check(said["entriesHash"][2] == entries and said["previousBlockHash"][2] == previous, "the hashes of a block")
-    return verify.dot(entries, previous)
+        entries = ledger_verify.dot(entries, root([one.computed for one in revisions]))
+    entries = ledger_verify.dot(entries, ledger_verify.hash_of(header))
+    check(said["entriesHash"].content == entries and said["previousBlockHash"].content == previous, "the hashes of a block")
+    return ledger_verify.dot(entries, previous)
 
 
 def fold(journal):
@@ -76,19 +74,21 @@ def fold(journal):
     with open(journal, encoding="utf-8") as file:
         blocks = [values_of(line)[0] for line in file]
     strand = fields_of(fields_of(blocks[0])["blockAddress"])["strandId"]
-    hashes = [verify.sha(verify.serialized(strand))]
+    hashes = [ledger_verify.hash_of(strand)]
     for block in blocks:
         hashes.append(block_hash(block, hashes[-1]))
-        check(fields_of(block)["blockHash"][2] == hashes[-1], "a block's hash")
+        check(fields_of(block)["blockHash"].content == hashes[-1], "a block's hash")
     return hashes[1:]
 
 
 def accepts(text):
     """Whether the other verifier accepts a bundle of three lines."""
     try:
-        lines = text.decode("utf-8").split("\n")
-        return len(lines) == 4 and not lines[3] and verify.fault_of([v for line in lines for v in values_of(line)]) is None
-    except (verify.Unread, ValueError, IndexError):
+        lines = text.split(b"\n")
+        values = [value for line in lines for value in ledger_verify.read_values(line)]
+        ledger_verify.verify(*ledger_verify.read_bundle(values))
+        return len(lines) == 4 and not lines[3]
+    except (ledger_verify.Unread, ledger_verify.Refused):
         return False
 
 
@@ -113,8 +113,8 @@ def main():
         hashes = fold(journal)
         for tip in range(len(hashes)):
             status, text = run(program, journal, ["digest", "--tip", str(tip)])
-            digest = verify.read_digest(values_of(text.decode())[0])
-            check(status == 0 and digest[0] == root(hashes[:tip + 1]) and digest[1][1] == tip, f"the digest with the tip {tip}")
+            digest = ledger_verify.read_digest(values_of(text.decode())[0])
+            check(status == 0 and digest.hash == root(hashes[:tip + 1]) and digest.tip.sequence == tip, f"the digest with the tip {tip}")
         check(run(program, journal, ["audit"]) == (0, b"{blocks:4,revisions:4}\n"), "how much the journal holds")
         prove(program, journal, 0, 3)
         bundle = prove(program, journal, 3, 1)

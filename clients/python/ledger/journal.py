@@ -1,0 +1,246 @@
+"""A journal's file as tables, documents and revisions, read from the file alone.
+
+Reading takes no lock, writes nothing and leaves no block, so it works beside a run and on read-only media: what a run
+is about to append, or the rest of a torn line, isn't there yet. Every line is checked on the way, as `ledger.checks`
+does; a damaged line ends the reading, and `damage` says which. (This package is not proved; the program is.)
+
+    >>> journal = Journal.of_lines([])
+    >>> journal.blocks, journal.damage, journal.tables
+    ([], None, [])
+
+With a real one, `journal = Journal.read("accounts.journal")`:
+
+    journal.rows("accounts")                                  # the documents that are there
+    journal.rows("accounts", as_of=Timestamp(2024, 1, 31))    # those that were there at the end of that day
+    journal.digest().value()                                  # as `ledger JOURNAL digest` writes it
+"""
+from __future__ import annotations
+
+import os
+from collections.abc import Callable, Iterable, Iterator
+from dataclasses import dataclass, field
+from decimal import Decimal
+from typing import NamedTuple, Optional, Union
+
+from .blocks import Address, Block, Change, Revision
+from .checks import Checker, Damage
+from .hashing import GrowingTree, root
+from .ion import Struct, Timestamp, Value, bare, write
+
+PathLike = Union[str, "os.PathLike[str]"]
+LINE_START = b'{blockAddress:{strandId:"'
+NANOS = 10**9
+DAY = 86_400 * NANOS
+
+
+class NotAJournal(ValueError):
+    """A file without a line feed that doesn't begin as a journal does."""
+
+
+class NoSuchTable(KeyError):
+    """No table has this name."""
+
+    def __str__(self) -> str:
+        return str(self.args[0])
+
+
+@dataclass
+class Table:
+    """A table, from the block that made it to the one that dropped it, if it was dropped."""
+
+    name: str
+    id: str
+    made: int
+    dropped: Optional[int] = None
+    indexes: list[str] = field(default_factory=list)
+
+
+class Digest(NamedTuple):
+    """The digest of a journal up to a block, the tip."""
+
+    digest: bytes
+    tip: Address
+
+    @classmethod
+    def of(cls, value: Value) -> "Digest":
+        """The digest of its Ion value. Raises `ValueError` if it is the value of none."""
+        try:
+            tip = value["digestTipAddress"]
+            found = cls(value["digest"], Address(tip["strandId"], tip["sequenceNo"]))
+        except (KeyError, TypeError):
+            raise ValueError("no digest") from None
+        if type(found.digest) is not bytes or len(found.digest) != 32 or type(found.tip.sequence) is not int:
+            raise ValueError("no digest")
+        return found
+
+    def value(self) -> Struct:
+        """The digest as an Ion value."""
+        tip = Struct([("strandId", self.tip.strand), ("sequenceNo", self.tip.sequence)])
+        return Struct([("digest", self.digest), ("digestTipAddress", tip)])
+
+
+def last_moment(time: Timestamp) -> int:
+    """The last billionth of a second, counted since 1970, of the year, month, day, minute or second that a timestamp
+    names.
+
+    >>> last_moment(Timestamp(1970, 1, 1)) == 86_400 * 10**9 - 1
+    True
+    """
+    begin = time.instant()
+    if time.month is None:
+        return begin + (366 if _is_leap(time.year) else 365) * DAY - 1
+    if time.day is None:
+        following = (time.year + time.month // 12, time.month % 12 + 1)
+        return (Timestamp(*following).instant() if following[0] <= 9999 else begin + 31 * DAY) - 1
+    if time.hour is None:
+        return begin + DAY - 1
+    if time.second is None:
+        return begin + 60 * NANOS - 1
+    return begin + NANOS // 10 ** len(time.fraction) - 1
+
+
+def _is_leap(year: int) -> bool:
+    return year % 4 == 0 and (year % 100 != 0 or year % 400 == 0)
+
+
+def read_lines(path: PathLike) -> Iterator[bytes]:
+    """The lines of a journal's file with their line feeds; the last one has none if it isn't whole.
+
+    Raises `NotAJournal`, and `OSError` if the file can't be read.
+    """
+    with open(path, "rb") as file:
+        for number, line in enumerate(file):
+            if number == 0 and not line.endswith(b"\n") and line[:len(LINE_START)] != LINE_START[:len(line)]:
+                raise NotAJournal(f"{os.fspath(path)} is no journal")
+            yield line
+
+
+@dataclass
+class Journal:
+    """The blocks of a journal up to the first damaged line, and what they made of tables and documents."""
+
+    blocks: list[Block] = field(default_factory=list)
+    tables: list[Table] = field(default_factory=list)
+    documents: dict[str, list[Revision]] = field(default_factory=dict)  # the revisions of each document, oldest first
+    damage: Optional[Damage] = None
+    rest: int = 0  # how many bytes stand after the last line feed
+
+    @classmethod
+    def read(cls, path: PathLike, progress: Optional[Callable[[int], None]] = None) -> "Journal":
+        """The journal in a file. `progress` is called with the number of bytes that were read, after each line."""
+        return cls.of_lines(read_lines(path), progress)
+
+    @classmethod
+    def of_lines(cls, lines: Iterable[bytes], progress: Optional[Callable[[int], None]] = None) -> "Journal":
+        """The journal of lines with their line feeds; a last one without is the rest."""
+        journal, checker, size = cls(), Checker(), 0
+        for line in lines:
+            if not line.endswith(b"\n"):
+                journal.rest = len(line)
+                break
+            try:
+                journal._take(checker.take(line[:-1]))
+            except Damage as damage:
+                journal.damage = damage
+                break
+            size += len(line)
+            if progress is not None:
+                progress(size)
+        return journal
+
+    def _take(self, block: Block) -> None:
+        self.blocks.append(block)
+        for change in block.schema:
+            self._change(change, block.address.sequence)
+        for revision in block.revisions:
+            self.documents.setdefault(revision.id, []).append(revision)
+
+    def _change(self, change: Change, sequence: int) -> None:
+        if change.kind == "create":
+            self.tables.append(Table(change.name, change.table, sequence))
+            return
+        table = next(table for table in self.tables if table.id == change.table)
+        if change.kind == "index":
+            table.indexes.append(change.name)
+        else:
+            table.dropped = sequence
+
+    # ---- tables and documents
+
+    def table(self, name: str) -> Table:
+        """The table of this name, the last one if it was dropped and made again, or of this id. Raises `NoSuchTable`."""
+        for table in reversed(self.tables):
+            if name in (table.name, table.id):
+                return table
+        names = ", ".join(dict.fromkeys(table.name for table in self.tables)) or "none"
+        raise NoSuchTable(f"no table {name}; the tables are: {names}")
+
+    def histories(self, name: str) -> Iterator[list[Revision]]:
+        """The revisions of each document of a table, oldest first, in the order in which the documents were
+        inserted."""
+        table = self.table(name).id
+        return (revisions for revisions in self.documents.values() if revisions[0].table == table)
+
+    def rows(self, name: str, as_of: Optional[Timestamp] = None) -> list[Revision]:
+        """The latest revision of each document of a table that isn't deleted, or the latest up to the end of
+        `as_of`."""
+        found = (latest(revisions, as_of) for revisions in self.histories(name))
+        return [revision for revision in found if revision is not None and not revision.deleted]
+
+    def with_value(self, name: str, field_name: str, value: Value) -> list[list[Revision]]:
+        """The revisions of each document of a table of which one has a value that equals this one in the field, as in
+        a statement."""
+        return [revisions for revisions in self.histories(name) if any(_has(r, field_name, value) for r in revisions)]
+
+    def revision(self, document: str, version: int) -> Optional[Revision]:
+        """A document's revision of a version; its `address.sequence` and `index` are the words SEQ and INDEX of
+        `prove`."""
+        revisions = self.documents.get(document, [])
+        return revisions[version] if 0 <= version < len(revisions) else None
+
+    def revisions(self) -> Iterator[Revision]:
+        """All revisions in the order of their blocks."""
+        return (revision for block in self.blocks for revision in block.revisions)
+
+    # ---- digests
+
+    def digest(self, tip: Optional[int] = None) -> Digest:
+        """The digest up to a block, the last one if none is named. Raises `IndexError` if there is no such block."""
+        at = len(self.blocks) - 1 if tip is None else tip
+        if not 0 <= at < len(self.blocks):
+            raise IndexError(f"no block {max(at, 0)} of {len(self.blocks)}")
+        return Digest(root([block.hash for block in self.blocks[:at + 1]]), self.blocks[at].address)
+
+    def match(self, published: Iterable[Digest]) -> list[bool]:
+        """Whether each digest is the journal's own, in one pass over the blocks."""
+        wanted = list(published)
+        tips = {digest.tip for digest in wanted}
+        tree, found = GrowingTree(), {}
+        for block in self.blocks:
+            digest = tree.push(block.hash)
+            if block.address in tips:
+                found[block.address] = digest
+        return [found.get(digest.tip) == digest.digest for digest in wanted]
+
+
+def latest(revisions: list[Revision], as_of: Optional[Timestamp] = None) -> Optional[Revision]:
+    """The latest of a document's revisions, or of those up to the end of `as_of`; `None` if there is none."""
+    if as_of is None:
+        return revisions[-1]
+    end = last_moment(as_of)
+    return next((revision for revision in reversed(revisions) if revision.time.instant() <= end), None)
+
+
+def _has(revision: Revision, field_name: str, value: Value) -> bool:
+    data = bare(revision.data)
+    return isinstance(data, Struct) and field_name in data and equal(data[field_name], value)
+
+
+def equal(one: Value, other: Value) -> bool:
+    """Whether two values are equal as in a statement: numbers by value, strings and symbols by text, timestamps by
+    moment."""
+    one, other = bare(one), bare(other)
+    for kinds in ((int, Decimal), str, Timestamp):
+        if isinstance(one, kinds) and isinstance(other, kinds) and not isinstance(one, bool) and not isinstance(other, bool):
+            return one.instant() == other.instant() if isinstance(one, Timestamp) else one == other
+    return write(one) == write(other)
