@@ -9,6 +9,7 @@ The programs are crates/ledger/out/ledger and crates/interleavings/out/interleav
 `interleavings` of another folder.
 """
 import os
+import signal
 import subprocess
 import sys
 import time
@@ -17,14 +18,21 @@ from pathlib import Path
 
 HERE = Path(__file__).resolve().parent
 CRATES = HERE.parent / "crates"
-SECONDS = 60
+SECONDS = 120
 
 # what is no test of a program: this script, what several tests share, and what tries the prover
 NOT_TESTS = ["all.py", "running.py", "edits.py"]
 
 # the longest first, with words behind the program's path, and a time limit of their own
 OTHER_WORDS = {"contended.py": ["40"]}
-OTHER_SECONDS = {"nesting.py": 240, "contended.py": 120, "faults.py": 120}
+OTHER_SECONDS = {
+    "clients.py": 240,
+    "docs.py": 240,
+    "nesting.py": 240,
+    "verifiers.py": 240,
+    "contended.py": 180,
+    "faults.py": 180,
+}
 OTHER_PROGRAM = {"interleavings.py": "interleavings"}
 
 
@@ -39,11 +47,15 @@ def run(test, folder):
     seconds = OTHER_SECONDS.get(test.name, SECONDS)
     words = [sys.executable, str(test), str(program_of(test, folder)), *OTHER_WORDS.get(test.name, [])]
     begun = time.monotonic()
+    how = {"stdin": subprocess.DEVNULL, "stdout": subprocess.PIPE, "stderr": subprocess.STDOUT, "text": True, "errors": "replace"}
+    process = subprocess.Popen(words, start_new_session=True, **how)
     try:
-        ended = subprocess.run(words, stdin=subprocess.DEVNULL, capture_output=True, text=True, errors="replace", timeout=seconds)
-        said, passed = ended.stdout + ended.stderr, ended.returncode == 0
+        said, _ = process.communicate(timeout=seconds)
+        passed = process.returncode == 0
     except subprocess.TimeoutExpired:
-        said, passed = f"it did not end within {seconds} seconds\n", False
+        os.killpg(process.pid, signal.SIGKILL)
+        said, _ = process.communicate()
+        said, passed = said + f"it did not end within {seconds} seconds\n", False
     return said, time.monotonic() - begun, passed
 
 

@@ -113,8 +113,9 @@ def read_only(program, folder, journal):
         os.chown(searched, NOBODY, NOBODY)
     os.chmod(searched, 0o311)
     path = os.path.join(searched, "journal")
-    for blocks in [1, 2]:
-        check(run(program, [path] + RUN, CREATE, **person)[0] == (0 if blocks == 1 else 2), "a run in a folder that is only searched")
+    for outcome in [b"outcome:committed", b"outcome:refused"]:
+        status, output = run(program, [path] + RUN, CREATE, **person)
+        check(status == 0 and outcome in output, f"a run in a folder that is only searched: {status}, {output!r}")
     os.chmod(searched, 0o755)
     check(left(path).count(b"\n") == 1, "one block stands")
 
@@ -133,7 +134,7 @@ def read_only_medium(program, folder, journal):
 
 def changed(program, folder):
     """Another program changes the file in the middle of a run: no later transaction is told as committed."""
-    count = 300
+    count = 500
     script = b"[" + CREATE[1:-1] + b"," + b",".join([INSERT] * count) + b"]"
     for what, change in [("cut", cut), ("appended to", append), ("replaced", replace), ("removed", os.remove)]:
         path = os.path.join(folder, "changed")

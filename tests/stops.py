@@ -19,9 +19,9 @@ import time
 HERE = os.path.dirname(os.path.abspath(__file__))
 PROGRAM = os.path.join(os.path.dirname(HERE), "crates", "ledger", "out", "ledger")
 RUN = ["run", "--workers", "1", "--plain-ids", "--at", "2020-01-01T00:00:00.000Z"]
-COUNT = 200
+COUNT = 600
+FEW = 40
 CREATE = b'{statements:["CREATE TABLE t"]}'
-SCRIPT = b"[" + b",".join([CREATE] + [b'{statements:["INSERT INTO t {\'n\':%d}"]}' % n for n in range(COUNT)]) + b"]"
 NEXT = b'[{statements:["INSERT INTO t {\'n\':-1}"]}]'
 AUDIT = re.compile(rb"\{blocks:(\d+),revisions:\d+\}\n")
 
@@ -34,6 +34,11 @@ def check(holds, what):
 def run(program, words, script=b"", **more):
     ended = subprocess.run([program] + words, input=script, capture_output=True, timeout=60, **more)
     return ended.returncode, ended.stdout
+
+
+def script_of(count):
+    """A table, and this many inserts into it."""
+    return b"[" + b",".join([CREATE] + [b'{statements:["INSERT INTO t {\'n\':%d}"]}' % n for n in range(count)]) + b"]"
 
 
 def blocks_of(program, journal, what):
@@ -49,7 +54,7 @@ def signals(program, journal):
     for number in [signal.SIGTERM, signal.SIGINT, signal.SIGKILL]:
         what = f"a run that is ended by {number.name}"
         process = subprocess.Popen([program, journal] + RUN, stdin=subprocess.PIPE, stdout=subprocess.PIPE)
-        process.stdin.write(SCRIPT)
+        process.stdin.write(script_of(COUNT))
         process.stdin.close()
         while not os.path.exists(journal) or os.path.getsize(journal) < 3000:
             time.sleep(0.001)
@@ -69,14 +74,14 @@ def limits(program, journal):
     for size in [0, 100, 3000, 20_000]:
         what = f"a limit of {size} bytes"
         limit = (size, size)
-        status, output = run(program, [journal] + RUN, SCRIPT, preexec_fn=lambda: resource.setrlimit(resource.RLIMIT_FSIZE, limit))
+        status, output = run(program, [journal] + RUN, script_of(FEW), preexec_fn=lambda: resource.setrlimit(resource.RLIMIT_FSIZE, limit))
         check(status in (0, 5), f"{what}: status 0 or 5, and not {status}")
         check(b"outcome:store_fault" in output or b"{status:5," in output, f"{what}: the fault is told")
         told = output.count(b"outcome:committed")
         check(blocks_of(program, journal, what) == told, f"{what}: what is told as committed stands, and no more")
         check(told > 0 or size < 1000, f"{what}: what has room is committed")
         check(not os.path.exists(journal) or os.path.getsize(journal) <= size, f"{what}: the file is no longer")
-        check(run(program, [journal] + RUN, SCRIPT if told == 0 else NEXT)[0] == 0, f"{what}: the next run commits")
+        check(run(program, [journal] + RUN, script_of(FEW) if told == 0 else NEXT)[0] == 0, f"{what}: the next run commits")
         os.remove(journal)
 
 
