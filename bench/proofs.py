@@ -1,6 +1,8 @@
 #!/usr/bin/env python3
 """Times digests, proofs and their check on journals of growing length, beside openssl's time for as many hashes. README.md says more."""
 
+import importlib.util
+import importlib.machinery
 import os
 import re
 import subprocess
@@ -9,9 +11,20 @@ import tempfile
 import time
 from pathlib import Path
 
+
+def load_verifier():
+    """The module of tools/ledger-verify, which has no name that an import could take."""
+    path = str(Path(__file__).resolve().parent.parent / "tools" / "ledger-verify")
+    spec = importlib.util.spec_from_loader("ledger_verify", importlib.machinery.SourceFileLoader("ledger_verify", path))
+    module = importlib.util.module_from_spec(spec)
+    sys.modules["ledger_verify"] = module
+    spec.loader.exec_module(module)
+    return module
+
+
+ledger_verify = load_verifier()
+
 TOP = Path(__file__).resolve().parent.parent
-sys.path.insert(0, str(TOP / "tools"))
-import ledger_verify
 
 RUNS = {1_000: 5, 10_000: 3, 100_000: 3}
 TIME = "2020-01-01T00:00:00.000Z"

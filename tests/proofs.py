@@ -7,15 +7,29 @@ one. The program's own `verify` has to say the same of each. Ends with status 1 
 
 The program is crates/ledger/out/ledger, where `rt ci` leaves it, or another path.
 """
+import importlib.util
+import importlib.machinery
 import os
 import subprocess
 import sys
 import tempfile
+from pathlib import Path
+
+
+def load_verifier():
+    """The module of tools/ledger-verify, which has no name that an import could take."""
+    path = str(Path(__file__).resolve().parent.parent / "tools" / "ledger-verify")
+    spec = importlib.util.spec_from_loader("ledger_verify", importlib.machinery.SourceFileLoader("ledger_verify", path))
+    module = importlib.util.module_from_spec(spec)
+    sys.modules["ledger_verify"] = module
+    spec.loader.exec_module(module)
+    return module
+
+
+ledger_verify = load_verifier()
 
 HERE = os.path.dirname(os.path.abspath(__file__))
 ROOT = os.path.dirname(HERE)
-sys.path.insert(0, os.path.join(ROOT, "tools"))
-import ledger_verify
 
 PROGRAM = os.path.join(ROOT, "crates", "ledger", "out", "ledger")
 RUN = ["run", "--workers", "1", "--seed", "7", "--at", "2020-01-01T00:00:00.000Z"]
