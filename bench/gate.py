@@ -103,7 +103,7 @@ def lines_of(crate):
             stated += len(lines)
         elif inside[0] == "proofs":
             proofs += len(lines)
-        elif crate.endswith("_tests") or "tests" in inside or file.name == "tests.rt":
+        elif crate.startswith("test_") or "tests" in inside or file.name == "tests.rt":
             tests += len(lines)
         else:
             clauses = clauses_in(lines)
