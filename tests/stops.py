@@ -49,11 +49,16 @@ def blocks_of(program, journal, what):
     return int(counted[1])
 
 
+def take_interrupts():
+    """Has SIGINT end the program, though a shell that runs this test in the background ignores it."""
+    signal.signal(signal.SIGINT, signal.SIG_DFL)
+
+
 def signals(program, journal):
     """A signal ends the run; the blocks are whole, and the next run commits after them."""
     for number in [signal.SIGTERM, signal.SIGINT, signal.SIGKILL]:
         what = f"a run that is ended by {number.name}"
-        process = subprocess.Popen([program, journal] + RUN, stdin=subprocess.PIPE, stdout=subprocess.PIPE)
+        process = subprocess.Popen([program, journal] + RUN, stdin=subprocess.PIPE, stdout=subprocess.PIPE, preexec_fn=take_interrupts)
         process.stdin.write(script_of(COUNT))
         process.stdin.close()
         while not os.path.exists(journal) or os.path.getsize(journal) < 3000:
