@@ -10,8 +10,8 @@ reads and writes the values. None of it is proved: the program is, and what stan
 from .blocks import Address, Block, Place, Revision
 from .checks import Audit, Damage, check_lines
 from .client import (
-    Ahead, BusyJournal, Conflict, DamagedJournal, Ledger, LedgerError, NotCommitted, NotVerified, Outcome, Refused, Statement,
-    StatusError, Transaction, UnexpectedRows,
+    Ahead, BusyJournal, Conflict, DamagedJournal, Ledger, LedgerError, NotCommitted, NotVerified, Outcome, Refused, RestWarning,
+    Statement, StatusError, Transaction, UnexpectedRows,
 )
 from .ion import Annotated, Clob, IonError, Null, Sexp, Struct, Symbol, Timestamp, Value
 from .journal import Digest, Journal
@@ -19,6 +19,6 @@ from .journal import Digest, Journal
 __all__ = [
     "Address", "Ahead", "Annotated", "Audit", "Block", "BusyJournal", "Clob", "Conflict", "Damage", "DamagedJournal", "Digest",
     "IonError", "Journal", "Ledger", "LedgerError", "NotCommitted", "NotVerified", "Null", "Outcome", "Place", "Refused",
-    "Revision", "Sexp", "Statement", "StatusError", "Struct", "Symbol", "Timestamp", "Transaction", "UnexpectedRows", "Value",
-    "check_lines",
+    "RestWarning", "Revision", "Sexp", "Statement", "StatusError", "Struct", "Symbol", "Timestamp", "Transaction",
+    "UnexpectedRows", "Value", "check_lines",
 ]

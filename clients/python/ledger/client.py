@@ -23,13 +23,13 @@ journal itself with the digest of each transaction, which holds only if no other
 from __future__ import annotations
 
 import os
-import re
 import secrets
 import shutil
 import subprocess
 import tempfile
 import time
-from collections.abc import Iterable, Sequence
+import warnings
+from collections.abc import Callable, Iterable, Sequence
 from dataclasses import dataclass, field, replace
 from datetime import datetime
 from typing import Any, Optional, Union
@@ -40,7 +40,7 @@ from .checks import Audit
 from .hashing import commit_digest
 from .ids import THINGS, id_number, id_text, mask_of
 from .ion import Struct, Symbol, Timestamp, Value
-from .journal import LINE_START, Digest, Journal, PathLike
+from .journal import LINE_START, Digest, Journal, PathLike, fronts, rest_words
 
 # ---- scripts
 
@@ -140,6 +140,10 @@ class Outcome:
     def answers(self) -> list[list[Value]]:
         """The rows of each statement's answer; none if it isn't committed."""
         return self.value.get("answers", [])
+
+
+class RestWarning(UserWarning):
+    """Bytes after the last line feed of a journal, which the next run cuts off."""
 
 
 class LedgerError(Exception):
@@ -280,20 +284,13 @@ class Ahead:
         return id_text((self.last + ordinal) * THINGS ^ self.mask)
 
 
-_FRONT = re.compile(rb'\{blockAddress:\{strandId:"([0-9A-Za-z]{22})",sequenceNo:[0-9]+\},transactionId:"([0-9A-Za-z]{22})"')
-
-
 def ahead_of(path: PathLike, mask: int) -> Ahead:
     """What the next run on the journal's file goes on from; `mask` is that of a journal without blocks."""
     last = 0
     try:
-        with open(path, "rb") as file:
-            for line in file:
-                found = _FRONT.match(line)
-                if found is None or not line.endswith(b"\n"):
-                    break
-                strand, made = (id_number(text.decode("ascii")) or 0 for text in found.groups())
-                mask, last = strand, max(last, (made ^ strand) // THINGS)
+        for front in fronts(path):
+            mask, made = id_number(front.address.strand) or 0, id_number(front.transaction_id) or 0
+            last = max(last, (made ^ mask) // THINGS)
     except FileNotFoundError:
         pass
     return Ahead(mask, last)
@@ -335,16 +332,17 @@ class Ledger:
     """A journal in a file, and the program that serves it.
 
     `program` is its path or its name on the path; `timeout` is how many seconds a call waits for a journal that
-    another process has.
+    another process has. `warn` takes a warning in words, that of bytes after the last line feed before a run.
     """
 
     journal: PathLike
     program: str = "ledger"
     timeout: float = 10.0
+    warn: Callable[[str], None] = field(default=lambda words: warnings.warn(words, RestWarning, stacklevel=3), repr=False)
 
     # -- calls of the program
 
-    def call(self, *words: str, text: str = "") -> str:
+    def call(self, *words: str, text: Union[str, bytes] = "") -> str:
         """The output of a command of the program. Raises the exception of its status if that isn't 0."""
         end = time.monotonic() + self.timeout
         pause = 0.005
@@ -359,9 +357,10 @@ class Ledger:
             time.sleep(pause)
             pause = min(pause * 2, 0.25)
 
-    def _call_once(self, words: Sequence[str], text: str) -> str:
+    def _call_once(self, words: Sequence[str], text: Union[str, bytes]) -> str:
         command = [self.program, os.fspath(self.journal), *words]
-        ended = subprocess.run(command, input=text.encode("utf-8"), capture_output=True)
+        given = text if isinstance(text, bytes) else text.encode("utf-8")
+        ended = subprocess.run(command, input=given, capture_output=True)
         output = ended.stdout.decode("utf-8", "replace")
         if ended.returncode != 0:
             line = output.strip() if output.startswith("{status:") else ended.stderr.decode("utf-8", "replace").strip()
@@ -393,6 +392,9 @@ class Ledger:
         outcome that is neither committed nor the abort that its script asked for is raised, once the whole script has
         run.
         """
+        rest = rest_words(self.journal)
+        if rest is not None:
+            self.warn(rest)
         expecting = any(s.expect_rows is not None for session in sessions for tx in session for s in tx.all())
         if not digests and not expecting:
             report = self._run(["run", *_options(workers, seed, plain_ids, at)], sessions)
@@ -504,7 +506,7 @@ class _Copy:
         path = os.path.join(self._folder, "journal")
         if os.path.exists(self._ledger.journal):
             shutil.copyfile(self._ledger.journal, path)
-        return replace(self._ledger, journal=path)
+        return replace(self._ledger, journal=path, warn=lambda words: None)
 
     def __exit__(self, *_: object) -> None:
         shutil.rmtree(self._folder, ignore_errors=True)

@@ -204,7 +204,7 @@ def fold(start: bytes, hashes: Iterable[bytes]) -> bytes:
 
 
 class GrowingTree:
-    """The root of a tree after each further leaf, in time of the tree's height a leaf.
+    """The root of a tree after any further leaf, in time of the tree's height.
 
     >>> tree = GrowingTree()
     >>> [tree.push(PAD) == root([PAD] * (count + 1)) for count in range(5)]
@@ -218,13 +218,17 @@ class GrowingTree:
 
     def push(self, leaf: bytes) -> bytes:
         """Adds a leaf and returns the root over all leaves."""
+        self.add(leaf)
+        return self.root()
+
+    def add(self, leaf: bytes) -> None:
+        """Adds a leaf."""
         node, level = leaf, 0
         while self.count >> level & 1:
             node = dot(self._whole[level], node)
             level += 1
         self._whole[level:level + 1] = [node]
         self.count += 1
-        return self.root()
 
     def root(self) -> bytes:
         """The root over all leaves, the empty hash if there are none."""

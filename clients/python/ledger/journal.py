@@ -16,13 +16,16 @@ With a real one, `journal = Journal.read("accounts.journal")`:
 """
 from __future__ import annotations
 
+import base64
 import os
+import re
+import time
 from collections.abc import Callable, Iterable, Iterator
 from dataclasses import dataclass, field
 from decimal import Decimal
 from typing import NamedTuple, Optional, Union
 
-from .blocks import Address, Block, Change, Revision
+from .blocks import Address, Block, Change, NotALine, Place, Revision, read_block
 from .checks import Checker, Damage
 from .hashing import GrowingTree, root
 from .ion import Struct, Timestamp, Value, bare, write
@@ -113,6 +116,119 @@ def read_lines(path: PathLike) -> Iterator[bytes]:
             if number == 0 and not line.endswith(b"\n") and line[:len(LINE_START)] != LINE_START[:len(line)]:
                 raise NotAJournal(f"{os.fspath(path)} is no journal")
             yield line
+
+
+# ---- the file, without reading the blocks in it
+
+_ID = rb'"([0-9A-Za-z]{22})"'
+_HASH = rb"\{\{([0-9A-Za-z+/]{43}=|)\}\}"
+_FRONT = re.compile(
+    rb"\{blockAddress:\{strandId:" + _ID + rb",sequenceNo:([0-9]+)\},transactionId:" + _ID + rb",blockTimestamp:[^,]+,blockHash:"
+    + _HASH + rb",entriesHash:" + _HASH + rb",previousBlockHash:" + _HASH + rb",entriesHashList:\[" + b",".join([_HASH] * 3)
+    + rb"\],transactionInfo:\{place:\{session:([0-9]+),transaction:([0-9]+)\},"
+)
+PIECE = 1 << 16
+LONGEST_REST = 1 << 26  # bytes of a rest that are still read
+
+
+class Front(NamedTuple):
+    """What the front of a block's line says, taken from its fixed place and not checked."""
+
+    address: Address
+    transaction_id: str
+    hash: bytes
+    place: Place
+
+
+def front_of(line: bytes) -> Optional[Front]:
+    """What the front of a line says, `None` if the line doesn't begin as a block's."""
+    found = _FRONT.match(line)
+    if found is None:
+        return None
+    strand, sequence, transaction, block_hash, *_, session, place = (text.decode("ascii") for text in found.groups())
+    address = Address(strand, int(sequence))
+    return Front(address, transaction, base64.b64decode(block_hash), Place(int(session), int(place)))
+
+
+def fronts(path: PathLike, progress: Optional[Callable[[int], None]] = None) -> Iterator[Front]:
+    """The fronts of the whole lines of a file, up to the first line that doesn't begin as a block's.
+
+    Nothing is checked, so this is as fast as the file is read: for a journal that the program has checked.
+    """
+    size = 0
+    with open(path, "rb") as file:
+        for line in file:
+            found = front_of(line) if line.endswith(b"\n") else None
+            if found is None:
+                return
+            size += len(line)
+            if progress is not None:
+                progress(size)
+            yield found
+
+
+def match_digests(blocks: Iterable[tuple[Address, bytes]], published: Iterable[Digest]) -> list[bool]:
+    """Whether each digest is that of the blocks, given by their addresses and hashes, in one pass over them."""
+    wanted = list(published)
+    tips = {digest.tip for digest in wanted}
+    tree, found = GrowingTree(), {}
+    for address, block_hash in blocks:
+        tree.add(block_hash)
+        if address in tips:
+            found[address] = tree.root()
+    return [found.get(digest.tip) == digest.digest for digest in wanted]
+
+
+def rest_size(path: PathLike) -> int:
+    """How many bytes stand after the last line feed of a file, which is read from its end; 0 if it is no regular file.
+
+    >>> rest_size("/dev/null")
+    0
+    """
+    if not os.path.isfile(path):
+        return 0
+    with open(path, "rb") as file:
+        size = end = file.seek(0, os.SEEK_END)
+        while end > 0:
+            begin = max(end - PIECE, 0)
+            file.seek(begin)
+            at = file.read(end - begin).rfind(b"\n")
+            if at >= 0:
+                return size - (begin + at + 1)
+            end = begin
+        return size
+
+
+def rest_words(path: PathLike) -> Optional[str]:
+    """A warning in words of a rest after the last line feed, `None` if there is none or the file can't be read.
+
+    What a run is just appending is no rest: it is looked at twice. The rest may be a whole block whose line feed an
+    editor or a shell took away; the next run would cut it off and report nothing of it.
+    """
+    try:
+        size = rest_size(path)
+        if size:
+            time.sleep(0.02)
+        if size == 0 or rest_size(path) != size:
+            return None
+    except OSError:
+        return None
+    words = f"{os.fspath(path)}: {size} bytes after the last line feed are no block; the next run cuts them off"
+    return words + (". They are a whole block without its line feed, as an editor or a shell leaves it" if _is_block(path, size) else "")
+
+
+def _is_block(path: PathLike, size: int) -> bool:
+    """Whether the last so many bytes of a file are the line of a block."""
+    if size > LONGEST_REST:
+        return False
+    with open(path, "rb") as file:
+        file.seek(-size, os.SEEK_END)
+        rest = file.read()
+    try:
+        read_block(rest)
+    except NotALine:
+        return False
+    return True
 
 
 @dataclass
@@ -213,14 +329,7 @@ class Journal:
 
     def match(self, published: Iterable[Digest]) -> list[bool]:
         """Whether each digest is the journal's own, in one pass over the blocks."""
-        wanted = list(published)
-        tips = {digest.tip for digest in wanted}
-        tree, found = GrowingTree(), {}
-        for block in self.blocks:
-            digest = tree.push(block.hash)
-            if block.address in tips:
-                found[block.address] = digest
-        return [found.get(digest.tip) == digest.digest for digest in wanted]
+        return match_digests(((block.address, block.hash) for block in self.blocks), published)
 
 
 def latest(revisions: list[Revision], as_of: Optional[Timestamp] = None) -> Optional[Revision]:

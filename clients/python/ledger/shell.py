@@ -29,22 +29,16 @@ import sys
 from collections.abc import Sequence
 from typing import IO, Optional
 
-from . import ion, view
-from .client import Ledger, LedgerError, NotCommitted, Outcome, Refused, Statement, Transaction
-from .ion import Struct, Value
+from . import view
+from .causes import cause_text, outcome_words
+from .client import Ledger, LedgerError, NotCommitted, Refused, Statement, Transaction
+from .ion import Value
+from .journal import rest_words
 from .view import printable, shown
 
 # strings, quoted names, Ion literals and comments, in which a `;` ends nothing
 _TOKEN = re.compile(r"""'[^']*'|"[^"]*"|`[^`]*`|--[^\n\r]*(?=[\n\r])|[^'"`;-]+|-(?!-)|;""")
 _FRONT = re.compile(r"(?:\s|--[^\n\r]*(?:[\n\r]|\Z))*([A-Za-z]*)")
-CAUSES = {
-    1: "no statement of the language: {kind}", 2: "no table {name}", 3: "there is a table {name} already",
-    4: "{name} is a name of the ledger's own", 5: "there is an index on {field} of {name} already",
-    6: "{count} tables are as many as there may be", 7: "{count} indexes are as many as a table may have",
-    8: "a transaction touches at most 40 documents", 9: "a document of {bytes} bytes is too large",
-    10: "a document is a struct, and not {kind}", 11: "{wanted} parameters are wanted and {given} given",
-    12: "a value that nests {depth} deep is too deep", 13: "a statement before it was refused", 14: "out of memory",
-}
 HELP = "statements end with ;   BEGIN; COMMIT; ABORT;   \\d tables   \\h TABLE FIELD VALUE [TIME] history   \\q quit"
 
 
@@ -66,24 +60,6 @@ def first_word(text: str) -> str:
 def is_blank(text: str) -> bool:
     """Whether white space and comments alone stand in a text."""
     return _FRONT.match(text).end() == len(text) and not first_word(text)
-
-
-def place_in(text: str, at: int) -> tuple[int, int, str]:
-    """The line and the column of a place in bytes, both counted from 1, and the line's text."""
-    before = text.encode("utf-8")[:at].decode("utf-8", "replace")
-    lines = before.split("\n")
-    return len(lines), len(lines[-1]) + 1, text.split("\n")[len(lines) - 1]
-
-
-def cause_text(cause: Struct, text: str) -> str:
-    """Why a statement was refused, in words; with its place and a caret if it isn't in the language."""
-    fields = {name: printable(str(value)) for name, value in cause.items()}
-    code = cause["code"]
-    words = "refused: " + CAUSES.get(code, ion.write(cause)).format(**fields)
-    if code != 1:
-        return words
-    line, column, content = place_in(text, cause["at"])
-    return f"{words}, line {line} column {column}\n  {printable(content)}\n  {' ' * len(printable(content[:column - 1]))}^"
 
 
 class Shell:
@@ -158,7 +134,7 @@ class Shell:
         if isinstance(error, Refused):
             self.fail(cause_text(error.cause, texts[error.statement - 1]))
         elif isinstance(error, NotCommitted):
-            self.fail(f"not committed: {outcome_text(error.outcome)}")
+            self.fail(f"not committed: {outcome_words(os.fspath(self.ledger.journal), error.outcome)}")
         else:
             self.fail(f"ledger: {printable(str(error))}")
 
@@ -203,15 +179,6 @@ class Shell:
         return read_line(("ledger> " if self.open is None else "ledger* ") if not text else "     -> ")
 
 
-def outcome_text(outcome: Outcome) -> str:
-    """How a transaction ended, in words."""
-    if outcome.outcome == "conflict":
-        return f"block {outcome.block} touched what it had read, at each try"
-    if outcome.outcome == "store_fault":
-        return "the journal couldn't be written"
-    return printable(ion.write(outcome.value))
-
-
 def read_line(prompt: str) -> str:
     """A line from a terminal, empty at its end."""
     try:
@@ -221,11 +188,24 @@ def read_line(prompt: str) -> str:
         return ""
 
 
+def warn_on_error(words: str) -> None:
+    """Writes a warning on standard error."""
+    print(f"warning: {printable(words)}", file=sys.stderr)
+
+
+def warn_of_rest(path: str) -> None:
+    """Warns on standard error of bytes after the last line feed of a journal, if there are any."""
+    rest = rest_words(path)
+    if rest is not None:
+        warn_on_error(rest)
+
+
 def program_path() -> str:
     """The program: that of the environment's LEDGER, that of this repository, or the one on the path."""
     here = os.path.dirname(os.path.dirname(os.path.dirname(os.path.dirname(os.path.realpath(__file__)))))
-    built = os.path.join(here, "crates", "ledger", "out", "ledger")
-    return os.environ.get("LEDGER") or (built if os.path.exists(built) else shutil.which("ledger") or "ledger")
+    built = [os.path.join(here, "crates", "ledger", "out", "ledger"), os.path.join(here, "out", "ledger")]
+    found = [path for path in built if os.path.exists(path)]
+    return os.environ.get("LEDGER") or (found[0] if found else shutil.which("ledger") or "ledger")
 
 
 def main(arguments: Sequence[str], source: Optional[IO[str]] = None, out: Optional[IO[str]] = None) -> int:
@@ -240,6 +220,7 @@ def main(arguments: Sequence[str], source: Optional[IO[str]] = None, out: Option
         with contextlib.suppress(ImportError):
             import readline  # noqa: F401  (lines can be edited and called back)
         print(HELP, file=out)
+        warn_of_rest(given.journal)
     if not os.path.exists(given.journal):
         print(f"no file {given.journal} yet: the first commit makes it", file=sys.stderr)
-    return Shell(Ledger(given.journal, given.program, given.timeout), out).run(source)
+    return Shell(Ledger(given.journal, given.program, given.timeout, warn_on_error), out).run(source)

@@ -27,7 +27,6 @@ import argparse
 import csv
 import os
 import sys
-import time
 from collections.abc import Callable, Sequence
 from typing import IO, Any, NoReturn, Optional
 
@@ -35,6 +34,7 @@ from . import ion
 from .blocks import Revision
 from .ion import Struct, Timestamp, Value, bare
 from .journal import Digest, Journal, NoSuchTable, NotAJournal, latest
+from .progress import Progress
 
 WORDS, INPUT, DAMAGED, UNREADABLE, DIFFERS = 1, 2, 3, 5, 7
 
@@ -50,30 +50,6 @@ class Refused(Exception):
 def printable(text: str) -> str:
     """The text with escapes in place of characters that a terminal may obey."""
     return "".join(c if c.isprintable() else f"\\u{ord(c):04x}" if ord(c) < 0x10000 else f"\\U{ord(c):08x}" for c in text)
-
-
-class Progress:
-    """Says on standard error how far a reading is, once it has taken more than a second."""
-
-    def __init__(self, size: int, out: Optional[IO[str]] = None) -> None:
-        self.size = size
-        self.out = out or sys.stderr
-        self.next = time.monotonic() + 1
-        self.shown = False
-
-    def __call__(self, done: int) -> None:
-        now = time.monotonic()
-        if now < self.next:
-            return
-        self.next = now + 1
-        self.shown = True
-        end = "\r" if self.out.isatty() else "\n"
-        print(f"read {done / 1e6:.1f} of {self.size / 1e6:.1f} MB", end=end, file=self.out, flush=True)
-
-    def end(self) -> None:
-        """Ends the line, if one was begun."""
-        if self.shown and self.out.isatty():
-            print(file=self.out)
 
 
 def read_journal(path: str) -> Journal:

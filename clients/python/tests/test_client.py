@@ -9,8 +9,11 @@ import time
 import unittest
 
 from common import AT, PROGRAM, WithJournal
-from ledger import BusyJournal, Conflict, DamagedJournal, Ledger, NotVerified, Outcome, Refused, Statement, Struct, Transaction, UnexpectedRows, client, ion
+from ledger import (
+    BusyJournal, Conflict, DamagedJournal, Ledger, NotVerified, Outcome, Refused, RestWarning, Statement, Struct, Transaction, UnexpectedRows, client, ion,
+)
 from ledger.ids import Id
+from ledger.journal import fronts
 
 
 class Outcomes(WithJournal):
@@ -100,6 +103,45 @@ class Statuses(WithJournal):
             Ledger(self.path, PROGRAM, timeout=0.05).audit()
         threading.Timer(0.3, lambda: fcntl.flock(held, fcntl.LOCK_UN)).start()
         self.assertEqual(self.ledger.audit(), (1, 0))
+
+
+class Rests(WithJournal):
+    """Bytes after the last line feed are warned of before a run, and not before a run on a copy."""
+
+    def warned(self) -> list[str]:
+        words: list[str] = []
+        ledger = Ledger(self.path, PROGRAM, timeout=20, warn=words.append)
+        ledger.query("SELECT * FROM t")
+        self.assertEqual(words, [])
+        ledger.run([Transaction(["SELECT * FROM t"], abort=True)], check=False)
+        return words
+
+    def test_rests(self) -> None:
+        self.ledger.execute("CREATE TABLE t")
+        self.ledger.execute("INSERT INTO t ?", {"a": 1})
+        whole = self.content()
+        self.assertEqual(self.warned(), [])
+        for size in [1, 100_000]:
+            self.put(whole + b"x" * size)
+            self.assertEqual(len(self.warned()), 1)
+        self.put(whole[:-1])
+        words = self.warned()
+        self.assertIn("a whole block without its line feed", words[0])
+        self.assertIn(f"{len(whole.splitlines()[1])} bytes after the last line feed", words[0])
+        self.put(whole + b"{block")
+        with self.assertWarns(RestWarning) as caught:
+            self.ledger.execute("SELECT * FROM t")
+        self.assertEqual(os.path.basename(caught.filename), "client.py")  # `execute`, which calls `run`
+        self.assertEqual(self.warned(), [])
+
+    def test_fronts(self) -> None:
+        """What is taken from the fixed front of a line is what the reading of the whole line gives."""
+        for number in range(3):
+            self.ledger.run([Transaction([f"CREATE TABLE t{number}"]), Transaction([Statement(f"INSERT INTO t{number} ?", {"transactionInfo": "{place:"})])])
+        self.put(self.content() + b"{blockAddress")
+        blocks = self.ledger.read().blocks
+        self.assertEqual(list(fronts(self.path)), [(block.address, block.transaction_id, block.hash, block.place) for block in blocks])
+        self.assertEqual(len(blocks), 6)
 
 
 class Recovery(WithJournal):

@@ -135,6 +135,18 @@ class Shells(Registry):
         self.put(self.before)
 
 
+    def test_rest(self) -> None:
+        """Bytes after the last line feed are warned of before the run that cuts them off."""
+        self.put(self.before + b"{block")
+        for text, count in [("SELECT * FROM cars;", 0), ("SELECT * FROM cars; CREATE TABLE vans;", 1)]:
+            with contextlib.redirect_stderr(io.StringIO()) as said:
+                out = io.StringIO()
+                self.assertEqual(shell.main([self.path, "--program", PROGRAM], io.StringIO(text), out), 0, out.getvalue())
+            self.assertEqual(said.getvalue().count("6 bytes after the last line feed"), count)
+        self.assertTrue(self.content().startswith(self.before + b"{blockAddress:{"))
+        self.put(self.before)
+
+
 SCRIPT = """
 const fs = require("fs"), vm = require("vm");
 const html = fs.readFileSync(process.argv[1], "utf8");
