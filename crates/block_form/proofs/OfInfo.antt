@@ -201,7 +201,7 @@ tables-puts (t ∷ ts) (r ∷ rs) long fits revisions =
 abbrev pub is_plain_info : Info → Bool
 is_plain_info i = is_said i.said && list_all (λ c. not (is_redact c)) i.schema
 
--- the value is that of what was said and done, which fits
+-- the value holds what was said and done, which fits
 abbrev pub IsInfo : Value → List Revision → Info → Type 0
 IsInfo v rs i = (v ≡ info_value i rs) × (info_fits i ≡ true) × (length i.tables ≡ length rs) × (is_plain_info i ≡ true)
 

@@ -9,7 +9,7 @@ use ion_values::{OutOfMemory, Value};
 use ledger_model::Block;
 use std::alloc::Global;
 
-/// A block that was read, and whether each of its hashes is that of what it stands for.
+/// A block that was read, and whether each of its hashes is that of its contents.
 #[derive(Drop)]
 pub struct CheckedBlock {
     pub block: Block,

@@ -55,7 +55,7 @@ fn revision_hash_with(
     }
 }
 
-/// Whether the hash of the revision, whose metadata have this hash, is that of what it stands for.
+/// Whether the revision's hash is that of its contents. `metadata` is the hash of its metadata.
 fn has_revision_hash(
     alloc: Global,
     revision: &Revision,
@@ -85,8 +85,10 @@ fn have_hashes(
     Ok(true)
 }
 
-/// Whether each hash of the block, whose parts have these hashes, is that of what it stands for: those of its revisions,
-/// of its entries, of them all together, and its own.
+/// Whether each of the block's hashes is that of its contents.
+///
+/// These are the hashes of its revisions, of its entries, of them all together, and its own. `parts` are the hashes of
+/// its parts.
 pub fn has_hashes(alloc: Global, block: &Block, parts: &PartHashes) -> Result<bool, OutOfMemory>
     requires { parts.now ≡ part_hashes block.now }
     ensures { IfOk result (λ b. b ≡ spec.has_hashes block.now) }

@@ -110,7 +110,7 @@ pub fn entries_hash(info: &Hash32, revisions: &Hash, header: &Hash32) -> Hash32
 }
 
 /// The block of these parts, with its hashes. `previous` is the hash of the block before, or that of the strand.
-/// After want of memory the parts are dropped.
+/// If memory runs out, the parts are dropped.
 pub fn seal(
     alloc: Global,
     previous: Hash32,

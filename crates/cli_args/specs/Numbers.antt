@@ -14,7 +14,7 @@ has_zero_in_front (byte ∷ next ∷ word) = byte == 48
 abbrev pub is_number : List ℕ → Bool
 is_number word = not (length word == 0) && list_all is_ascii_digit word && not (has_zero_in_front word)
 
--- the number of a word that is one, where it has no more than so many binary digits
+-- the number of a word that is one, if it has no more binary digits than this
 unfoldable pub number_of : ℕ → List ℕ → Option ℕ
 number_of bits word =
     if is_number word && nat_lt (digits_value 10 word) (2 ^ bits) then Some (digits_value 10 word) else None

@@ -61,7 +61,7 @@ tip_of rows = at_will (number_of 64) (first_of (codes "tip") rows)
 abbrev pub digest_of : List Row → Option Command
 digest_of rows = option_map (λ tip. command.Digest tip) (tip_of rows)
 
--- the number of so many binary digits that stands at a place
+-- the number, of at most this many binary digits, that stands at a place
 abbrev pub number_at : ℕ → Text → List Row → Option ℕ
 number_at bits name rows = option_and_then (number_of bits) (first_of name rows)
 

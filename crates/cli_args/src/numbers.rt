@@ -4,7 +4,9 @@ ghost use Rattle.std.specs.Char.{is_ascii_digit};
 ghost use Rattle.std.specs.List.{list_all};
 ghost use Rattle.cli_args.specs.Numbers.{count_of, from_one_to, has_zero_in_front, is_number, number_of};
 
-/// The number that the word writes in decimal digits without a sign and without a zero in front, if it fits 64 bits.
+/// The number of 64 bits that the word writes.
+///
+/// It has decimal digits without a sign and without a zero in front.
 #[tactic(auto, unfolding(crate::specs::Numbers::number_of))]
 pub fn number_of(word: &str) -> Option<u64>
     ensures { result ≡ number_of 64 word.now }
@@ -15,7 +17,9 @@ pub fn number_of(word: &str) -> Option<u64>
     word.parse::<u64>().ok()
 }
 
-/// The number that the word writes in decimal digits without a sign and without a zero in front, if it fits 32 bits.
+/// The number of 32 bits that the word writes.
+///
+/// It has decimal digits without a sign and without a zero in front.
 #[tactic(auto, unfolding(crate::specs::Numbers::number_of))]
 pub fn small_number_of(word: &str) -> Option<u32>
     ensures { result ≡ number_of 32 word.now }

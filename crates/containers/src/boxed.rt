@@ -36,7 +36,7 @@ impl<T> Boxed<T> {
 }
 
 impl<T: Drop> Boxed<T> {
-    /// Moves the value to the heap. After want of memory it is dropped.
+    /// Moves the value to the heap. If memory runs out, it is dropped.
     pub fn new(alloc: Global, value: T) -> Result<Boxed<T>, OutOfMemory>
         ensures { IfOk result (λ b. b ≡ value) }
     {

@@ -57,7 +57,7 @@ impl Text {
         self.text.len()
     }
 
-    /// Puts a text at the end. After want of memory the text is as before.
+    /// Appends a text. If memory runs out, the text is unchanged.
     pub fn push_str(&mut self, more: &str) -> Result<(), OutOfMemory>
         ensures ok { OnOk result (self.new ≡ self.old ++ more.now) }
         ensures err { OnErr result (self.new ≡ self.old) }
@@ -66,7 +66,7 @@ impl Text {
         Ok(())
     }
 
-    /// Puts a character at the end. After want of memory the text is as before.
+    /// Appends a character. If memory runs out, the text is unchanged.
     pub fn push(&mut self, character: char) -> Result<(), OutOfMemory>
         ensures ok { OnOk result (self.new ≡ self.old ++ encode_utf8 character) }
         ensures err { OnErr result (self.new ≡ self.old) }

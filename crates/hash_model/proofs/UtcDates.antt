@@ -28,7 +28,7 @@ later here there m e = omega (arith, signed_arith)
 regrouped : (a b c : ℤ) → a +ℤ (b -ℤ c) ≡ (a +ℤ b) -ℤ c
 regrouped a b c = omega (arith, signed_arith)
 
--- a day and a clock that stand for so many minutes behind the beginning of another day
+-- a day and a clock that stand for `m` minutes after the beginning of another day
 abbrev Told : ℤ → ℤ → ℤ → ℕ → Type 0
 Told here m there clock = (there *ℤ pos 1440 +ℤ pos clock ≡ here *ℤ pos 1440 +ℤ m) × (clock < 1440)
 

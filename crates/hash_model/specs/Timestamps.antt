@@ -32,7 +32,7 @@ abbrev pub offset_bytes : Option ℤ → List ℕ
 offset_bytes None = var_int true 0
 offset_bytes (Some minutes) = var_int (is_below_zero minutes) (unsigned_abs minutes)
 
--- the fraction as a decimal of so many digits, or nothing where it has no digits
+-- the fraction as a decimal with its count of digits, or nothing if it has no digits
 abbrev pub fraction_bytes : ℕ → ℕ → List ℕ
 fraction_bytes digits nanos = if digits == 0 then [] else var_int true digits ++ int_field false (nanos / 10 ^ (9 - digits))
 

@@ -52,7 +52,7 @@ paired (x ∷ y ∷ rest) = dot32 x y ∷ paired rest
 paired (x ∷ []) = []
 paired [] = []
 
--- a list after its neighbours are hashed so many times
+-- a list after its neighbours are hashed once for each level
 unfoldable pub paired_times : ℕ → List Hash32 → List Hash32
 paired_times zero xs = xs
 paired_times (suc times) xs = paired_times times (paired xs)

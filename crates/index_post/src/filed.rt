@@ -16,8 +16,9 @@ use std::sync::Arc;
 /// The positions of each key, and each position leads to itself.
 type Sets<K> = PMap<K, PMap<u64, u64>>;
 
-/// One version of the positions that are filed under each key of a type with an order, which contracts see as the keys in
-/// their order, each with its positions in ascending order.
+/// One version of the positions that are filed under each key.
+///
+/// Contracts see it as the keys in their order, each with its positions in ascending order.
 #[derive(Drop)]
 pub struct Filed<K: Keyed> {
     alloc: Global,
@@ -60,8 +61,9 @@ impl<K: Keyed> Filed<K> {
 }
 
 impl<K: Keyed + Drop> Filed<K> {
-    /// The same positions, but this one is taken from the old key, if there is one, and put under the new key, if there is
-    /// one, as a new version.
+    /// A new version, with this position moved from the old key to the new one.
+    ///
+    /// Without an old key it is only put under the new one, and without a new key only taken away.
     pub fn change(
         &self,
         position: u64,

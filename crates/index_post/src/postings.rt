@@ -46,8 +46,9 @@ impl Postings {
         self.filed.of(key)
     }
 
-    /// The same positions, but this one is taken from the old key, if there is one, and put under the new key, if there is
-    /// one, as a new version.
+    /// A new version, with this position moved from the old key to the new one.
+    ///
+    /// Without an old key it is only put under the new one, and without a new key only taken away.
     pub fn change(
         &self,
         position: u64,

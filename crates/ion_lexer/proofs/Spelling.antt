@@ -32,7 +32,7 @@ all_digits : each_below is_read 64 ≡ true
 unfolding each_below is_read
 all_digits = refl
 
--- a digit's place is what it stands for
+-- a digit's place is its value
 digit_read : (k : ℕ) → k < 64 → digit_place (slice_index base64_digits k) ≡ k
 unfolding is_read
 digit_read k h = eqb-true _ k (and_parts (digit_place (slice_index base64_digits k) == k) (not (slice_index base64_digits k == 61)) (below is_read 64 k all_digits h)).0

@@ -36,7 +36,7 @@ pub fn put(out: &mut Vec<u8>, given: Given) -> Result<(), OutOfMemory>
     Ok(())
 }
 
-/// The bytes behind so many.
+/// The bytes after the first `count`.
 pub fn behind(bytes: &[u8], count: usize) -> &[u8]
     ensures { result.now ≡ drop count bytes.now }
 {

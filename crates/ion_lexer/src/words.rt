@@ -27,7 +27,7 @@ pub fn lex_word(alloc: Global, bytes: &[u8]) -> Result<Lexed, OutOfMemory>
     Ok(word)
 }
 
-/// Whether the word in front, with so many bytes behind its first one, is `null` with a point
+/// Whether the first word, with `more` bytes after its first one, is `null` with a point
 /// behind it.
 fn is_typed(more: usize, bytes: &[u8]) -> bool
     ensures value { result ≡ is_typed more bytes.now }

@@ -30,7 +30,7 @@ some_same x y h = cc
 
 -- ---- what is read up to an ASCII byte
 
--- there are so many bytes, and the last of them is ASCII
+-- the count of the bytes, the last of which is ASCII
 record UpTo (n : ℕ) (z : List ℕ) : Type 0 where
   within : n ≤ length z
   ascii : get_or z (n - 1) 0 < 128

@@ -17,7 +17,7 @@ piece more bytes = record { gives = bytes; more = more }
 abbrev pub hex_digit : ℕ → Option ℕ
 hex_digit b = if nat_lt (digit_value b) 16 then Some (digit_value b) else None
 
--- two numbers as one, the first of which counts so many times
+-- two numbers as one, the first of which is multiplied by the base
 abbrev pub hex_pair : ℕ → Option ℕ → Option ℕ → Option ℕ
 hex_pair weight (Some high) (Some low) = Some (high * weight + low)
 hex_pair weight _ _ = None

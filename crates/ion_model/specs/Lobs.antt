@@ -16,7 +16,7 @@ use Rattle.ion_model.specs.declared.Token.TheVariants as token
 use Rattle.ion_model.specs.declared.Lexed.{Lexed}
 use Rattle.ion_model.specs.declared.Lexed.TheVariants as lexed
 
--- a lob of so many bytes between its braces, or one that is refused
+-- a lob, with the count of bytes between its braces, or one that is refused
 abbrev pub lob_token : (List ℕ → Scalar) → IonKind → ℕ → Option (List ℕ) → Lexed
 lob_token made refused len (Some bytes) = lexed.Token (token.Scalar (made bytes)) (len + 3)
 lob_token made refused len None = lexed.Refused refused
@@ -53,11 +53,11 @@ clob_hides b z =
     else (if begins_segment (b ∷ z) then option_map (λ len. len + 5) (before (codes "'''") false (drop 2 z))
     else Some 0)
 
--- a string of so many bytes, with white space alone behind it
+-- a string, with the count of its bytes, and white space alone after it
 abbrev pub short_clob : List ℕ → ℕ → Option (List ℕ)
 short_clob z len = if list_all is_space (drop (len + 1) z) then clob_content (short clob_escape) (take len z) else None
 
--- a segment of so many bytes
+-- a segment, with the count of its bytes
 abbrev pub clob_segment : List ℕ → ℕ → Option Piece
 clob_segment z len = option_map (piece (len + 5)) (clob_content (long clob_escape) (take len z))
 

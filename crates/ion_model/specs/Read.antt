@@ -44,7 +44,7 @@ abbrev pub go_on : ℕ → (Open → Answer) → Taken → Answer
 go_on at rest (Ok fs) = rest fs
 go_on at rest (Err k) = refused at k
 
--- what the token at `at` makes of the open containers, and then the rest, behind so many bytes; the text ends at `end`
+-- what the token at `at` makes of the open containers, and then the rest of the text, which ends at `end`
 abbrev pub turn : ℕ → ℕ → ℕ → Open → (ℕ → Open → Answer) → Lexed → Answer
 turn depth at end fs rest (lexed.Blank more) = rest more fs
 turn depth at end fs rest (lexed.Token t more) = go_on at (rest more) (accept depth fs t)

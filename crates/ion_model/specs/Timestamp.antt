@@ -23,7 +23,7 @@ first_digits (suc count) n = digit (n / 100_000_000) ∷ first_digits count (n %
 abbrev pub fraction_text : ℕ → ℕ → List ℕ
 fraction_text count nanos = if count == 0 then [] else 46 ∷ first_digits count nanos
 
--- `hh:mm` of so many minutes
+-- `hh:mm` of a number of minutes
 abbrev pub clock_text : ℕ → List ℕ
 clock_text minutes = two_digits (minutes / 60) ++ 58 ∷ two_digits (minutes % 60)
 

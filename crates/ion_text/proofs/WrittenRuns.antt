@@ -21,7 +21,7 @@ differs test a b h k = ne_eqb a b (λ e. both_ways (test a) (ap test e ∙ k) h)
 
 -- ---- the first byte at which a test holds
 
--- so many bytes pass where the next one doesn't
+-- a count of bytes that pass, if the next one doesn't
 pub pass_behind :
     (test kept : ℕ → Bool) → ((b : ℕ) → kept b ≡ true → test b ≡ true) → (xs ys : List ℕ) → list_all kept xs ≡ true → prefix_len test ys ≡ 0 →
     prefix_len test (xs ++ ys) ≡ length xs

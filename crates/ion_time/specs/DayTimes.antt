@@ -3,7 +3,7 @@ use Rattle.std.specs.Prelude.{ℕ, ◌*◌, ◌/◌, ◌%◌, pos, Some}
 use Rattle.ion_values.specs.declared.time.TimeParts.{TimeParts}
 use Rattle.ion_values.specs.declared.time.Precision.TheVariants.{Second}
 
--- the timestamp on a date in UTC, so many milliseconds behind its beginning
+-- the timestamp on a date in UTC, `millis` milliseconds after its beginning
 abbrev pub time_of_day : ℕ → ℕ → ℕ → ℕ → TimeParts
 time_of_day year month day millis = record {
   precision = Second;

@@ -22,7 +22,7 @@ const START_OF_10000: i64 = 2_932_897 * 86_400_000;
 #[derive(Clone, Copy, Debug, PartialEq, Eq)]
 pub struct OutOfYears;
 
-/// The timestamp in UTC, of second precision with three digits, that begins so many milliseconds after
+/// The timestamp in UTC, of second precision with three digits, that begins `ms` milliseconds after
 /// 1970 in UTC, or before it where they are negative (Ion 1.0, "Timestamps"). `OutOfYears` comes exactly
 /// outside the years 0001 to 9999. It takes no memory.
 pub fn from_millis(ms: i64) -> Result<IonTime, OutOfYears>
@@ -90,7 +90,7 @@ fn millis_of_day(ms: i64) -> u32
     ms.rem_euclid(DAY) as u32
 }
 
-/// The timestamp on the day of this number, so many milliseconds behind its beginning.
+/// The timestamp on the day of this number, `millis` milliseconds after its beginning.
 fn time_on(day: i64, millis: u32) -> IonTime
     requires first { neg_ℤ (pos 719_162) ≤ℤ day }
     requires last { day ≤ℤ pos 2_932_896 }
@@ -126,7 +126,7 @@ fn year_of(date: Date) -> u16
     date.year as u16
 }
 
-/// The parts of the timestamp on a date in UTC, so many milliseconds behind its beginning.
+/// The parts of the timestamp on a date in UTC, `millis` milliseconds after its beginning.
 fn time_of_day(year: u16, month: u8, day: u8, millis: u32) -> TimeParts
     requires { millis < 86_400_000 }
     ensures { result ≡ time_of_day year month day millis }

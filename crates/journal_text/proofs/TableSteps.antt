@@ -180,7 +180,7 @@ at_end tables indexes schema r h = record {
       (subst (λ (is : List Indexed). TablesStand h.tables_now is r) h.indexes_end h.stands);
 }
 
--- ---- the same, place by place
+-- ---- the tables' steps, place by place
 
 pub one_more_at : (tables : List Table) (indexes : List Indexed) (schema : List Schema) (i j : ℕ) (c : Schema) (r n : Tables) (answer : Bool)
     → j ≡ suc i → i < length schema → c ≡ get_or schema i c → Halfway tables indexes schema (drop i schema) r → Makes r c answer n → answer ≡ true

@@ -20,7 +20,7 @@ pub record ReadSoFar : Type 0 where
 abbrev pub taken : ReadSoFar → List ℕ
 taken r = journal_bytes r.blocks ++ r.line
 
--- damage ends a reading, and want of memory doesn't
+-- damage ends a reading, and out of memory doesn't
 abbrev pub lasting : JournalFault → Option JournalFault
 lasting (fault.Damaged sequence kind) = Some (fault.Damaged sequence kind)
 lasting fault.OutOfMemory = None
@@ -42,7 +42,7 @@ pub record IsOneMore (old new : List Block) (text : List ℕ) : Type 0 where
   pub line : IsLineOf text block
   pub undamaged : damage_behind old block ≡ None
 
--- what a reader keeps true: its registry, where it has one, is of its blocks, and their lines have so many bytes
+-- what a reader keeps true: its registry, if it has one, is of its blocks, and `size` counts their lines' bytes
 pub record IsReader (blocks : List Block) (line : List ℕ) (registry : Option Registry) (size : ℕ) : Type 0 where
   pub undamaged : Undamaged blocks
   pub torn : has_no_line_feed line ≡ true

@@ -96,9 +96,10 @@ fn has_previous(
     Ok(block.previous.bytes == last.bytes)
 }
 
-/// The first check that the block fails behind these blocks, of which the registry is; whether its hashes hold was seen
-/// before. Where it fails none the registry has taken it in; else, and after want of memory, the registry is of no more
-/// use.
+/// The first check that the block fails after these blocks.
+///
+/// The registry is that of the blocks, and whether the block's hashes hold was seen before. If the block fails no check,
+/// the registry has taken it in; else, and if memory ran out, the registry is of no more use.
 pub(crate) fn damage_of(
     alloc: Global,
     registry: &mut Registry,

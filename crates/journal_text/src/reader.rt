@@ -61,10 +61,11 @@ impl JournalReader {
         }
     }
 
-    /// Takes the bytes of the piece up to and with its first line feed, or all of them where there is none, and answers
-    /// their number. A character may be cut by the end of a piece. `Damaged` comes exactly at the first whole line that
-    /// fails a check, with the first check that it fails; from then on the answer is the same and nothing is taken.
-    /// After want of memory nothing was taken.
+    /// Takes the piece's bytes up to and with its first line feed, and returns their number.
+    ///
+    /// If it has no line feed, all of them are taken. A character may be cut by the end of a piece. `Damaged` comes
+    /// exactly at the first whole line that fails a check, with the first check that it fails; from then on each call
+    /// returns it and takes nothing. If memory runs out, nothing is taken.
     pub fn feed(&mut self, piece: &[u8]) -> Result<usize, JournalFault>
         ensures again { IfSome self.old.damaged (λ fault. (result ≡ Err fault) × (self.new ≡ self.old)) }
         ensures taken { OnOk result (taken self.new ≡ taken self.old ++ take_through 10 piece.now) }
@@ -162,8 +163,9 @@ fn lasting(fault: JournalFault) -> Option<JournalFault>
     }
 }
 
-/// How many bytes there are with one line more, of which so many bytes were there and so many come before its line
-/// feed.
+/// The number of bytes with one line more.
+///
+/// Before it there were `size` bytes; the line has `begun` and then `text` bytes before its line feed.
 fn longer(size: u64, begun: usize, text: usize) -> Result<u64, OutOfMemory>
     ensures { IfOk result (λ new. new ≡ size + begun + text + 1) }
 {
@@ -171,7 +173,7 @@ fn longer(size: u64, begun: usize, text: usize) -> Result<u64, OutOfMemory>
     u64::try_from(new).ok().ok_or(OutOfMemory)
 }
 
-/// Puts bytes behind the others. After want of memory they are as before.
+/// Appends bytes to the line. If memory runs out, the line is unchanged.
 fn extend(line: &mut Vec<u8>, more: &[u8]) -> Result<(), OutOfMemory>
     ensures put { OnOk result (line.new.items ≡ line.old.items ++ more.now) }
     ensures same { OnErr result (line.new.items ≡ line.old.items) }
@@ -209,8 +211,9 @@ fn registry_for(
     }
 }
 
-/// Puts the block behind the others whose line this text is, with a line feed behind it, if it passes each check, and
-/// gives the registry with it. The given one is that of the blocks; where there is none it is made anew.
+/// Appends the block of this line, if it passes each check, and returns the registry with it.
+///
+/// The text is the line without its line feed. The given registry is that of the blocks; if there is none, it is made anew.
 fn take_line(
     alloc: Global,
     blocks: &mut Blocks,

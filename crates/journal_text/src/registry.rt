@@ -47,8 +47,9 @@ impl Registry {
         self.transactions.contains(&tx.raw)
     }
 
-    /// Takes in a block whose id is in order, if it follows what the blocks so far left, and tells whether it does.
-    /// Where it doesn't, and after want of memory, the registry is of no more use.
+    /// Takes in a block if it follows what the blocks so far left, and returns whether it does.
+    ///
+    /// The block's id is in order. If it doesn't follow, or memory runs out, the registry is of no more use.
     pub(crate) fn admit(
         &mut self,
         alloc: Global,

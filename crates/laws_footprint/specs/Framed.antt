@@ -61,7 +61,7 @@ NameIsFramed =
     → indexes_of table (schemas_now (state blocks) p).indexes
     ≡ indexes_of table (schemas_now (state (take since blocks)) p).indexes)
 
--- the rows of a table source that meet one of the items are the same, where neither the name of its table nor any
+-- the rows of a table source that meet one of the items are equal, if neither the name of its table nor any
 -- item is touched: of a user view, a committed view or a history
 abbrev pub rows_read_of : Schemas → List Item → Viewed → List Value → SourceKind → List Row
 rows_read_of now items views params kind = filter (is_read now items kind) (rows_given views params kind)

@@ -11,8 +11,8 @@ use Rattle.ledger_model.specs.Making.{IsMadeOf}
 use Rattle.laws_machine.specs.Machine.{Answer, Event, Machine, Service, begin, begun, behind, commit, ends, fails, happens, opened, seals, store_failed, wants}
 use Rattle.laws_machine.specs.Ranges.{AllFit, IsOpening}
 
--- A transaction has begun on so many blocks; its block was sealed; the store failed at it, for the `count`th time;
--- or memory was wanted, where there is a block if it had come to its store.
+-- A transaction has begun on a number of blocks; its block was sealed; the store failed at it, for the `count`th time;
+-- or memory ran out, with a block if it had come to its store.
 pub data Entry : Type 0 where
   begun_at : Place → (number since : ℕ) → Entry
   sealed : (number : ℕ) → Block → Entry

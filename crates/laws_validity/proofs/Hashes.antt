@@ -1,4 +1,4 @@
--- Each hash of a sealed block has 32 bytes, and is the hash of what it stands for.
+-- Each hash of a sealed block has 32 bytes, and is the hash of its contents.
 use Rattle.std.proofs.Common.{◌≡◌, ◌∙◌, ◌%◌, ℕ, zero, suc, true, List, [], ◌∷◌, map, length, refl, arith}
 use Rattle.std.specs.Prelude.{slice_index, nat_lt}
 use Rattle.std.specs.Int.{to_be_bytes, w32}

@@ -195,7 +195,7 @@ no_room : has_room (record start { log = numbered 40 }) ≡ false
 unfolding numbered
 no_room = refl
 
--- so many lists around a list
+-- nested lists around a list
 nested : ℕ → Value
 nested zero = plain (body.List [])
 nested (suc n) = plain (body.List (nested n ∷ []))

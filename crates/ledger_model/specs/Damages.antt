@@ -63,7 +63,7 @@ has_previous strand before b = same_hash b.previous (last_hash strand before)
 abbrev pub has_revision_hash : Revision → Bool
 has_revision_hash r = same_hash r.hash (revision_hash r.content r.metadata)
 
--- each hash is that of what it stands for
+-- each hash is that of its contents
 abbrev pub has_hashes : Block → Bool
 has_hashes b =
     let computed = sealed b.previous b.header b.info b.revisions in

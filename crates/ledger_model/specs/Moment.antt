@@ -8,7 +8,7 @@ use Rattle.ion_values.specs.declared.time.Precision.TheVariants as precision
 use Rattle.ion_values.specs.Time.{is_in_years}
 use Rattle.ion_model.specs.Timestamp.{timestamp_text}
 
--- the last of so many, counted from 1, that has begun on the day
+-- the last, counted from 1, of those that have begun on the day
 abbrev pub last_begun : (ℕ → ℤ) → ℤ → ℕ → ℕ
 last_begun start day zero = 0
 last_begun start day (suc n) = if int_le (start (suc n)) day then suc n else last_begun start day n
@@ -25,7 +25,7 @@ month_of day = last_begun (λ month. days_from_civil (pos (year_of day)) month 1
 unfoldable pub day_of : ℤ → ℕ
 day_of day = unsigned_abs (day -ℤ days_from_civil (pos (year_of day)) (month_of day) 1) + 1
 
--- so many billionths of a second behind the beginning of a date
+-- a number of nanoseconds after the beginning of a date
 abbrev pub time_at : ℕ → ℕ → ℕ → ℕ → TimeParts
 time_at year month day nanos = record {
   precision = precision.Second;

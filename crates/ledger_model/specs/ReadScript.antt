@@ -61,7 +61,7 @@ digest_of bytes = if length bytes == 32 then Some (Some (record { bytes = bytes 
 abbrev pub digest_in : Value → Option (Option Hash32)
 digest_in v = and_then (blob_in v) digest_of
 
--- whether it is given up
+-- whether it is aborted
 abbrev pub abort_of : List ℕ → Option Bool
 abort_of name =
     if bytes_eq name (codes "commit") then Some false else

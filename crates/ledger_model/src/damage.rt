@@ -11,7 +11,7 @@ pub enum Damage {
     TimeFell,
     /// The previous hash isn't that of the block before.
     WrongPrevious,
-    /// A hash isn't that of what it stands for.
+    /// A hash isn't that of its contents.
     WrongHash,
     /// What the transaction did can't follow what the blocks before did.
     WrongState,

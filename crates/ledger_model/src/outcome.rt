@@ -16,13 +16,13 @@ pub enum Refusal {
     ReservedName { name: Text },
     /// The table has an index on the field already.
     IndexExists { name: Text, field: Text },
-    /// So many tables are active, or were created by the transaction.
+    /// `count` tables are active, or were created by the transaction.
     TooManyTables { count: u64 },
-    /// The table has so many indexes.
+    /// The table has `count` indexes.
     TooManyIndexes { count: u64 },
     /// This would be the document of that number that the transaction touches.
     TooManyRevisions { count: u64 },
-    /// The document's text has so many bytes.
+    /// The document's text has `bytes` bytes.
     DocumentTooLarge { bytes: u64 },
     /// A value of this kind was to be inserted, and it is no struct.
     NotADocument { kind: Kind },
@@ -105,7 +105,7 @@ pub enum Outcome {
     IdsSpent {
         last: u64,
     },
-    /// It was given up as the script asks.
+    /// It was aborted, as the script asks.
     Aborted {
         tx: TxId,
         since: u64,

@@ -9,7 +9,7 @@ pub untold : {T E : Type 0} (r : Result T E) → IfOk r (λ _. ⊤)
 untold (Ok x) = tt
 untold (Err e) = tt
 
--- what holds after any fault holds after want of memory
+-- what holds after any fault holds after memory ran out
 pub lent_untold : {T P : Type 0} (r : Result T OutFault) → OnErr r P → IsErrOf r OutOfMemory → P
 lent_untold (Ok x) p wanted = cc
 lent_untold (Err fault) p wanted = p

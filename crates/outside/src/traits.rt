@@ -38,8 +38,8 @@ pub trait Source {
     fn faults(&self) -> u64
         ensures { result ≡ (told self.now).faults };
 
-    /// Reads into the front of `out`, and answers how many bytes it gave. The answer 0 for a piece that is
-    /// not empty is the end of the input. After a fault what is left is as before, and after want of memory
+    /// Reads into the front of `out`, and returns how many bytes it read. Zero for a piece that isn't empty
+    /// is the end of the input. After a fault the rest of the input is unchanged, and if memory ran out
     /// `out` is too.
     fn read(&mut self, out: &mut [u8]) -> Result<usize, OutFault>
         ensures bound { ReadsAtMost result out.new }
@@ -71,7 +71,7 @@ pub trait Sink {
 /// Where the journal is kept: a row of bytes that grows at its end and can be cut there.
 pub trait JournalStore {
     /// The content, where the store tells it: the bytes that it holds and what a stop of the machine may leave of
-    /// them. Whether the last call by `&mut` answered `Failed`, which want of memory is not. How often the store has
+    /// them. Whether the last call by `&mut` returned `Failed`, which out of memory is not. How often the store has
     /// failed.
     ghost told: { Self → StoreTold };
 
@@ -98,15 +98,15 @@ pub trait JournalStore {
         ensures last { (told self.new).last_failed ≡ is_failed result }
         ensures cause { HasCause (told self.old).faults (told self.new).faults result };
 
-    /// Adds a piece at the end. After a failure a prefix of the piece stands behind the old bytes, and after
-    /// want of memory the bytes are the old ones.
+    /// Appends a piece. After a failure a prefix of the piece stands after the old bytes, and if memory ran
+    /// out the bytes are the old ones.
     fn append(&mut self, piece: &[u8]) -> Result<(), OutFault>
         ensures content { AppendLeaves result (told self.old).content (told self.new).content piece.now }
         ensures last { (told self.new).last_failed ≡ is_failed result }
         ensures cause { HasCause (told self.old).faults (told self.new).faults result };
 
-    /// Keeps the first `size` bytes alone. A size above the one that there is changes no byte. After a
-    /// failure the bytes are the old ones or the cut ones, and after want of memory the old ones.
+    /// Keeps the first `size` bytes alone. A size above the present one changes no byte. After a failure the
+    /// bytes are the old ones or the cut ones, and if memory ran out the old ones.
     fn cut(&mut self, size: u64) -> Result<(), OutFault>
         ensures content { CutLeaves result (told self.old).content (told self.new).content size }
         ensures last { (told self.new).last_failed ≡ is_failed result }

@@ -39,7 +39,7 @@ nodes_above leaves = nodes_up_to leaves 32
 
 -- ---- a counter of 64 bits
 
--- the counter after so many steps; at its end it stands still
+-- the counter after a number of steps; at its end it stands still
 unfoldable pub after_steps : ℕ → ℕ → ℕ
 after_steps zero taken = taken
 after_steps (suc more) taken = min (after_steps more taken + 1) (2 ^ 64 - 1)

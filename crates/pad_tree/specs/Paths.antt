@@ -10,7 +10,7 @@ use Rattle.hash_model.specs.Tree.{node, height_of, pad_hash, root_of}
 abbrev pub sibling_of : ℕ → ℕ
 sibling_of place = if place % 2 == 0 then place + 1 else place - 1
 
--- the siblings on the way up from a place of a level, over so many levels
+-- the siblings on the way up from a place of a level, for each level on the way
 unfoldable pub siblings : Hash32 → List Hash32 → ℕ → ℕ → ℕ → List Hash32
 siblings pad leaves level zero place = []
 siblings pad leaves level (suc levels) place = node pad leaves level (sibling_of place) ∷ siblings pad leaves (suc level) levels (place / 2)

@@ -85,7 +85,7 @@ impl Grow {
         put_leaf(&mut self.levels, leaf, steps);
     }
 
-    /// Puts a leaf at the end, and makes room for it before. After want of memory the leaves are as before.
+    /// Appends a leaf, after making room for it. If memory runs out, the leaves are unchanged.
     pub fn append(&mut self, leaf: Hash32) -> Result<(), OutOfMemory>
         requires { length self.old.leaves < 2 ^ 32 }
         ensures put { OnOk result (self.new.leaves ≡ self.old.leaves ++ leaf ∷ []) }

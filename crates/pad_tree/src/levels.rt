@@ -119,7 +119,7 @@ impl Level {
         counted_dot(&self.at(2 * place), &self.at(2 * place + 1), steps)
     }
 
-    /// Puts a node behind the first so many, in the place of any others. It takes no memory.
+    /// Puts a node after the first `kept`, in the place of any others. It takes no memory.
     pub(crate) fn set_last(&mut self, kept: usize, node: Hash32)
         requires { 1 ≤ self.old.spare }
         ensures nodes { self.new.nodes ≡ take kept self.old.nodes ++ node ∷ [] }

@@ -40,7 +40,7 @@ pub fn before(a: &Hash32, b: &Hash32) -> bool
     }
 }
 
-/// The same, told by all bytes.
+/// Whether `a` comes before `b`, compared by all bytes.
 fn before_by_all(a: &Hash32, b: &Hash32) -> bool
     ensures { result ≡ comes_before a.now.bytes b.now.bytes }
 {

@@ -151,7 +151,7 @@ impl<K: Keyed + Drop, V: Drop> PMap<K, V> {
         Ok(len)
     }
 
-    /// The pairs with others in the place of the key's, which are so many then.
+    /// The pairs with others in the place of the key's, and their new count.
     fn changed(
         &self,
         key: &K,

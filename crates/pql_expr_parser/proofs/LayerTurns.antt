@@ -13,7 +13,7 @@ layers_are : (below : ℕ) → layers (suc below) ≡ layers_above below (layers
 unfolding layers
 layers_are below = refl
 
--- a layer above so many levels
+-- a layer above a number of levels
 pub layer_above : {A : Type 0} (part : Layers → A) (below : ℕ) → part (layers_above below (layers below)) ≡ part (layers (below + 1))
 layer_above part below =
     let more : suc below ≡ below + 1 = omega arith in

@@ -1,4 +1,4 @@
--- Productions of expressions with the layers of so many levels, by names that stay closed in proofs.
+-- Productions of expressions with the layers of a number of levels, by names that stay closed in proofs.
 use Rattle.std.specs.Prelude.{ℕ, List, [], length, Option}
 use Rattle.pql_model.specs.declared.expr.Expr.{Expr}
 use Rattle.pql_model.specs.declared.expr.Member.{Member}

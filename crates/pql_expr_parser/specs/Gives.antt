@@ -1,5 +1,5 @@
 -- What the parser in code gives, beside the grammar's productions: a parser is the reader of its tokens, and an answer the found tree
--- or the fault. Want of memory alone is free.
+-- or the fault. Out of memory alone is free.
 use Rattle.std.specs.Prelude.{◌≡◌, ℕ, ◌<◌, ◌≤◌, Bool, true, false, Option, option_map, Result, Ok, Err}
 use Rattle.pql_model.specs.declared.ParseKind.TheVariants as kind'
 use Rattle.pql_model.specs.declared.statement.Statement.{Statement}

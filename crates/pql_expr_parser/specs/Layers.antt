@@ -19,7 +19,7 @@ layer_in layer.Sum inner = inner.sum
 layer_in layer.Product inner = inner.product
 layer_in layer.Unary inner = inner.unary
 
--- an expression of this layer, of at most so many levels
+-- an expression of this layer, of at most that number of levels
 unfoldable pub layer_of : Layer → ℕ → Production (Tall Expr)
 layer_of which levels = layer_in which (layers levels)
 

@@ -12,7 +12,7 @@ use Rattle.pql_expr_parser.specs.Fronts.{any_name}
 use Rattle.pql_expr_parser.specs.declared.primaries.Function.{Function}
 use Rattle.pql_expr_parser.specs.declared.primaries.Function.TheVariants as function'
 
--- the step in front of a path, whose indexes are such expressions, of so many levels
+-- the step in front of a path, whose indexes are such expressions, of that number of levels
 abbrev pub step : ℕ → Production (Tall Expr) → Production (Option (Tall PathStep))
 step below index =
     choose (is_symbol (codes ".")) (past (any_name >>= (λ text. give (Some (tall (step'.Field text) 0)))))

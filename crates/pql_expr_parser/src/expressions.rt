@@ -38,7 +38,7 @@ pub fn expression(parser: &mut Parser<'_>) -> Result<Boxed<Expr>, ParseAnswer>
     Ok(whole.tree)
 }
 
-/// An expression of this layer, of at most so many levels.
+/// An expression of this layer, of at most `levels` levels.
 #[tactic(auto, using(crate::proofs::LayerTurns::layer_turns))]
 #[cycle(expression)]
 pub fn read_layer(
@@ -133,7 +133,7 @@ fn chain(
     Ok(left)
 }
 
-/// Goes behind an operator whose left operand has so many levels, where one more may stand above it.
+/// Goes past an operator whose left operand has `height` levels, if one more may stand above it.
 pub fn operate(parser: &mut Parser<'_>, height: usize, below: usize) -> Result<(), ParseAnswer>
     ensures { Operates result parser.new height below (seen parser.old) }
 {

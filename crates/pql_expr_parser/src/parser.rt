@@ -236,7 +236,7 @@ impl<'a> Parser<'a> {
         self.mark_at(self.at(), role)
     }
 
-    /// An expression of so many levels.
+    /// An expression and its number of levels.
     pub fn measured(&self, tree: Expr, height: usize) -> Result<MeasuredExpr, OutOfMemory>
         ensures { IfOk result (λ m. tall_of m ≡ tall tree height) }
     {
@@ -246,7 +246,7 @@ impl<'a> Parser<'a> {
         })
     }
 
-    /// Asks for a level, where so many are left.
+    /// Asks for a level, if one is left.
     pub fn descend(&self, below: usize) -> Result<(), ParseAnswer>
         ensures { Descends result below (seen self.now) }
     {

@@ -20,7 +20,7 @@ pub fn free_path(parser: &mut Parser<'_>, first: Text) -> Result<Path, ParseAnsw
     Ok(tree)
 }
 
-/// A path behind its first name, whose indexes may have so many levels.
+/// A path after its first name, whose indexes may have `below` levels.
 #[tactic(auto, using(crate::proofs::OpenedPaths::path_from_opens))]
 #[cycle(expression)]
 pub fn path_from(

@@ -13,7 +13,7 @@ use containers::{OutOfMemory, Text};
 use pql_model::{Lexed, ParseKind, Token};
 use std::alloc::Global;
 
-/// What stands in front: white space, a comment, a token or what is refused. So many `?` stood before.
+/// What stands in front: white space, a comment, a token or what is refused. `asked` marks `?` stood before.
 #[tactic(auto, unfolding(pql_model::specs::Tokens::lex))]
 pub fn lex(alloc: Global, asked: u32, bytes: &[u8]) -> Result<Lexed, OutOfMemory>
     ensures value { IfOk result (λ l. l ≡ spec.lex asked bytes.now) }

@@ -61,7 +61,7 @@ fn digits_len(bytes: &[u8]) -> usize
     bytes.iter().take_while(|b| b.is_ascii_digit()).count()
 }
 
-/// The number that so many bytes are, unless they begin a float.
+/// The number that the first `len` bytes are, unless they begin a float.
 fn number_of(alloc: Global, len: usize, places: usize, bytes: &[u8]) -> Lexed
     requires some { 0 < len }
     requires within { len ≤ length bytes.now }
@@ -97,7 +97,7 @@ fn digits_value(text: &[u8]) -> Option<u128>
     (number < 1 << 127).then_some(number)
 }
 
-/// The same, or None from 2^128 on.
+/// The number that the digits of the text are, or None from 2^128 on.
 fn magnitude(text: &[u8]) -> Option<u128>
     ensures { SomeIff result (digits_value 10 (filter is_ascii_digit text.now) < 2 ^ 128)
         (digits_value 10 (filter is_ascii_digit text.now)) }
@@ -120,7 +120,7 @@ fn with_digit(number: u128, digit: u8) -> Option<u128>
 /// The greatest number of places that a decimal has.
 const MOST_PLACES: usize = 32_767;
 
-/// These digits with so many places behind the point.
+/// These digits with `places` places after the point.
 fn number_token(alloc: Global, more: usize, digits: u128, places: usize) -> Lexed
     requires { digits < 2 ^ 127 }
     ensures { result ≡ spec.number_token more digits places }

@@ -19,7 +19,7 @@ use Rattle.pql_model.proofs.ExpressionDepths.{ConstantFits, constant_fits, gives
 use Rattle.pql_model.proofs.Gives.{Gives, front_depth, gives_choose, gives_give, gives_if_symbol, gives_if_word, gives_marked, gives_past, gives_refuse, gives_symbol, gives_then, gives_with_name, gives_word}
 use Rattle.pql_model.proofs.Tallness.{FitsExpr, FitsMember, FitsPath, Wraps, fits_above, fits_between, fits_binary, fits_count_all, fits_in, fits_like, fits_member, fits_negated, fits_still, member_literal, member_nesting, wraps_char_length, wraps_coalesce, wraps_count, wraps_itself, wraps_list, wraps_max, wraps_min, wraps_missing, wraps_negate, wraps_not, wraps_null, wraps_path, wraps_size, wraps_struct, wraps_sum}
 
--- expressions of at most so many levels
+-- expressions of at most that number of levels
 abbrev GivesExpr : ℕ → Production (Tall Expr) → Type 0
 GivesExpr levels p = Gives (Tall Expr) (FitsExpr levels) p
 

@@ -1,4 +1,4 @@
--- Which expressions fit into so many levels, and at which token one is too deep.
+-- Which expressions fit into a number of levels, and at which token one is too deep.
 use Rattle.std.proofs.Common.{◌≡◌, ℕ, List, Result, Ok, Err, codes, refl}
 use Rattle.std.specs.Char.{encode_utf8}
 use Rattle.std.specs.Str.{chars, is_utf8}
@@ -15,7 +15,7 @@ abbrev height_of : Result (Found (Tall Expr)) Fault → Result ℕ Fault
 height_of (Ok found) = Ok found.tree.height
 height_of (Err fault) = Err fault
 
--- the height of the expression that a text is, within so many levels
+-- the height of the expression that a text is, within a number of levels
 abbrev height : ℕ → List ℕ → Result ℕ Fault
 height levels text = height_of ((layers levels).whole (start (tokens text)))
 

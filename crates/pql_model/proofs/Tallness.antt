@@ -53,7 +53,7 @@ at_path_nesting first steps = search (rules, the_lemmas)
 at_path_literal : (first : List ℕ) (steps : List PathStep) → path_literal (path_of first steps) ≡ deepest (map step_literal steps)
 at_path_literal first steps = search (rules, the_lemmas)
 
--- ---- what fits into so many levels
+-- ---- what fits into a number of levels
 
 -- It has no more of them, nests no deeper than it is high, and has no literal that is deeper than 64.
 pub record Fits (A : Type 0) (nests literal : A → ℕ) (levels : ℕ) (x : Tall A) : Type 0 where

@@ -1,4 +1,4 @@
--- No value among the tokens of a statement is deeper than 64, where none is that Ion text gives with so many levels.
+-- No value among the tokens of a statement is deeper than 64, if none is that Ion text gives with that number of levels.
 use Rattle.std.proofs.Common.{◌≡◌, ℕ, zero, suc, ◌+◌, ◌-◌, ◌^◌, ◌≤◌, Bool, true, false, ◌&&◌, nat_le, nat_lt, if◌then◌else◌, List, [], ◌∷◌, take, drop, Ok, Err, Option, Some, None, codes, refl, arith, rules}
 use Rattle.std.specs.Prelude.{◌==◌, slice_index}
 use Rattle.std.specs.Char.{is_ascii_digit}

@@ -92,7 +92,7 @@ constant_of _ = None
 abbrev pub path_of : List ℕ → List PathStep → Path
 path_of first steps = record { first = first; steps = steps }
 
--- The steps of a path behind these. An index is such an expression, and may have so many levels.
+-- The steps of a path behind these. An index is such an expression, of that number of levels at most.
 abbrev pub steps : ℕ → ℕ → Production (Tall Expr) → Tall (List PathStep) → Production (Tall (List PathStep))
 steps zero below index so_far = give so_far
 steps (suc more) below index so_far =
@@ -259,7 +259,7 @@ compared below inner x (Some o) = operated below x (λ o. inner.concatenation >>
 abbrev pub related : ℕ → Layers → Tall Expr → Production (Tall Expr)
 related below inner x r = compared below inner x (comparing (token_of r)) r
 
--- ---- the layers, where so many levels may stand below their own
+-- ---- the layers, with the number of levels that may stand below their own
 
 abbrev pub unary : ℕ → Layers → Production (Tall Expr)
 unary below inner =
@@ -299,7 +299,7 @@ begins_expression t =
 abbrev pub no_level : Production (Tall Expr)
 no_level = choose begins_expression (refuse kind.TooDeep) (refuse kind.Unexpected)
 
--- ---- all layers, with so many levels
+-- ---- all layers, with the number of levels
 
 abbrev pub layers_above : ℕ → Layers → Layers
 layers_above below inner = record {

@@ -166,7 +166,7 @@ marks_aggregate _ = false
 abbrev pub aggregates : List Mark → ℕ
 aggregates marks = length (filter (λ m. marks_aggregate m.role) marks)
 
--- the mark of an item that began at this offset, where so many marks stood before
+-- the mark of an item that began at this offset, with the count of marks before it
 abbrev pub item_role : ℕ → Expr → List Mark → Role
 item_role before e marks = role.Item (is_aggregate e) (aggregates (drop before marks))
 

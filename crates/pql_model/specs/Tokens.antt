@@ -92,7 +92,7 @@ number_token more digits places =
 abbrev pub is_float_mark : ℕ → Bool
 is_float_mark b = b == byte "e" || b == byte "E"
 
--- so many bytes are a number, unless they begin a float
+-- the first bytes, by their count, are a number, unless they begin a float
 abbrev pub number_of : ℕ → ℕ → List ℕ → Lexed
 number_of len places z =
     if is_float_mark (slice_index z len) then lexed.Refused kind.FloatRefused
@@ -158,7 +158,7 @@ lex_symbol z = symbol_token 1 (symbol_in pairs z) (symbol_token 0 (symbol_in sin
 
 -- ---- all tokens
 
--- what begins with this byte, before the text z; so many `?` stood before
+-- what begins with this byte, before the text z, with the count of `?` before it
 abbrev pub lex_at : ℕ → ℕ → List ℕ → Lexed
 lex_at asked b z =
     if is_space b then lexed.Blank 0
@@ -178,7 +178,7 @@ lex asked (b ∷ z) = lex_at asked b z
 abbrev pub located : ℕ → Token → List Located → List Located
 located at t ls = record { token = t; at = at } ∷ ls
 
--- what the bytes at `at` are, and then the rest, behind so many bytes and so many `?`
+-- what the bytes at `at` are, and then the rest, with the counts of bytes and of `?` before it
 abbrev pub turn : ℕ → ℕ → (ℕ → ℕ → List Located) → Lexed → List Located
 turn asked at rest (lexed.Blank more) = rest more asked
 turn asked at rest (lexed.Token (token.Parameter n) more) = located at (token.Parameter n) (rest more (n + 1))
@@ -186,7 +186,7 @@ turn asked at rest (lexed.Token t more) = located at t (rest more asked)
 turn asked at rest (lexed.Refused k) = located at (token.Bad k) []
 
 -- The tokens of the bytes from `at` on, up to the first that is refused or to the text's end. The first `left` bytes belong to
--- what was read, and so many `?` stood before.
+-- what was read, and `asked` marks `?` stood before.
 abbrev pub tokens_from : ℕ → ℕ → ℕ → List ℕ → List Located
 tokens_from left asked at [] = located at token.End []
 tokens_from (suc left) asked at (b ∷ z) = tokens_from left asked (at + 1) z

@@ -48,7 +48,7 @@ inner_joined so_far =
     (choose (is_word (codes "JOIN")) (some_source (conditioned_source so_far))
     (give None))
 
--- the same, or a source behind CROSS JOIN
+-- the sources so far, or one more after CROSS JOIN
 abbrev pub joined : List Source → Production (Option Source)
 joined so_far = choose (is_word (codes "CROSS")) (past (word "JOIN" (some_source (source so_far)))) (inner_joined so_far)
 

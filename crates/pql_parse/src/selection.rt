@@ -80,7 +80,7 @@ fn item_value(parser: &mut Parser<'_>) -> Result<Boxed<Expr>, ParseAnswer>
     Ok(value)
 }
 
-/// The role of an item before which so many marks stood.
+/// The role of an item by the count of marks before it.
 fn item_role(value: &Expr, before: usize, marks: &[Mark]) -> Role
     ensures { result ≡ spec.item_role before value.now marks.now }
 {

@@ -29,7 +29,7 @@ abbrev pub refusal_at_end : List Block → ℕ → ℕ → Option NoSuch
 refusal_at_end [] sequence index = Some (none_such.Block sequence 0)
 refusal_at_end (b ∷ blocks) sequence index = refusal (b ∷ blocks) sequence index (length blocks)
 
--- an answer other than want of memory is the refusal that there is
+-- any answer but out of memory is the refusal that there is
 abbrev pub IsRefused : Option NoSuch → NoSuch → Type 0
 IsRefused refused none_such.OutOfMemory = Unit {0}
 IsRefused refused (none_such.Block sequence blocks) = refused ≡ Some (none_such.Block sequence blocks)

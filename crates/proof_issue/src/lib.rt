@@ -26,13 +26,13 @@ use std::alloc::Global;
 /// Why there is no such digest or proof.
 #[derive(Clone, Copy, Debug, PartialEq, Eq)]
 pub enum NoSuch {
-    /// There are so many blocks, and none of this number.
+    /// There are `blocks` blocks, and none of this number.
     Block { sequence: u64, blocks: u64 },
-    /// The block has so many revisions, and none of this index.
+    /// The block has `count` revisions, and none of this index.
     Revision { index: u32, count: u32 },
     /// The block is behind the tip.
     PastTip { sequence: u64, tip: u64 },
-    /// Want of memory.
+    /// The allocator had no memory left.
     OutOfMemory,
 }
 

@@ -103,7 +103,7 @@ first_entry [] x rest h = cc
 first_entry (Empty ∷ hs) x rest h = cc
 first_entry (Full y ∷ hs) x rest h = ap (λ z. Some (Full z)) (same_hash-is y x (left _ _ h))
 
--- the first of its entries' hashes is that of what its transaction said and did
+-- the first of its entries' hashes is the hash of its transaction's statements and changes
 pub info_entry : (b : Block) → has_hashes b ≡ true → slice_get b.list 0 ≡ Some (Full (hash_of (info_value b.info b.revisions)))
 info_entry b h =
     let computed = sealed b.previous b.header b.info b.revisions in

@@ -2,7 +2,7 @@
 use Rattle.std.proofs.Common.{◌≡◌, ℕ, ◌+◌, refl}
 use Rattle.hash_model.specs.Tree.{height_from, height_of}
 
--- the heights for so many revisions and so many blocks, with what the transaction did and the block before between them
+-- the heights for a number of revisions and of blocks, with what the transaction did and the block before between them
 length_for : ℕ → ℕ → ℕ
 length_for revisions blocks = height_of revisions + 2 + height_of blocks
 

@@ -154,7 +154,7 @@ empty_from_none (x ∷ (y ∷ xs)) h =
     let rest : y ∷ xs ≡ [] = empty_from_none (y ∷ xs) (ap (slice_get (x ∷ (y ∷ xs))) next ∙ h) in
     cc
 
--- the same, where each new row is known by an equation
+-- the grown tree again, with an equation for each new row
 module _ {X : Type 0} (upper : List (List (List X))) (middle : List (List X)) (leaf : List X) (item : X)
     (f : slice_get upper (length upper - 1) ≡ Some middle) (g : slice_get middle (length middle - 1) ≡ Some leaf) (p : IsLevelled upper)
     (low : List X) (mid : List (List X)) (new : List (List (List X))) where

@@ -39,7 +39,7 @@ impl<T> Shared<T> {
 }
 
 impl<T: Drop> Shared<T> {
-    /// Moves the value to the heap. After want of memory it is dropped.
+    /// Moves the value to the heap. If memory runs out, it is dropped.
     pub fn new(alloc: Global, value: T) -> Result<Shared<T>, OutOfMemory>
         ensures { IfOk result (λ s. s ≡ value) }
     {

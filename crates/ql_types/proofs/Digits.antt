@@ -26,7 +26,7 @@ unfolding digits_of
 digits-none text all from at left number e f so_far =
     ap (λ k. drop k text) (sym f) ∙ ap (λ k. digits_of k number ++ drop at text) (sym e) ∙ so_far
 
--- so many digits
+-- the count of digits
 pub length-digits_of : (count number : ℕ) → length (digits_of count number) ≡ count
 unfolding digits_of
 length-digits_of zero number = refl

@@ -116,7 +116,7 @@ pub fn id_digits(raw: u128) -> [u8; 22]
     text
 }
 
-/// Writes the last so many digits of a number from a place on. What stands behind them stays.
+/// Writes a number's last `count` digits from a place on. The bytes after them stay.
 fn put_digits(text: &mut [u8; 22], from: usize, count: usize, number: u64)
     requires { from + count ≤ 22 }
     ensures { drop from text.new ≡ digits_of count number ++ drop (from + count) text.old }

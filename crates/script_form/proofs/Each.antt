@@ -15,7 +15,7 @@ use Rattle.script_form.specs.declared.scripts.ScriptAnswer.TheVariants as answer
 abbrev pub behind : {B : Type 0} → List B → Option (List B) → Option (List B)
 behind made rest = option_map (λ ys. made ++ ys) rest
 
--- the same, up to the first fault
+-- each item's value, up to the first fault
 abbrev pub read_behind : {B E : Type 0} → List B → Result (List B) E → Result (List B) E
 read_behind made rest = if_read rest (λ ys. Ok (made ++ ys))
 

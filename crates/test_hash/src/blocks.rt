@@ -138,7 +138,9 @@ fn block(
     seal(alloc, previous, header, info(alloc, statement)?, revisions)
 }
 
-/// Whether the block has another hash than the first one, and the same hash of its entries only if they are the same.
+/// Whether the block's hash differs from the first one's.
+///
+/// The hash of its entries is equal only if they are.
 fn is_told_apart(first: &Block, other: &Block, same_entries: bool) -> bool {
     other.hash != first.hash && (other.entries == first.entries) == same_entries
 }

@@ -7,7 +7,7 @@ use std::test::Fail;
 
 const FAILED: OutFault = OutFault::Failed;
 
-/// So many bytes, 0 to 250 again and again.
+/// `length` bytes, 0 to 250 again and again.
 fn counted(alloc: Global, length: usize) -> Result<Vec<u8>, AllocError> {
     let mut bytes = Vec::new(alloc);
     for i in 0..length {

@@ -59,7 +59,7 @@ fn refusal(alloc: Global, journal: &str, sequence: u64, index: u32) -> Option<No
     prove_grown(alloc, &blocks, &tree, sequence, index).err()
 }
 
-/// The refusal where there are so many blocks.
+/// The refusal if there are `blocks` blocks.
 fn no_block(sequence: u64, blocks: u64) -> NoSuch {
     NoSuch::Block { sequence, blocks }
 }

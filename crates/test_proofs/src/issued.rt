@@ -59,7 +59,7 @@ fn issued_proofs_are_accepted(rt: HostRuntime) {
     }
 }
 
-/// Why there is no proof of the revision at an index of a block of the three, for the digest with this tip.
+/// Why there is no such proof of a revision, for the digest with this tip.
 fn refusal(alloc: Global, sequence: u64, index: u32, tip: u64) -> Option<NoSuch> {
     let blocks = blocks(alloc, THREE_BLOCKS)?;
     prove(alloc, &blocks, sequence, index, tip).err()

@@ -9,7 +9,7 @@ use session_driver::{Link, run_job};
 use std::alloc::Global;
 use std::sync::Wait;
 
-/// A link that answers so many conflicts more, and then commits. It counts its attempts.
+/// A link that returns a number of conflicts, and then commits. It counts its attempts.
 #[derive(Drop)]
 struct Busy {
     conflicts: u32,

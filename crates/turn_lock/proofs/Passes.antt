@@ -83,7 +83,7 @@ module _ {T E O : Type 0} (right : O → List E → Type 0) (table : TableId) (o
     carries = h.carries;
   }
 
-  -- the same, where it keeps nothing
+  -- a seat that keeps nothing is one with no known histories
   pub at_none : (k : List (Known E)) (t : Turn E) (slots : List (ℕ × Option T)) (seat : Seat (Option T) (View E O)) → k ≡ [] → IsSeat right table o k t slots seat → IsSeat right table o [] t slots seat
   at_none k t slots seat e h = subst (λ x. IsSeat right table o x t slots seat) e h
 

@@ -21,7 +21,7 @@ module _ {E : Type 0} where
   abbrev pub with_entry : Known E → E → Known E
   with_entry k e = record k { seen = k.seen ++ e ∷ []; own = k.own ++ placed (length k.seen) e ∷ [] }
 
-  -- the same, with this beginning of the history seen
+  -- what a pass knows, with this beginning of the history seen
   abbrev pub with_seen : Known E → List E → Known E
   with_seen k seen = record k { seen = seen }
 

@@ -15,7 +15,7 @@ use std::marker::Brand;
 use std::snapshot::Snapshot;
 use std::sync::Wait;
 
-/// Want of memory. The state comes back.
+/// The allocator had no memory left. The state comes back.
 #[derive(Drop)]
 pub struct Unmade<T> {
     pub state: T,
@@ -31,7 +31,7 @@ pub struct Turns<T: Counted> {
 impl<T: Counted> Turns<T> {
     /// A lock round the state, and its first pass. The state's list is empty, and its opening is the lock's from then on.
     ///
-    /// Refused only for want of memory.
+    /// Refused only if memory runs out.
     pub fn new(alloc: Global, state: T) -> Result<(Turns<T>, Pass<T>), Unmade<T>>
         requires { T.entries state ≡ [] }
         ensures pass { IfOk result (λ made. Rests T.is_right made.0.table.shared.table_id (T.opening made.0.table.shared.key.value) made.1) }

@@ -7,8 +7,7 @@ pub struct Placed<E> {
     pub entry: E,
 }
 
-/// A pass's name, how many passes were split from it, the beginning of the history that it has seen, and the entries that
-/// were made with it.
+/// What a pass knows: its name, its splits, the history it has seen, and its own entries.
 pub struct Known<E> {
     pub name: LinkedList<u64>,
     pub splits: u64,

@@ -63,7 +63,7 @@ pub fn round<R: Wait>(rt: &R, lock: &Turns<Tally>, pass: &mut Pass<Tally>)
     give_back(rt, lock, pass, number);
 }
 
-/// Draws numbers and gives each back, so many times.
+/// Draws a number and gives it back, `rounds` times.
 pub fn work<R: Wait>(rt: &R, lock: &Turns<Tally>, pass: &mut Pass<Tally>, rounds: u32)
     requires { Rests IsRun lock.now.table.shared.table_id tt pass.old }
     ensures { Rests IsRun lock.now.table.shared.table_id tt pass.new }
@@ -109,7 +109,7 @@ fn all_work<R: Threads + Wait + Sync>(
     );
 }
 
-/// Two workers that draw so many numbers each, and what they leave behind.
+/// What two workers leave that draw `rounds` numbers each.
 pub fn work_by_two<R: Threads + Wait + Sync>(
     rt: &R,
     alloc: Global,

@@ -68,7 +68,7 @@ pub record Steps (t : Opened) (r : Request) (now : Opened) : Type 0 where
   pub step : step_of t r ≡ Ok now.done
   pub rest : now ≡ record t { done = now.done }
 
--- the statement isn't done, for the step's cause or for want of memory, and the transaction is as before
+-- the statement isn't done, for the step's cause or for lack of memory, and the transaction is unchanged
 abbrev pub IsStopped : Opened → Request → Stopped → Opened → Type 0
 IsStopped t r (stopped.Refused cause) now = (step_of t r ≡ Err cause) × (now ≡ t)
 IsStopped t r stopped.OutOfMemory now = now ≡ t
@@ -87,7 +87,7 @@ abbrev pub Told : Opened → Request → Result (List Value) Stopped → Opened 
 Told t r (Ok rows) now = Steps t r now × IsSaid t r rows now
 Told t r (Err why) now = IsStopped t r why now
 
--- An ended transaction answers Ended and is as before; so it is after want of memory. Any other statement is a step of the run:
+-- An ended transaction returns Ended and is unchanged; so it is if memory runs out. Any other statement is a step of the run:
 -- it is done, and its answer is the step's; or it is refused for the step's cause, and the transaction is ended.
 abbrev pub Executed : Opened → Request → Result Answer Refusal → Opened → Type 0
 Executed t r (Ok answer) now = (t.ended ≡ false) × Steps t r now × IsSaid t r answer.rows now

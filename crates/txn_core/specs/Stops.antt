@@ -7,7 +7,7 @@ use Rattle.txn_core.specs.declared.effect.Effect as held
 use Rattle.txn_core.specs.declared.stopped.Stopped.{Stopped}
 use Rattle.txn_core.specs.declared.stopped.Stopped.TheVariants.{Refused, OutOfMemory}
 
--- where a statement stopped for a cause, it is this one; nothing is said of want of memory
+-- if a statement stopped for a cause, it is this one; nothing is said if memory ran out
 abbrev pub StopsFor : Stopped → (Refusal → Type 0) → Type 0
 StopsFor (Refused cause) P = P cause
 StopsFor OutOfMemory P = Unit {0}

@@ -12,7 +12,7 @@ use Rattle.ledger_model.specs.State.{active_table}
 use Rattle.ledger_model.specs.Run.{existing, no_table_more, reserved}
 use Rattle.txn_core.specs.Opened.{Opened}
 
--- the next id behind so many more
+-- the next id after a number of further ones
 abbrev pub id_after : Opened → ℕ → ℕ
 id_after t more = raw_id t.begun.mask t.begun.number ((t.done.made + more) + 1)
 

@@ -44,7 +44,7 @@ fn is_reserved(name: &str) -> bool
     name.as_bytes().starts_with(b"_ql_".as_slice())
 }
 
-/// Why no table more is created: so many of these are active, or these changes create so many.
+/// Why no further table is created: too many are active, or these changes create too many.
 pub(crate) fn no_table_more(tables: &[Table], changes: &[Schema]) -> Option<Refusal>
     ensures { result ≡ no_table_more (map table_of tables.now) changes.now }
 {

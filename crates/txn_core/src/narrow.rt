@@ -11,8 +11,9 @@ use ql_types::DocId;
 use std::alloc::Global;
 use versions::Versions;
 
-/// The documents that may meet the item, or None where it asks for a whole table or for a key of a field without an
-/// index.
+/// The documents that may meet the item, or None if all may.
+///
+/// All may if it asks for a whole table or for a key of a field without an index.
 fn meeting(alloc: Global, base: &Versions, item: &Item) -> Result<Option<DocIds>, OutOfMemory>
     ensures { IfOk result (λ found. IfSome found (MeetAlone base.now item.now)) }
 {

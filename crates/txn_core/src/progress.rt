@@ -33,7 +33,7 @@ impl Progress {
         }
     }
 
-    /// Puts a statement, what it changed and what it read behind those so far. After want of memory all is as before.
+    /// Appends a statement, what it changed and what it read. If memory runs out, all is unchanged.
     pub(crate) fn add(
         &mut self,
         said: Said,
@@ -60,7 +60,7 @@ impl Progress {
         Ok(())
     }
 
-    /// Makes room for one statement more, and for so many changes, revisions and items that it read.
+    /// Makes room for one statement more, and for its changes, revisions and items.
     fn make_room(
         &mut self,
         changes: usize,

@@ -18,8 +18,9 @@ use std::alloc::Global;
 use versions::{Table, Versions, active_table};
 use view_rows::{Seen, committed_among, user_rows, view_rows};
 
-/// The tables as a transaction has them, the version that it stands on, and the documents as it has them, each with its
-/// latest revision, lent: all, or those that are read alone.
+/// The tables and documents as a transaction has them, and the version that it stands on.
+///
+/// Each document is lent with its latest revision: all, or only those that are read.
 #[derive(Drop)]
 pub struct TableViews<'a> {
     tables: Vec<Table>,
@@ -50,8 +51,9 @@ impl<'a> TableViews<'a> {
         })
     }
 
-    /// The same, of the documents alone that pend or may meet one of the items, where these name documents or keys of
-    /// indexes.
+    /// The views of the documents alone that pend or may meet one of the items.
+    ///
+    /// The items name documents or keys of indexes; else all documents are seen.
     pub(crate) fn read_by(
         alloc: Global,
         tables: Vec<Table>,

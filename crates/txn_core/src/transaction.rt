@@ -67,7 +67,7 @@ pub struct Finished {
     pub drafts: Drafts,
 }
 
-/// The transaction of this number and place of the script, on this version of so many blocks. It takes no memory.
+/// The transaction of this number and place of the script, on this version of `since` blocks. It takes no memory.
 pub fn start_txn(
     alloc: Global,
     base: Versions,
@@ -169,7 +169,7 @@ impl Txn {
         })
     }
 
-    /// The number of the next id behind so many more. `OutOfMemory` comes also where the transaction has made as many
+    /// The number of the next id after `more` further ones. `OutOfMemory` comes also if the transaction has made as many
     /// as it can.
     pub(crate) fn next_id(&self, more: u32) -> Result<u128, OutOfMemory>
         ensures id { IfOk result (λ raw. raw ≡ id_after self.now more) }
@@ -226,7 +226,7 @@ impl Txn {
         self.table_named(alloc, name)
     }
 
-    /// Puts the statement with what it does behind those so far. After want of memory the transaction is as before.
+    /// Appends the statement with what it does. If memory runs out, the transaction is unchanged.
     #[tactic(auto, using(crate::proofs::Effects::adds_of, crate::proofs::Effects::same_opened))]
     pub(crate) fn add(
         &mut self,

@@ -75,7 +75,7 @@ pub fn into_members(field: Field, name: &str) -> Option<Values>
     into_list(into_named(field, name)?)
 }
 
-/// No items, with room for so many.
+/// An empty list with room for `room` items.
 pub fn with_room<T>(alloc: Global, room: usize) -> Result<Sequence<T>, OutOfMemory>
     ensures { IfOk result (λ items. items ≡ []) }
 {

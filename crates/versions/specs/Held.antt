@@ -30,7 +30,7 @@ items_in (Some items) = items
 abbrev pub recorded_lent : List (Bor Recorded) → List state.Recorded
 recorded_lent lent = map (λ r. recorded_of r.now) lent
 
--- the same, without what their blocks gave them
+-- the drafts of what is lent: the revisions without what their blocks gave them
 abbrev pub drafts_lent : List (Bor Recorded) → List Draft
 drafts_lent lent = map (λ r. state.draft_of (recorded_of r.now)) lent
 

@@ -20,8 +20,9 @@ use ql_types::TableId;
 use std::alloc::Global;
 use std::marker::Model;
 
-/// All revisions in order and all fields with an index in the order in which these were made, which contracts see as a pair,
-/// and the postings of each index.
+/// All revisions and all indexed fields, each in its order, and each index's postings.
+///
+/// Contracts see the first two as a pair.
 #[derive(Drop)]
 pub(crate) struct Documents {
     alloc: Global,

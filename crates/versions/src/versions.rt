@@ -107,7 +107,9 @@ impl Versions {
         active_table(self.tables(), name.as_str())
     }
 
-    /// The name with which the table of this id was made, whether or not it is still active, or None where no table has the id.
+    /// The name with which this table was made, or None if no table has the id.
+    ///
+    /// The table may be inactive.
     pub fn name(&self, table: TableId) -> Option<&Text>
         ensures { option_copied result ≡ name_of self.now.tables table }
     {
@@ -142,7 +144,9 @@ impl Versions {
         has_index(self.documents.indexes(), table, field.as_str())
     }
 
-    /// The latest revision of a document with its table, also the one that deletes it, or None where no revision has the id.
+    /// The latest revision of a document with its table, or None if no revision has the id.
+    ///
+    /// It may be the one that deletes the document.
     pub fn recorded(&self, id: DocId) -> Option<&Recorded>
         ensures { option_map recorded_of (option_copied result) ≡ latest_of self.now.revisions id.raw }
     {

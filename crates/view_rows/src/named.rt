@@ -32,7 +32,7 @@ fn latest_rows(
     user_rows(alloc, documents.as_slice(), table, probe)
 }
 
-/// The same, where these documents alone meet the probe. It looks each of them up.
+/// The rows of the table's user view that meet the probe, if only these documents do. It looks each of them up.
 #[tactic(auto, using(crate::proofs::Naming::rows_of_named))]
 fn rows_of(
     alloc: Global,

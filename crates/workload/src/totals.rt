@@ -74,8 +74,7 @@ fn live_amount(table: TableId, latest: &Recorded) -> Option<u64>
     }
 }
 
-/// What the documents of the table among these come to, each told by its latest revision, in a history of so many
-/// blocks.
+/// The totals of the table's documents among these, each by its latest revision, after `blocks` blocks.
 fn totals_among(blocks: u64, table: TableId, documents: &[&Recorded]) -> Totals
     ensures { result ≡ totals_of blocks (rows_among table (drafts_lent documents.now)) }
 {
@@ -93,7 +92,7 @@ fn totals_among(blocks: u64, table: TableId, documents: &[&Recorded]) -> Totals
     totals
 }
 
-/// What a history of so many blocks adds up to, of which this is the last version.
+/// The totals of a history of `blocks` blocks, of which this is the last version.
 pub fn totals_of(alloc: Global, blocks: u64, version: &Versions) -> Result<Totals, OutOfMemory>
     ensures { IfOk result (λ t. t ≡ totals_of blocks (made_rows version.now)) }
 {

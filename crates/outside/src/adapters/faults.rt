@@ -36,7 +36,7 @@ impl FaultCount {
         OutFault::Failed
     }
 
-    /// The fault that stands for an error. Want of memory is no failure, and anything else is counted as one.
+    /// The fault that stands for an error. Out of memory is no failure, and anything else is counted as one.
     pub(super) fn fault(&mut self, error: &io::Error) -> OutFault
         requires { self.old.count < u64.MAX }
         ensures memory { (result ≡ OutFault.OutOfMemory) ↔ (error_kind error.now ≡ ErrorKind.OutOfMemory) }

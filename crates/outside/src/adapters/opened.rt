@@ -18,7 +18,7 @@ pub(super) struct OpenJournal<F> {
     limit: Option<u64>,
 }
 
-/// What another program changes of a file where it cuts it, appends to it, removes it or puts another one in its place.
+/// What changes if another program cuts a file, appends to it, removes or replaces it.
 #[derive(Clone, Copy, PartialEq, Eq)]
 struct Shape {
     size: u64,

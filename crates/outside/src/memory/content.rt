@@ -7,7 +7,9 @@ use super::changes::{Change, Changes};
 use std::alloc::{AllocError, Global};
 use std::marker::Model;
 
-/// The bytes that are held, the length at the last sync, lowered by each cut below it since, and all changes so far.
+/// The bytes that are held, how many of them are synced, and all changes so far.
+///
+/// A cut below the synced length lowers it.
 #[derive(Drop)]
 pub(super) struct Content {
     bytes: Vec<u8>,

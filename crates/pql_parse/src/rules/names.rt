@@ -41,7 +41,7 @@ pub fn first_variables(alloc: Global, sources: &[Source]) -> Result<Firsts<'_>, 
     Ok(firsts)
 }
 
-/// Whether one of the first sources, of which there are so many, has the name.
+/// Whether one of the first `seen` sources has the name.
 pub fn is_before(firsts: &Firsts<'_>, name: &str, seen: usize) -> bool
     ensures { result ≡ is_below seen (found name.now firsts.now) }
 {

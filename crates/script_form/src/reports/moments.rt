@@ -72,7 +72,7 @@ fn nanos_of_day(moment: i128) -> u64
     moment.rem_euclid(DAY) as u64
 }
 
-/// The timestamp on the day of this number, so many billionths of a second behind its beginning.
+/// The timestamp on the day of this number, `nanos` nanoseconds after its beginning.
 fn time_on(day: i64, nanos: u64) -> IonTime
     requires first { neg_ℤ (pos 719_162) ≤ℤ day }
     requires last { day ≤ℤ pos 2_932_896 }
@@ -108,7 +108,7 @@ fn made(parts: TimeParts) -> IonTime
     IonTime::new(parts).unwrap()
 }
 
-/// The parts of a moment of a date, so many billionths of a second behind its beginning.
+/// The parts of a moment of a date, `nanos` nanoseconds after its beginning.
 fn time_at(year: u16, month: u8, day: u8, nanos: u64) -> TimeParts
     requires { nanos < 86_400_000_000_000 }
     ensures { result ≡ time_at year month day nanos }

@@ -146,7 +146,7 @@ fn abort_in(value: &Value) -> Option<bool>
     }
 }
 
-/// Whether the transaction is given up.
+/// Whether the transaction is aborted.
 pub fn abort_said(fields: &[Field]) -> Result<bool, Stop>
     ensures { GivesKind result (abort_said fields.now) }
 {
