@@ -8,7 +8,7 @@ use Rattle.laws_history.specs.Records.{greatest, mask_of}
 use Rattle.outside.specs.Clocks.{ClockHeld}
 use Rattle.outside.specs.FailPlan.{FailPlan}
 use Rattle.outside.specs.StoreForms.{StoreHeld, store_of}
-use Rattle.ledger_core.specs.Loads.{IsRead}
+use Rattle.journal_reader.specs.Loads.{IsRead}
 use Rattle.interleavings.specs.Desks.{MemoryTail}
 use Rattle.interleavings.specs.Runs.{IsFresh}
 use Rattle.interleavings.proofs.Running.{joined}

@@ -123,7 +123,7 @@ abbrev pub sent : Opened → Option Hash32 → Hash32
 sent x None = own_digest x
 sent x (Some digest) = digest
 
--- want of memory has no line
+-- out of memory has no line
 abbrev pub commit_line : List ℕ → List ℕ → Result Receipt CommitFault → List ℕ
 commit_line name items (Ok receipt) = line.committed receipt.block receipt.hash receipt.time items
 commit_line name items (Err fault.EndedTxn) = line.ended name

@@ -59,7 +59,7 @@ pub record AreDone (t : MemoryTail) (vs : List Value) (said : List ℕ) : Type 0
   pub runs : Runs t [] vs lines now left
   pub said_is : said ≡ lines ++ line.blocks now.standing.blocks
 
--- so many were done, and the next one spells no event
+-- a number of events was done, and the next value spells no event
 pub record StopAt (t : MemoryTail) (first : ℕ) (vs : List Value) (said : List ℕ) : Type 0 where
   pub count : ℕ
   pub lines : List ℕ

@@ -114,7 +114,7 @@ fn executed_line(alloc: Global, answered: &Result<Answer, Refusal>) -> Result<Te
     Ok(said)
 }
 
-/// Puts how the commit of the transaction of this name ended. Want of memory has no line.
+/// Appends how the commit of the transaction of this name ended. Out of memory has no line.
 fn put_ending(
     alloc: Global,
     out: &mut Text,
@@ -183,7 +183,7 @@ fn spent_line(alloc: Global, last: u64) -> Result<Text, OutOfMemory>
     Ok(said)
 }
 
-/// The line that tells of a transaction that was given up.
+/// The line of a transaction that was aborted.
 fn aborted_line(alloc: Global, name: &Text) -> Result<Text, OutOfMemory>
     ensures { IfOk result (λ said. said ≡ line.aborted name.now) }
 {
@@ -208,8 +208,7 @@ fn ending_line(
 }
 
 impl Desk {
-    /// Does what the event says, and answers the line that tells of it. After want of memory nothing is known of the
-    /// desk.
+    /// Does what the event says, and returns its line. If memory runs out, nothing is known of the desk.
     pub fn answer(&mut self, alloc: Global, event: Event) -> Result<Text, OutOfMemory>
         requires { AreOpen self.old.tail.standing self.old.transactions.items }
         ensures sound { OnOk result (AreOpen self.new.tail.standing self.new.transactions.items) }

@@ -34,7 +34,7 @@ pub enum Event {
         name: Text,
         digest: Option<Hash32>,
     },
-    /// It is given up.
+    /// It is aborted.
     Abort {
         name: Text,
     },

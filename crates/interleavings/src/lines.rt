@@ -27,7 +27,7 @@ pub fn put_ended(alloc: Global, out: &mut Text, name: &Text) -> Result<(), OutOf
     put_told(alloc, out, "{ended:", name)
 }
 
-/// Puts that the transaction was given up.
+/// Appends that the transaction was aborted.
 pub fn put_aborted(alloc: Global, out: &mut Text, name: &Text) -> Result<(), OutOfMemory>
     ensures { OnOk result (out.new ≡ out.old ++ line.aborted name.now) }
 {

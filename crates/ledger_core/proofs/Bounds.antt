@@ -1,27 +1,11 @@
--- A journal has at most 2^32 - 1 blocks, and a place fits its type.
-use Rattle.std.proofs.Common.{◌≡◌, ◌+◌, ◌-◌, ◌^◌, ◌<◌, ◌≤◌, ◌&&◌, List, [], ◌∷◌, ◌++◌, length, arith, length-append, leb-true}
-use Rattle.std.specs.Prelude.{nat_le, nat_lt, ◌==◌, IsTrue}
-use Rattle.std.proofs.lemmas.Bool.{and_from, and_parts, lt-ltb}
+-- A tail has at most 2^32 - 1 blocks, and a place fits its type.
+use Rattle.std.proofs.Common.{◌-◌, ◌^◌, ◌<◌, ◌≤◌, length}
+use Rattle.std.specs.Prelude.{nat_lt, IsTrue}
+use Rattle.std.proofs.lemmas.Bool.{and_from, lt-ltb}
 use Rattle.ql_types.specs.declared.Place.{Place}
-use Rattle.ledger_model.specs.declared.block.Block.{Block}
-use Rattle.ledger_model.specs.Damages.{Undamaged, UndamagedBehind, strand_of}
 use Rattle.ledger_model.specs.Whole.{place_fits}
-use Rattle.laws_validity.proofs.Journals.{passes_all}
 use Rattle.laws_history.specs.Standings.{Standing, IsStanding}
-
-bound_behind : (bs before : List Block) → UndamagedBehind before bs → length before ≤ 2 ^ 32 - 1 → length before + length bs ≤ 2 ^ 32 - 1
-bound_behind [] before u h = omega (arith, h)
-bound_behind (b ∷ bs) before u h =
-    let address = (passes_all before b u.1).address in
-    let two = and_parts ((b.header.address.sequence == length before) && nat_le (length before) (2 ^ 32 - 2)) (b.header.address.strand.raw == strand_of before b) address in
-    let one = and_parts (b.header.address.sequence == length before) (nat_le (length before) (2 ^ 32 - 2)) two.0 in
-    let low : length before ≤ 2 ^ 32 - 2 = leb-true (length before) (2 ^ 32 - 2) one.1 in
-    let long : length (before ++ b ∷ []) ≡ length before + 1 = length-append before (b ∷ []) in
-    let rest = bound_behind bs (before ++ b ∷ []) u.2 (omega (arith, low, long)) in
-    omega (arith, rest, long)
-
-pub undamaged_bound : (blocks : List Block) → Undamaged blocks → length blocks ≤ 2 ^ 32 - 1
-undamaged_bound blocks u = let h = bound_behind blocks [] u (omega arith) in omega (arith, h)
+use Rattle.journal_reader.proofs.Bounds.{undamaged_bound}
 
 pub bound : (s : Standing) → IsStanding s → length s.blocks ≤ 2 ^ 32 - 1
 bound s is = undamaged_bound s.blocks is.undamaged

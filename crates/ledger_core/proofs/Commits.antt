@@ -1,5 +1,5 @@
 -- How a commit ends that has passed its checks, case by case.
-use Rattle.std.proofs.Common.{◌≡◌, ◌∙◌, ℕ, ◌^◌, ◌<◌, inr, List, Option, refl, sym, ap, subst}
+use Rattle.std.proofs.Common.{◌≡◌, ◌∙◌, ◌⊎◌, ℕ, ◌^◌, ◌<◌, inl, inr, true, List, Option, refl, sym, ap, subst}
 use Rattle.std.specs.Prelude.{IsTrue, ℤ, Some, None, Result, Ok, Err}
 use Rattle.ion_values.specs.declared.time.TimeParts.{TimeParts}
 use Rattle.ion_values.specs.Time.{is_time}
@@ -9,6 +9,7 @@ use Rattle.ledger_model.specs.declared.block.Block.{Block}
 use Rattle.ledger_model.specs.Whole.{place_fits}
 use Rattle.laws_validity.specs.Makes.{IsWithinAll}
 use Rattle.laws_history.specs.Standings.{Standing, IsStanding}
+use Rattle.laws_history.specs.Stores.{Holding, IsSynced}
 use Rattle.outside.specs.Told.{StoreTold, held}
 use Rattle.txn_core.specs.Opened.{Opened}
 use Rattle.ledger_core.specs.declared.appending.Receipt.{Receipt}
@@ -17,8 +18,9 @@ use Rattle.ledger_core.specs.declared.commit.CommitFault.TheVariants.{EndedTxn, 
 use Rattle.ledger_core.specs.declared.keeping.SettleFault.{SettleFault}
 use Rattle.ledger_core.specs.declared.keeping.SettleFault.TheVariants as settle
 use Rattle.ledger_core.specs.NextBlock.{next_block, receipt_of}
-use Rattle.ledger_core.specs.Committing.{CommitEnds, ComesTo, IsAnswer, IsOpenOn, IsTried, MayHoldPartOf, PassesChecks, Seals, fault_of}
-use Rattle.ledger_core.specs.Faults.{IsTriedWith}
+use Rattle.ledger_core.specs.Committing.{CommitEnds, ComesTo, IsAnswer, IsCommitFault, IsFound, IsOpenOn, IsService, IsTried, MayHoldPartOf, PassesChecks, Seals, fault_of}
+use Rattle.ledger_core.specs.Faults.{IsSettleFault, IsTriedWith}
+use Rattle.ledger_core.specs.Leaving.{CommitLeaves}
 use Rattle.ledger_core.specs.Tails.{MayHoldPart, TailHeld, joined}
 use Rattle.ledger_core.proofs.Openings.{joined_open, open_made, open_stands, open_undamaged}
 
@@ -55,6 +57,45 @@ comes_to s t sent told time n r timed is_told same =
       undamaged = open_undamaged s t time r.stands r.opened r.mask timed r.placed r.ranges r.checks.free r.checks.room;
     })
 
+-- ---- a fault of memory or of the store
+
+service : (fault : SettleFault) → IsService (fault_of fault)
+service (settle.StoreFault count) = tt
+service settle.OutOfMemory = tt
+
+commit_fault : (fault : SettleFault) (before after : StoreTold) → IsSettleFault fault before after → IsCommitFault (fault_of fault) before after
+commit_fault (settle.StoreFault count) before after is = is
+commit_fault settle.OutOfMemory before after is = is
+
+-- ---- a commit that is refused by a check
+
+module _ {S C : Type 0} (told : S → StoreTold) (answers : C → Option (List ℤ)) (always : C → Option ℤ) (h : TailHeld S C) (t : Opened) (sent : Option Hash32) where
+  as_it_was : (fault : CommitFault) → CommitEnds h.standing t sent (IsAnswer (answers h.clock) (answers h.clock) (always h.clock)) (Err fault) h.standing
+      → IsCommitFault fault (told h.store) (told h.store) → CommitLeaves told answers always h h t sent (Err fault)
+  as_it_was fault ends same = record {
+    ends = ends;
+    unasked = inr refl;
+    marked = inl refl;
+    asked = inl refl;
+    always_is = refl;
+    holds = tt;
+    synced = tt;
+    part = inl refl;
+    fine = tt;
+    fault = same;
+  }
+
+  -- it leaves all as it was
+  pub refused_leaves : (fault : CommitFault) → IsFound h.standing t sent fault → CommitLeaves told answers always h h t sent (Err fault)
+  refused_leaves EndedTxn is = as_it_was EndedTxn (is, refl) refl
+  refused_leaves (DigestDiffers mine given) is = as_it_was (DigestDiffers mine given) (is, refl) refl
+  refused_leaves (Conflict since named) is = as_it_was (Conflict since named) (is, refl) refl
+  refused_leaves (JournalFull blocks) is = as_it_was (JournalFull blocks) (is, refl) refl
+  refused_leaves (StoreFault count) is = absurd is
+  refused_leaves OutOfMemory is = as_it_was OutOfMemory (is, refl) refl
+
+-- ---- a commit that passes its checks
+
 -- the tail before, once the clock was asked, and once the block was to be put behind the others
 module _ {S C : Type 0} (told : S → StoreTold) (answers : C → Option (List ℤ)) (always : C → Option ℤ) (h n m : TailHeld S C) (clock : C) (t : Opened)
     (sent : Option Hash32) (time : TimeParts) (r : IsReady h.standing t sent) (e : n ≡ record h { clock = clock }) where
@@ -77,7 +118,7 @@ module _ {S C : Type 0} (told : S → StoreTold) (answers : C → Option (List �
       comes : ComesTo h.standing t sent Told (next_block t n.standing.blocks time)
       comes = comes_to h.standing t sent Told time n.standing.blocks r answer.begins.is_time is_told (ap (λ (x : Standing). x.blocks) same)
 
-      pub put_seals : (receipt : Receipt) → receipt ≡ receipt_of (next_block t n.standing.blocks time)
+      put_seals : (receipt : Receipt) → receipt ≡ receipt_of (next_block t n.standing.blocks time)
           → m.standing ≡ joined n.standing (next_block t n.standing.blocks time) → Seals h.standing t sent Told receipt m.standing
       put_seals receipt is now = record {
         block = next_block t n.standing.blocks time;
@@ -86,7 +127,7 @@ module _ {S C : Type 0} (told : S → StoreTold) (answers : C → Option (List �
         now_is = now ∙ ap (λ (x : Standing). joined x (next_block t n.standing.blocks time)) same;
       }
 
-      pub put_faulted : (fault : SettleFault) → m.standing ≡ n.standing → CommitEnds h.standing t sent Told (Err (fault_of fault)) m.standing
+      put_faulted : (fault : SettleFault) → m.standing ≡ n.standing → CommitEnds h.standing t sent Told (Err (fault_of fault)) m.standing
       put_faulted (settle.StoreFault count) kept = record { block = next_block t n.standing.blocks time; comes = comes; now_is = kept ∙ same }
       put_faulted settle.OutOfMemory kept = (r.checks.goes_on, kept ∙ same)
 
@@ -97,7 +138,7 @@ module _ {S C : Type 0} (told : S → StoreTold) (answers : C → Option (List �
       put_tried settle.OutOfMemory None is = tt
       put_tried settle.OutOfMemory (Some b) is = subst (λ (x : Block). ComesTo h.standing t sent Told x) (sym is) comes
 
-      pub put_part : MayHoldPart n.standing.blocks (next_block t n.standing.blocks time) (held (told n.store)) (held (told m.store))
+      put_part : MayHoldPart n.standing.blocks (next_block t n.standing.blocks time) (held (told n.store)) (held (told m.store))
           → MayHoldPartOf h.standing t sent Told (held (told h.store)) (held (told m.store))
       put_part part =
           inr (
@@ -108,6 +149,47 @@ module _ {S C : Type 0} (told : S → StoreTold) (answers : C → Option (List �
                 (subst (λ (b : Option (List ℕ)). MayHoldPart n.standing.blocks (next_block t n.standing.blocks time) b (held (told m.store)))
                 (ap (λ (x : TailHeld S C). held (told x.store)) e) part),
           )
+
+      marked_now : (m ≡ n) ⊎ (m.marked ≡ true) → (m ≡ record h { clock = m.clock }) ⊎ (m.marked ≡ true)
+      marked_now (inl kept) =
+          let is : m ≡ record h { clock = clock } = kept ∙ e in
+          inl (is ∙ ap (λ (c : C). record h { clock = c }) (sym (ap (λ (x : TailHeld S C). x.clock) is)))
+      marked_now (inr marked) = inr marked
+
+      module _ (ever : always n.clock ≡ always h.clock) where
+        -- the block is sealed
+        pub sealed_leaves : (receipt : Receipt) → receipt ≡ receipt_of (next_block t n.standing.blocks time)
+            → m.standing ≡ joined n.standing (next_block t n.standing.blocks time) → Holding m.standing.blocks (held (told m.store)) → IsSynced (told m.store)
+            → (told m.store).faults ≡ (told n.store).faults → CommitLeaves told answers always h m t sent (Ok receipt)
+        sealed_leaves receipt is now holds synced fine = record {
+          ends = put_seals receipt is now;
+          unasked = tt;
+          marked = tt;
+          asked = inr (time, is_told);
+          always_is = ap always clocks ∙ ever;
+          holds = holds;
+          synced = synced;
+          part = tt;
+          fine = fine ∙ ap (λ (x : TailHeld S C). (told x.store).faults) e;
+          fault = tt;
+        }
+
+        -- memory ran out, or the store failed
+        pub unkept_leaves : (fault : SettleFault) → m.standing ≡ n.standing
+            → MayHoldPart n.standing.blocks (next_block t n.standing.blocks time) (held (told n.store)) (held (told m.store)) → (m ≡ n) ⊎ (m.marked ≡ true)
+            → IsSettleFault fault (told n.store) (told m.store) → CommitLeaves told answers always h m t sent (Err (fault_of fault))
+        unkept_leaves fault kept part marked failed = record {
+          ends = put_faulted fault kept;
+          unasked = inl (service fault);
+          marked = marked_now marked;
+          asked = inr (time, is_told);
+          always_is = ap always clocks ∙ ever;
+          holds = tt;
+          synced = tt;
+          part = put_part part;
+          fine = tt;
+          fault = commit_fault fault (told h.store) (told m.store) (subst (λ (x : TailHeld S C). IsSettleFault fault (told x.store) (told m.store)) e failed);
+        }
 
 -- ---- other transactions
 

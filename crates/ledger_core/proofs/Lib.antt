@@ -5,9 +5,8 @@ pub mod Drawn
 mod Joined
 mod Kept
 pub mod LastBlock
-mod Leaves
 pub mod Openings
-mod Read
+mod Others
 mod Standings
 mod Steps
 mod Syncs

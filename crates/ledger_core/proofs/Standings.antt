@@ -1,5 +1,5 @@
 -- What an undamaged journal's blocks tell of its transactions and its state.
-use Rattle.std.proofs.Common.{◌≡◌, ◌∙◌, ℕ, ◌+◌, ◌-◌, ◌^◌, ◌<◌, ◌≤◌, max, Bool, true, false, not, List, [], ◌∷◌, ◌++◌, length, take, drop, get_or, append-nil, length-append, length-drop, refl, sym, ap, subst, arith, Some, None, if◌then◌else◌}
+use Rattle.std.proofs.Common.{◌≡◌, ◌∙◌, ℕ, ◌+◌, ◌^◌, ◌<◌, ◌≤◌, max, Bool, true, false, not, List, [], ◌∷◌, ◌++◌, length, take, get_or, append-nil, refl, sym, ap, subst, arith, Some, None, if◌then◌else◌}
 use Rattle.std.proofs.lemmas.List.{take_more}
 use Rattle.std.proofs.lemmas.Bool.{and_parts, ltb-true}
 use Rattle.std.proofs.lemmas.List.Concat.{flat_map-append}
@@ -10,7 +10,6 @@ use Rattle.ledger_model.specs.Journal.{line, journal_bytes}
 use Rattle.ledger_model.specs.State.{State, state, state_from, after}
 use Rattle.ledger_model.specs.Damages.{damage_behind, has_address, has_id, has_time, has_previous, has_hashes, strand_of, UndamagedBehind, Undamaged}
 use Rattle.ledger_model.specs.Follows.{follows}
-use Rattle.ledger_model.specs.Recovered.{IsJournal}
 use Rattle.laws_history.specs.Standings.{IsStanding}
 use Rattle.laws_history.specs.Records.{greatest, mask_of}
 
@@ -67,16 +66,6 @@ pub known : (given mask last : ℕ) (blocks : List Block) → Undamaged blocks �
 known given mask last blocks u m l =
     let below : greatest mask blocks < 2 ^ 64 = subst (λ (n : ℕ). greatest n blocks < 2 ^ 64) (sym m) (bounded given blocks u) in
     (standing given mask last blocks u m (l below) below, l below)
-
--- ---- the length of the lines
-
-split-at : (at n total : ℕ) → total ≡ n + (total - at) → at ≤ total → at ≡ n
-split-at at n total e p = omega (arith, e, p)
-
-pub lines-end : (bytes : List ℕ) (blocks : List Block) (at : ℕ) → IsJournal bytes blocks (drop at bytes) → at ≤ length bytes → at ≡ length (journal_bytes blocks)
-lines-end bytes blocks at j p =
-    split-at at (length (journal_bytes blocks)) (length bytes)
-    (ap length j.lines ∙ length-append (journal_bytes blocks) (drop at bytes) ∙ ap (λ n. length (journal_bytes blocks) + n) (length-drop at bytes)) p
 
 -- ---- one block more
 

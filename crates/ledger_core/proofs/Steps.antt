@@ -1,9 +1,9 @@
 -- Each call of a tail and of its transactions is an event of the machine.
-use Rattle.std.proofs.Common.{◌≡◌, ◌∙◌, ℕ, ◌+◌, ◌-◌, ◌^◌, ◌<◌, ◌==◌, inl, inr, Bool, true, false, List, [], ◌∷◌, ◌++◌, length, take, Option, Some, None, Result, Ok, Err, refl, sym, ap, subst, true≢false, arith, if◌then◌else◌}
+use Rattle.std.proofs.Common.{◌≡◌, ◌∙◌, ℕ, ◌+◌, ◌-◌, ◌^◌, ◌<◌, ◌≤◌, ◌==◌, inl, inr, Bool, true, false, List, [], ◌∷◌, ◌++◌, length, take, append-nil, Option, Some, None, Result, Ok, Err, refl, sym, ap, subst, true≢false, arith, if◌then◌else◌}
 use Rattle.std.specs.Prelude.{nat_lt}
 use Rattle.std.specs.List.{last_or}
 use Rattle.std.specs.Option.{option_map_or}
-use Rattle.std.proofs.lemmas.Bool.{eq-eqb, lt-ltb}
+use Rattle.std.proofs.lemmas.Bool.{eq-eqb, lt-ltb, ne_eqb}
 use Rattle.std.proofs.lemmas.List.{map-append}
 use Rattle.ion_values.specs.declared.time.TimeParts.{TimeParts}
 use Rattle.pql_model.specs.declared.Answer as model
@@ -23,7 +23,7 @@ use Rattle.ledger_model.specs.Making.{block_of}
 use Rattle.ledger_model.specs.Run.{Progress, Ran, ran, refused, step}
 use Rattle.ledger_model.specs.State.{state}
 use Rattle.laws_footprint.specs.Touches.{conflict}
-use Rattle.laws_machine.specs.Machine.{Commit, Ending, Machine, Service, Step, Transaction, asked_more, begin, begun, closes, commit, commits, conflicts, differs, draws, ended, ending, ends, ends_by, execute, executes, executes_on, fails, full, happens, if_open, last_rows, named, no_memory, refuses, replaced, rows, seals, served, spent, store_failed, told, unless_conflict, unless_differs, unless_full, without}
+use Rattle.laws_machine.specs.Machine.{Commit, Ending, Machine, Service, Step, Transaction, asked_more, base, begin, begun, begun_as, blocks_behind, closes, commit, commits, conflicts, differs, draws, ended, ending, ends, ends_by, execute, executes, executes_on, fails, full, happens, if_open, last_rows, named, no_memory, refuses, replaced, rows, seals, served, spent, store_failed, told, unless_conflict, unless_differs, unless_full, wants, without}
 use Rattle.laws_machine.specs.Machine as machine
 use Rattle.laws_history.specs.Standings.{Standing}
 use Rattle.txn_core.specs.Opened.{Executed, Opened}
@@ -33,9 +33,11 @@ use Rattle.ledger_core.specs.declared.commit.CommitFault.TheVariants as fault
 use Rattle.ledger_core.specs.NextBlock.{next_block}
 use Rattle.ledger_core.specs.Beginning.{begun_on, drawn}
 use Rattle.ledger_core.specs.Committing.{CommitEnds, ComesTo, IsAnswer, conflict_of, own_digest}
-use Rattle.ledger_core.specs.Steps.{Began, BeginIsStep, CameTo, CommitIsStep, Ended, ExecuteIsStep, IsAnswered, IsUnderway, SpentIsStep, StandsFor, TellsEnd}
+use Rattle.ledger_core.specs.Steps.{Began, BeginIsStep, CameTo, CommitIsStep, Ended, ExecuteIsStep, ExecuteKeepsOpen, IsAnswered, IsUnderway, LeavesOpen, SpentIsStep, StandsFor, TellsEnd}
 use Rattle.ledger_core.specs.Tails.{joined}
 use Rattle.ledger_core.proofs.Digests.{of_asked}
+use Rattle.ledger_core.proofs.Openings.{executed_open}
+use Rattle.ledger_core.proofs.Others.{in_front, named_replaced, named_without, none_without, still_underway}
 
 -- ---- begin
 
@@ -72,10 +74,18 @@ module _ (m : Machine) (s : Standing) (place : Place) (h : StandsFor m s) where
     mask = h.mask;
     place = refl;
     since = ap length h.blocks;
+    stood = let all : length m.blocks ≤ length m.blocks = omega arith in all;
     base = ap state (all_taken m.blocks ∙ h.blocks);
     asked = λ going. refl;
     came = (refl, refl);
   }
+
+  others_begun : s.last + 1 < 2 ^ 64 → LeavesOpen m (s.last + 1) (happens m (begin place)).now
+  others_begun low other differ u =
+      subst (λ (x : Step). IsUnderway x.now other) (sym (went low))
+      (still_underway m (draws m place).now other [] u refl (sym (append-nil m.blocks))
+      (ap (λ b. if b then Some (machine.new_transaction m place) else named other.begun.number m.underway)
+      (ne_eqb (m.last + 1) other.begun.number (λ e. differ (sym e ∙ ap (λ n. n + 1) h.last)))))
 
   began : s.last + 1 < 2 ^ 64 → Began m s place
   unfolding drawn_now
@@ -83,6 +93,7 @@ module _ (m : Machine) (s : Standing) (place : Place) (h : StandsFor m s) where
     answer = ap (λ (x : Step). x.answer) (went low) ∙ (λ i. begun (h.last i + 1) (length (h.blocks i)));
     stands = subst (λ (x : Step). StandsFor x.now (drawn s)) (sym (went low)) (record { mask = h.mask; blocks = h.blocks; last = ap (λ n. n + 1) h.last });
     underway = subst (λ (x : Step). IsUnderway x.now (begun_on s place)) (sym (went low)) is_underway;
+    others = others_begun low;
   }
 
 pub begin_is_step : BeginIsStep
@@ -142,6 +153,7 @@ module _ (m : Machine) (t : Opened) (u : IsUnderway m t) (r : Request) where
     mask = u.mask;
     place = u.place;
     since = u.since;
+    stood = u.stood;
     base = u.base;
     asked = λ still.
         (λ i. u.asked going i ++ sym is i ∷ []) ∙ sym (map-append (λ (y : Said). record { text = y.text; params = y.params }) t.done.said (x ∷ []))
@@ -157,6 +169,7 @@ module _ (m : Machine) (t : Opened) (u : IsUnderway m t) (r : Request) where
     mask = u.mask;
     place = u.place;
     since = u.since;
+    stood = u.stood;
     base = u.base;
     asked = λ going. absurd (true≢false going);
     came = refl;
@@ -180,7 +193,7 @@ module _ (m : Machine) (t : Opened) (u : IsUnderway m t) (r : Request) where
         ap (λ (x : Step). x.answer) is ∙ ap refuses (sym e.1),
         subst (λ (x : Step). IsUnderway x.now now) (sym is) (subst (λ (y : Opened). IsUnderway m y) (sym e.2) u),
       )
-  answered (Err cause) now (inr (inl e)) = inl e.1
+  answered (Err cause) now (inr (inl e)) = inl (e.1, e.2)
   answered (Err cause) now (inr (inr e)) =
       let is : happens m (execute t.begun.number r) ≡ left (Err cause) = steps_to (Err cause) e.0 e.1 in
       inr (
@@ -188,10 +201,37 @@ module _ (m : Machine) (t : Opened) (u : IsUnderway m t) (r : Request) where
         subst (λ (x : Step). IsUnderway x.now now) (sym is) (subst (λ (y : Opened). IsUnderway (left (Err cause)).now y) (sym e.2) (ended_underway cause)),
       )
 
+  others_by : (x : Ran) → LeavesOpen m t.begun.number (executes_on m r u.own x).now
+  others_by (ran p) other differ o =
+      still_underway m (executes_on m r u.own (ran p)).now other [] o refl (sym (append-nil m.blocks))
+      (named_replaced other.begun.number t.begun.number differ (asked_more u.own r (step (begun_as m u.own) (base m u.own) p r)) m.underway u.number)
+  others_by (refused statement cause) other differ o = o
+
+  others_executed : LeavesOpen m t.begun.number (happens m (execute t.begun.number r)).now
+  others_executed other differ o = subst (λ (x : Step). IsUnderway x.now other) (sym executes_is) (others_by u.own.done other differ o)
+
 pub execute_is_step : ExecuteIsStep
-execute_is_step m t now r answer u e = answered m t u r answer now e
+execute_is_step m t now r answer u e = record { answered = answered m t u r answer now e; others = others_executed m t u r }
+
+pub execute_keeps_open : ExecuteKeepsOpen
+execute_keeps_open s t now r answer o e = executed_open s t now r answer e o
 
 -- ---- commit
+
+-- no block is added where memory runs out, whatever the checks before find
+keeps_room : (bs blocks : List Block) (room : Bool) → blocks_behind bs (if room then wants None else full (length blocks)) ≡ bs
+keeps_room bs blocks true = refl
+keeps_room bs blocks false = refl
+
+keeps_conflict : (bs : List Block) (since : ℕ) (found : Option Named) (next : Ending) → blocks_behind bs next ≡ bs
+    → blocks_behind bs (unless_conflict since found next) ≡ bs
+keeps_conflict bs since None next e = e
+keeps_conflict bs since (Some found) next e = refl
+
+keeps_digest : (bs : List Block) (own : Bool) (mine given : Hash32) (next : Ending) → blocks_behind bs next ≡ bs
+    → blocks_behind bs (if own then next else differs mine given) ≡ bs
+keeps_digest bs true mine given next e = e
+keeps_digest bs false mine given next e = refl
 
 module _ (m : Machine) (s : Standing) (t : Opened) (digest : Hash32) (h : StandsFor m s) (u : IsUnderway m t) where
   abbrev sends : TimeParts → Service → Commit
@@ -223,6 +263,14 @@ module _ (m : Machine) (s : Standing) (t : Opened) (digest : Hash32) (h : Stands
   commits_is : (c : Commit) (e : Ending) → ending m c u.own u.own.done ≡ e → happens m (commit t.begun.number c) ≡ closes m u.own.number e
   commits_is c e is = ap (λ o. if_open m o (commits m c)) u.names ∙ ap (closes m u.own.number) is
 
+  closes_own : (e : Ending) → named t.begun.number (closes m u.own.number e).now.underway ≡ None
+  closes_own e = ap (λ n. named n (without u.own.number m.underway)) (sym u.number) ∙ none_without u.own.number m.underway
+
+  closes_one : (e : Ending) → LeavesOpen m t.begun.number (closes m u.own.number e).now
+  closes_one e other differ o =
+      still_underway m (closes m u.own.number e).now other (in_front m.blocks e).0 o refl (in_front m.blocks e).1
+      (named_without other.begun.number u.own.number (λ same. differ (same ∙ u.number)) m.underway)
+
   tells : (time : TimeParts) (service : Service) (answer : Result Receipt CommitFault) (now : Standing) (e : Ending)
       → ending m (sends time service) u.own u.own.done ≡ e → TellsEnd answer (ends e) → StandsFor (closes m u.own.number e).now now
       → Ended m t digest answer now
@@ -232,7 +280,9 @@ module _ (m : Machine) (s : Standing) (t : Opened) (digest : Hash32) (h : Stands
         event = sends time service;
         digest_is = refl;
         tells = subst (λ (x : Step). TellsEnd answer x.answer) (sym went) told;
-        stands = inr (subst (λ (x : Step). StandsFor x.now now) (sym went) stands);
+        stands = subst (λ (x : Step). StandsFor x.now now) (sym went) stands;
+        closed = subst (λ (x : Step). named t.begun.number x.now.underway ≡ None) (sym went) (closes_own e);
+        others = λ other differ o. subst (λ (x : Step). IsUnderway x.now other) (sym went) (closes_one e other differ o);
       }
 
   -- the checks, one after another
@@ -265,6 +315,21 @@ module _ (m : Machine) (s : Standing) (t : Opened) (digest : Hash32) (h : Stands
   still : (now : Standing) → now ≡ s → StandsFor (record m { underway = without u.own.number m.underway }) now
   still now e = subst (λ (x : Standing). StandsFor (record m { underway = without u.own.number m.underway }) x) (sym e) (record { mask = h.mask; blocks = h.blocks; last = h.last })
 
+  -- nor was anything where memory ran out
+  no_more : (any : TimeParts) (x : Ran) → blocks_behind m.blocks (ending m (sends any no_memory) u.own x) ≡ m.blocks
+  no_more any (ran p) =
+      keeps_digest m.blocks (same_hash (machine.own_digest m u.own) digest) (machine.own_digest m u.own) digest
+      (unless_conflict u.own.since (machine.conflict_of m u.own p) (unless_full m.blocks (wants None)))
+      (keeps_conflict m.blocks u.own.since (machine.conflict_of m u.own p) (unless_full m.blocks (wants None))
+      (keeps_room m.blocks m.blocks (nat_lt (length m.blocks) (2 ^ 32 - 1))))
+  no_more any (refused statement cause) = refl
+
+  unsealed : (any : TimeParts) (now : Standing) → now ≡ s
+      → StandsFor (closes m u.own.number (ending m (sends any no_memory) u.own u.own.done)).now now
+  unsealed any now e =
+      subst (λ (x : Standing). StandsFor (closes m u.own.number (ending m (sends any no_memory) u.own u.own.done)).now x) (sym e)
+      (record { mask = h.mask; blocks = no_more any u.own.done ∙ h.blocks; last = h.last })
+
   one_more : (b : Block) (now : Standing) → now ≡ joined s b → StandsFor (closes m u.own.number (seals b)).now now
   one_more b now e =
       subst (λ (x : Standing). StandsFor (closes m u.own.number (seals b)).now x) (sym e)
@@ -291,7 +356,8 @@ module _ (m : Machine) (s : Standing) (t : Opened) (digest : Hash32) (h : Stands
   commit_by told any (Err (fault.StoreFault count)) now c =
       tells c.comes.time (store_failed count) (Err (fault.StoreFault count)) now (fails count c.block) (served_by told c.block c.comes (store_failed count))
       (c.block, refl) (still now c.now_is)
-  commit_by told any (Err fault.OutOfMemory) now c = record { event = sends any no_memory; digest_is = refl; tells = tt; stands = inl refl }
+  commit_by told any (Err fault.OutOfMemory) now c =
+      tells any no_memory (Err fault.OutOfMemory) now (ending m (sends any no_memory) u.own u.own.done) refl tt (unsealed any now c.1)
 
 pub commit_is_step : CommitIsStep
 commit_is_step m s t digest before after always any answer now h u how =

@@ -23,7 +23,7 @@ begun_on s place = record {
   ended = false;
 }
 
--- no number is left exactly where the last one is the greatest u64
+-- no number is left exactly if the last one is the greatest u64
 abbrev pub IsBeginFault : Standing → BeginFault → Type 0
 IsBeginFault s (IdsSpent last) = (s.last ≡ 2 ^ 64 - 1) × (last ≡ 2 ^ 64 - 1)
 IsBeginFault s OutOfMemory = s.last + 1 < 2 ^ 64

@@ -1,4 +1,4 @@
--- The commit of an open transaction, by its answer. Its checks come in this order: whether it is ended, the digest
+-- The commit of an open transaction, by what it returns. Its checks come in this order: whether it is ended, the digest
 -- that is sent, whether a later block touched what it read, room for a block; then memory and the store.
 use Rattle.std.specs.Prelude.{◌≡◌, ◌-◌, ◌^◌, ◌≤◌, ◌⊎◌, ℕ, ℤ, Bool, true, false, List, [], ◌∷◌, ◌++◌, length, fold, take, Option, Some, None, IfSome, Result, Ok, Err}
 use Rattle.outside.specs.Clocks.{AddsAnswer}
@@ -19,6 +19,7 @@ use Rattle.ledger_model.specs.Run.{ran, run}
 use Rattle.ledger_model.specs.State.{state}
 use Rattle.laws_footprint.specs.Touches.{conflict}
 use Rattle.laws_history.specs.Standings.{Standing}
+use Rattle.journal_reader.specs.Faults.{IsStoreFault}
 use Rattle.txn_core.specs.Opened.{Opened}
 use Rattle.ledger_core.specs.declared.appending.Receipt.{Receipt}
 use Rattle.ledger_core.specs.declared.commit.CommitFault.{CommitFault}
@@ -27,7 +28,6 @@ use Rattle.ledger_core.specs.declared.commit.CommitFault.TheVariants.{EndedTxn, 
 use Rattle.ledger_core.specs.declared.keeping.SettleFault.{SettleFault}
 use Rattle.ledger_core.specs.declared.keeping.SettleFault.TheVariants as settle
 use Rattle.outside.specs.Told.{StoreTold}
-use Rattle.ledger_core.specs.Faults.{IsStoreFault}
 use Rattle.ledger_core.specs.NextBlock.{HasRoom, next_block, receipt_of}
 use Rattle.ledger_core.specs.Tails.{MayHoldPart, joined}
 
@@ -36,7 +36,7 @@ use Rattle.ledger_core.specs.Tails.{MayHoldPart, joined}
 abbrev pub tx_of : Opened → TxId
 tx_of t = record { raw = raw_id t.begun.mask t.begun.number 0 }
 
--- the commit digest of what was said, where an answer counts for nothing
+-- the commit digest of what was said; what the statements returned counts for nothing
 abbrev pub digest_of : TxId → List Said → Hash32
 digest_of tx said = fold (λ digest x. with_statement digest x.text x.params) (first_digest tx) said
 
@@ -44,7 +44,7 @@ digest_of tx said = fold (λ digest x. with_statement digest x.text x.params) (f
 abbrev pub own_digest : Opened → Hash32
 own_digest t = digest_of (tx_of t) t.done.said
 
--- the digest that is sent is its own, where one is sent
+-- the digest that is sent is its own, if one is sent
 abbrev pub is_own : Opened → Option Hash32 → Bool
 is_own t None = true
 is_own t (Some digest) = same_hash (own_digest t) digest
@@ -67,7 +67,7 @@ conflict_of s t = conflict s.blocks t.since t.done.footprint
 
 -- ---- the clock
 
--- The clock was asked once, and the time is that of its answer in UTC, in milliseconds, or the nearest one of the
+-- The clock was asked once, and the time is what it returned in UTC, in milliseconds, or the nearest one of the
 -- years 0001 to 9999.
 pub record IsAnswer (before now : Option (List ℤ)) (always : Option ℤ) (time : TimeParts) : Type 0 where
   pub answer : ℤ
@@ -75,7 +75,7 @@ pub record IsAnswer (before now : Option (List ℤ)) (always : Option ℤ) (time
   pub one : IfSome always (λ same. answer ≡ same)
   pub begins : BeginsAt (nearest answer) time
 
--- ---- the answers
+-- ---- how it ends
 
 -- the checks before memory and the store find nothing
 pub record PassesChecks (s : Standing) (t : Opened) (sent : Option Hash32) : Type 0 where
@@ -84,7 +84,7 @@ pub record PassesChecks (s : Standing) (t : Opened) (sent : Option Hash32) : Typ
   pub free : conflict_of s t ≡ None
   pub room : HasRoom s
 
--- the first check that finds something, or want of memory
+-- the first check that finds something, or memory ran out
 abbrev pub IsFound : Standing → Opened → Option Hash32 → CommitFault → Type 0
 IsFound s t sent EndedTxn = t.ended ≡ true
 IsFound s t sent (DigestDiffers mine given) =
@@ -101,7 +101,7 @@ abbrev pub Checked : Standing → Opened → Option Hash32 → Result (Unit {0})
 Checked s t sent (Ok done) = PassesChecks s t sent
 Checked s t sent (Err fault) = IsFound s t sent fault
 
--- This is the transaction's block behind all blocks, made at a time that the clock told. It is that of the statements
+-- This is the transaction's block after all blocks, made at a time that the clock returned. It is that of the statements
 -- by which the transaction came to what it has done, as they run on all blocks, and it is undamaged there.
 pub record ComesTo (s : Standing) (t : Opened) (sent : Option Hash32) (told : TimeParts → Type 0)
     (b : Block) : Type 0 where
@@ -113,7 +113,7 @@ pub record ComesTo (s : Standing) (t : Opened) (sent : Option Hash32) (told : Ti
       → IsMadeOf t.begun s.blocks t.place time asked b
   pub undamaged : Undamaged (s.blocks ++ b ∷ [])
 
--- it stands behind the others
+-- it stands after the others
 pub record Seals (s : Standing) (t : Opened) (sent : Option Hash32) (told : TimeParts → Type 0) (receipt : Receipt)
     (now : Standing) : Type 0 where
   pub block : Block
@@ -142,30 +142,30 @@ IsTried s t sent told (StoreFault count) None = ⊥
 IsTried s t sent told other None = Unit {0}
 IsTried s t sent told other (Some b) = ⊥
 
--- the answer without that block
+-- what is returned, without that block
 abbrev pub told_end : Result Receipt Uncommitted → Result Receipt CommitFault
 told_end (Ok receipt) = Ok receipt
 told_end (Err e) = Err e.fault
 
 -- ---- the store
 
--- the store failed in its last call where the answer says so, and nowhere else
+-- the store failed in its last call exactly if the fault says so
 abbrev pub IsCommitFault : CommitFault → StoreTold → StoreTold → Type 0
 IsCommitFault (StoreFault count) before after = IsStoreFault count before after
 IsCommitFault other before after = after.faults ≡ before.faults
 
--- the fault comes of memory or of the store; each other one leaves the tail as it was
+-- the fault comes of memory or of the store
 abbrev pub IsService : CommitFault → Type 0
 IsService (StoreFault count) = Unit {0}
 IsService OutOfMemory = Unit {0}
 IsService other = ⊥
 
--- what the store answered, as the commit's fault
+-- the store's fault, as the commit's
 abbrev pub fault_of : SettleFault → CommitFault
 fault_of (settle.StoreFault count) = StoreFault count
 fault_of settle.OutOfMemory = OutOfMemory
 
--- the bytes are as before, or a part of the line of the transaction's block stands behind the lines of the blocks
+-- the bytes are as before, or a part of the line of the transaction's block stands after the lines of the blocks
 abbrev pub MayHoldPartOf : Standing → Opened → Option Hash32 → (TimeParts → Type 0) → Option (List ℕ)
     → Option (List ℕ) → Type 0
 MayHoldPartOf s t sent told before after =

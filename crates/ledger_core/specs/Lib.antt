@@ -2,7 +2,7 @@ pub mod Beginning
 pub mod Committing
 pub mod Faults
 pub mod Known
-pub mod Loads
+pub mod Leaving
 pub mod NextBlock
 pub mod Outcomes
 pub mod Steps

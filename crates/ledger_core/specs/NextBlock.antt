@@ -7,11 +7,11 @@ use Rattle.laws_history.specs.Standings.{Standing}
 use Rattle.txn_core.specs.Opened.{Opened}
 use Rattle.ledger_core.specs.declared.appending.Receipt.{Receipt}
 
--- the block that a transaction becomes behind these blocks
+-- the block that a transaction becomes after these blocks
 abbrev pub next_block : Opened → List Block → TimeParts → Block
 next_block t before time = block_of t.begun before t.place time t.done
 
--- what a commit tells of its block
+-- what a commit returns of its block
 abbrev pub receipt_of : Block → Receipt
 receipt_of b = record { block = b.header.address.sequence; hash = b.hash; time = b.header.time }
 

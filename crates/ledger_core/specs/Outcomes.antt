@@ -1,4 +1,4 @@
--- How the end of a commit is told as the outcome of its job's transaction.
+-- The outcome of a job's transaction, by how its commit ended.
 use Rattle.std.specs.Prelude.{ℕ, Result, Ok, Err}
 use Rattle.ql_types.specs.declared.TxId.{TxId}
 use Rattle.ledger_model.specs.declared.outcome.Outcome.{Outcome}

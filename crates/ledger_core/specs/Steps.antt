@@ -1,6 +1,7 @@
--- The calls of a tail and of its transactions as events of the machine of all interleavings: what they answer is what
--- the machine answers, and what they leave is what it leaves. A call that is answered want of memory is left out.
-use Rattle.std.specs.Prelude.{◌≡◌, ◌+◌, ◌<◌, ◌^◌, ◌⊎◌, ℤ, true, false, List, length, take, Option, Some, Result, Ok, Err}
+-- The calls of a tail and of its transactions as events of the machine of all interleavings: what they return is what
+-- the machine returns, and what they leave is what it leaves. A begin or a statement that runs out of memory is no
+-- event.
+use Rattle.std.specs.Prelude.{◌≡◌, ◌+◌, ◌<◌, ◌≤◌, ◌^◌, ◌⊎◌, ℕ, ℤ, true, false, List, length, take, Option, Some, None, Result, Ok, Err}
 use Rattle.ion_values.specs.declared.time.TimeParts.{TimeParts}
 use Rattle.pql_model.specs.declared.Answer as model
 use Rattle.ql_types.specs.declared.Hash32.{Hash32}
@@ -21,7 +22,7 @@ use Rattle.ledger_core.specs.declared.commit.CommitFault.{CommitFault}
 use Rattle.ledger_core.specs.declared.commit.CommitFault.TheVariants as fault
 use Rattle.ledger_core.specs.NextBlock.{receipt_of}
 use Rattle.ledger_core.specs.Beginning.{IsBeginFault, begun_on, drawn}
-use Rattle.ledger_core.specs.Committing.{CommitEnds, IsAnswer}
+use Rattle.ledger_core.specs.Committing.{CommitEnds, IsAnswer, IsOpenOn}
 
 -- the machine has the tail's mask, blocks and last number
 pub record StandsFor (m : Machine) (s : Standing) : Type 0 where
@@ -42,9 +43,15 @@ pub record IsUnderway (m : Machine) (t : Opened) : Type 0 where
   pub mask : m.mask ≡ t.begun.mask
   pub place : own.place ≡ t.place
   pub since : own.since ≡ t.since
+  pub stood : own.since ≤ length m.blocks
   pub base : state (take own.since m.blocks) ≡ t.base
   pub asked : t.ended ≡ false → own.asked ≡ asked_in t.done.said
   pub came : CameTo t own.done
+
+-- the other transactions that are open stay open
+abbrev pub LeavesOpen : Machine → ℕ → Machine → Type 0
+LeavesOpen m number now =
+    (other : Opened) → (other.begun.number ≡ number → ⊥) → IsUnderway m other → IsUnderway now other
 
 -- ---- begin
 
@@ -52,6 +59,7 @@ pub record Began (m : Machine) (s : Standing) (place : Place) : Type 0 where
   pub answer : (happens m (begin place)).answer ≡ begun (s.last + 1) (length s.blocks)
   pub stands : StandsFor (happens m (begin place)).now (drawn s)
   pub underway : IsUnderway (happens m (begin place)).now (begun_on s place)
+  pub others : LeavesOpen m (s.last + 1) (happens m (begin place)).now
 
 abbrev pub BeginIsStep : Type 0
 BeginIsStep =
@@ -65,24 +73,36 @@ SpentIsStep =
 
 -- ---- execute
 
--- the statement's answer, which is the machine's, and what it leaves
+-- the statement's answer is the machine's, and its transaction is what the machine leaves; or memory ran out and it is as
+-- before
 abbrev pub IsAnswered : Machine → Opened → Request → Result model.Answer Refusal → Opened → Type 0
 IsAnswered m t r (Ok answer) now =
     ((happens m (execute t.begun.number r)).answer ≡ rows answer.rows)
     × IsUnderway (happens m (execute t.begun.number r)).now now
 IsAnswered m t r (Err cause) now =
-    (cause ≡ OutOfMemory)
+    ((cause ≡ OutOfMemory) × (now ≡ t))
     ⊎ (((happens m (execute t.begun.number r)).answer ≡ refuses cause)
     × IsUnderway (happens m (execute t.begun.number r)).now now)
+
+pub record Executes (m : Machine) (t : Opened) (r : Request) (answer : Result model.Answer Refusal)
+    (now : Opened) : Type 0 where
+  pub answered : IsAnswered m t r answer now
+  pub others : LeavesOpen m t.begun.number (happens m (execute t.begun.number r)).now
 
 abbrev pub ExecuteIsStep : Type 0
 ExecuteIsStep =
     (m : Machine) (t now : Opened) (r : Request) (answer : Result model.Answer Refusal)
-    → IsUnderway m t → Executed t r answer now → IsAnswered m t r answer now
+    → IsUnderway m t → Executed t r answer now → Executes m t r answer now
+
+-- a transaction that may be committed on a tail may be committed there after a statement, whatever the statement returned
+abbrev pub ExecuteKeepsOpen : Type 0
+ExecuteKeepsOpen =
+    (s : Standing) (t now : Opened) (r : Request) (answer : Result model.Answer Refusal)
+    → IsOpenOn s t → Executed t r answer now → IsOpenOn s now
 
 -- ---- commit
 
--- the commit's answer is the machine's
+-- the commit ends as the machine's
 abbrev pub TellsEnd : Result Receipt CommitFault → Answer → Type 0
 TellsEnd (Ok receipt) a = (b : Block) × (a ≡ ends (seals b)) × (receipt ≡ receipt_of b)
 TellsEnd (Err fault.EndedTxn) a = a ≡ ends ended
@@ -92,14 +112,16 @@ TellsEnd (Err (fault.JournalFull blocks)) a = a ≡ ends (full blocks)
 TellsEnd (Err (fault.StoreFault count)) a = (b : Block) × (a ≡ ends (fails count b))
 TellsEnd (Err fault.OutOfMemory) a = Unit {0}
 
--- It is that of a commit with the digest, which leaves what the tail leaves. A commit that is refused before it asks
--- the clock has any time.
+-- It is that of a commit with the digest, which leaves what the tail leaves, closes its transaction and leaves the
+-- others open, also if memory ran out. A commit that is refused before it asks the clock has any time.
 pub record Ended (m : Machine) (t : Opened) (digest : Hash32) (answer : Result Receipt CommitFault)
     (now : Standing) : Type 0 where
   pub event : Commit
   pub digest_is : event.digest ≡ digest
   pub tells : TellsEnd answer (happens m (commit t.begun.number event)).answer
-  pub stands : (answer ≡ Err fault.OutOfMemory) ⊎ StandsFor (happens m (commit t.begun.number event)).now now
+  pub stands : StandsFor (happens m (commit t.begun.number event)).now now
+  pub closed : named t.begun.number (happens m (commit t.begun.number event)).now.underway ≡ None
+  pub others : LeavesOpen m t.begun.number (happens m (commit t.begun.number event)).now
 
 abbrev pub CommitIsStep : Type 0
 CommitIsStep =

@@ -1,5 +1,5 @@
--- The tail of a journal: the blocks that its store has taken, the numbers that its transactions have, and what stands behind
--- the lines of the blocks in the store. A store keeps the journal as the lines of its blocks, one behind another.
+-- The tail of a journal: the blocks that its store has taken, the numbers that its transactions have, and what stands after
+-- the lines of the blocks in the store. A store keeps the journal as the lines of its blocks, one after another.
 use Rattle.std.specs.Prelude.{◌≡◌, ◌⊎◌, ℕ, Bool, false, refl, List, [], ◌∷◌, ◌++◌, length, take, Option, Some, None, IfSome, option_map, if◌then◌else◌}
 use Rattle.std.specs.Coded.{Coded, code_by, coded×, coded_ℕ, coded_bool, coded_list}
 use Rattle.ledger_model.specs.declared.block.Block.{Block}
@@ -30,7 +30,7 @@ tail_code {S} {C} store clock =
 abbrev pub joined : Standing → Block → Standing
 joined s b = record s { blocks = s.blocks ++ b ∷ [] }
 
--- Behind these bytes the store holds nothing, or a rest that is marked to be cut.
+-- After these bytes the store holds nothing, or a rest that is marked to be cut.
 abbrev pub HoldsMarked : List ℕ → Bool → Option (List ℕ) → Type 0
 HoldsMarked journal marked held = IfSome held (λ bytes. (rest : List ℕ) × (bytes ≡ journal ++ rest) × (marked ≡ false → rest ≡ []))
 
@@ -48,15 +48,15 @@ cleared marked size held = if marked then take size held else held
 abbrev pub MayBeCut : Option (List ℕ) → Option (List ℕ) → ℕ → Type 0
 MayBeCut before now size = (now ≡ before) ⊎ (now ≡ option_map (take size) before)
 
--- what is marked was cut and a part of the line was put behind the rest, perhaps none of it or all
+-- what is marked was cut and a part of the line was appended, perhaps none of it or all
 abbrev pub HoldsPart : Bool → ℕ → List ℕ → Option (List ℕ) → Option (List ℕ) → Type 0
 HoldsPart marked size line before now = (kept : ℕ) × (now ≡ option_map (λ held. cleared marked size held ++ take kept line) before)
 
--- the bytes are as before, or a part of the block's line stands behind the lines of the blocks, perhaps none of it or all
+-- the bytes are as before, or a part of the block's line stands after the lines of the blocks, perhaps none of it or all
 abbrev pub MayHoldPart : List Block → Block → Option (List ℕ) → Option (List ℕ) → Type 0
 MayHoldPart blocks b before now = (now ≡ before) ⊎ ((kept : ℕ) × HoldsBehind blocks (take kept (line b)) now)
 
--- where no line had come to the store, it is as before
+-- if no line had come to the store, it is as before
 abbrev pub Leaves : List Block → Option Block → Option (List ℕ) → Option (List ℕ) → Type 0
 Leaves blocks None before now = now ≡ before
 Leaves blocks (Some tried) before now = MayHoldPart blocks tried before now

@@ -1,4 +1,4 @@
-//! Putting a transaction's block behind the others.
+//! Appending a transaction's block.
 ghost use Rattle.std.specs.Prelude.{◌≡◌, ◌≤◌, ◌⊎◌, true, IfOk, OnOk, OnErr, IfErr, IsTrue, option_map};
 ghost use Rattle.ledger_model.specs.Whole.{place_fits};
 ghost use Rattle.laws_history.specs.Standings.{IsStanding};
@@ -22,7 +22,7 @@ use txn_core::Txn;
 /// The most blocks that a journal has.
 pub(crate) const MOST_BLOCKS: u64 = (1 << 32) - 1;
 
-/// What a commit tells of its block: its number, its hash and its time.
+/// What a commit returns of its block: its number, its hash and its time.
 #[derive(Clone, Copy, Debug, PartialEq, Eq)]
 pub struct Receipt {
     pub block: u64,
@@ -30,7 +30,7 @@ pub struct Receipt {
     pub time: IonTime,
 }
 
-/// Why a block was not put behind the others. Contracts see the block where its line had come to the store.
+/// Why a block was not appended. Contracts see the block if its line had come to the store.
 #[derive(Drop)]
 pub(crate) struct Unkept {
     pub(crate) fault: SettleFault,
@@ -52,8 +52,8 @@ impl From<OutOfMemory> for Unkept {
 }
 
 impl<S: JournalStore, C> Tail<S, C> {
-    /// Puts the transaction's block behind the others, in the store first, and tells of it. After a fault the blocks
-    /// are as before.
+    /// Appends the transaction's block, to the store first, and returns its receipt. After a fault the blocks are as
+    /// before.
     pub(crate) fn append_next(
         &mut self,
         alloc: Global,
@@ -61,13 +61,16 @@ impl<S: JournalStore, C> Tail<S, C> {
         time: IonTime,
     ) -> Result<Receipt, Unkept>
         requires { IsStanding (joined self.old.standing (next_block txn self.old.standing.blocks time)) }
+        // the blocks and the clock
         ensures standing { OnOk result (self.new.standing ≡ joined self.old.standing
             (next_block txn self.old.standing.blocks time)) }
         ensures receipt { IfOk result (λ receipt. receipt ≡ receipt_of (next_block txn self.old.standing.blocks time)) }
         ensures same { OnErr result (self.new.standing ≡ self.old.standing) }
         ensures clock { self.new.clock ≡ self.old.clock }
+        // the store after an append
         ensures holds { OnOk result (Holding self.new.standing.blocks (held (S.told self.new.store))) }
         ensures synced { OnOk result (IsSynced (S.told self.new.store)) }
+        // the store after a fault
         ensures part { OnErr result (MayHoldPart self.old.standing.blocks
             (next_block txn self.old.standing.blocks time) (held (S.told self.old.store))
             (held (S.told self.new.store))) }
@@ -76,6 +79,7 @@ impl<S: JournalStore, C> Tail<S, C> {
         ensures left { IfErr result (λ e. Leaves self.old.standing.blocks (option_map (λ b. b.value) e.tried)
             (held (S.told self.old.store)) (held (S.told self.new.store))) }
         ensures marked { OnErr result ((self.new ≡ self.old) ⊎ (self.new.marked ≡ true)) }
+        // when the store failed
         ensures later { (S.told self.old.store).faults ≤ (S.told self.new.store).faults }
         ensures fine { OnOk result ((S.told self.new.store).faults ≡ (S.told self.old.store).faults) }
         ensures fault { IfErr result (λ e. IsSettleFault e.fault (S.told self.old.store) (S.told self.new.store)) }
@@ -87,6 +91,7 @@ impl<S: JournalStore, C> Tail<S, C> {
     }
 }
 
+/// The receipt of a block.
 fn receipt_of(block: &Block) -> Receipt
     ensures { result ≡ receipt_of block.now }
 {
@@ -97,7 +102,7 @@ fn receipt_of(block: &Block) -> Receipt
     }
 }
 
-/// That a place is within its range, as the values of its type are. It does nothing.
+/// That a place is within its range. It does nothing.
 #[tactic(auto, using(crate::proofs::Bounds::place_within))]
 pub(crate) fn is_within(place: Place)
     ensures { IsTrue (place_fits place) }

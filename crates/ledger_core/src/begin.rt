@@ -15,8 +15,8 @@ use txn_core::{Txn, start_txn};
 /// Why no transaction was begun.
 #[derive(Clone, Copy, Debug, PartialEq, Eq, Error)]
 pub enum BeginFault {
-    /// There is no number behind the last one.
-    #[error("no number is left behind {last}")]
+    /// No number is left after the last one.
+    #[error("no number is left after {last}")]
     IdsSpent { last: u64 },
     #[error("out of memory")]
     OutOfMemory,
@@ -34,9 +34,8 @@ impl From<OutOfMemory> for BeginFault {
 }
 
 impl<S: JournalStore, C> Tail<S, C> {
-    /// Begins the transaction of the next number at this place of the script. It runs on the blocks so far.
-    /// `IdsSpent` comes where the last number that was drawn or found is 2^64 - 1. After a fault the tail is as
-    /// before.
+    /// Begins the transaction of the next number at this place of the script. It runs on the blocks so far. It
+    /// returns `IdsSpent` if the last number that was drawn or found is 2^64 - 1. After a fault the tail is as before.
     pub fn begin(&mut self, alloc: Global, place: Place) -> Result<Txn, BeginFault>
         ensures begun { IfOk result (λ txn. txn ≡ begun_on self.old.standing place) }
         ensures opens { IfOk result (λ txn. IsOpenOn self.new.standing txn) }

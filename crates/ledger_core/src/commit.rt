@@ -1,12 +1,10 @@
 //! The commit of an open transaction.
-ghost use Rattle.std.specs.Prelude.{◌≡◌, ◌≤◌, ◌⊎◌, true, false, length, Some, None, IfOk, IfErr, OnOk, OnErr, option_map};
-ghost use Rattle.ion_values.specs.declared.time.TimeParts.{TimeParts};
-ghost use Rattle.laws_history.specs.Standings.{IsStanding};
-ghost use Rattle.laws_history.specs.Stores.{Holding, IsSynced};
+ghost use Rattle.std.specs.Prelude.{◌≡◌, ◌≤◌, true, false, length, Some, None, IfOk, IfErr, OnOk, option_map};
 ghost use Rattle.outside.specs.Told.{held};
 ghost use Rattle.txn_core.specs.Opened.{Opened};
-ghost use Rattle.ledger_core.specs.Committing.{Checked, CommitEnds, IsAnswer, IsCommitFault, IsFound, IsOpenOn};
-ghost use Rattle.ledger_core.specs.Committing.{IsService, IsTried, MayHoldPartOf, conflict_of, digest_of, is_own, told_end};
+ghost use Rattle.ledger_core.specs.Committing.{Checked, IsAnswer, IsFound, IsOpenOn, IsTried, conflict_of};
+ghost use Rattle.ledger_core.specs.Committing.{digest_of, is_own, told_end};
+ghost use Rattle.ledger_core.specs.Leaving.{Asked, CommitLeaves};
 ghost use Rattle.ledger_core.specs.Tails.{Leaves};
 
 use crate::appending::{MOST_BLOCKS, Receipt, Unkept, is_within};
@@ -30,17 +28,17 @@ pub enum CommitFault {
     EndedTxn,
     /// The digest that was given isn't the transaction's own.
     DigestDiffers { mine: Hash32, given: Hash32 },
-    /// Of the blocks behind the `since` on which it began, this is the first that touched something that it read.
+    /// Of the blocks after the first `since`, on which it began, this is the first that touched something that it
+    /// read.
     Conflict { since: u64, named: Named },
     /// There are as many blocks as there can be.
     JournalFull { blocks: u64 },
-    /// The store failed in its last call, and had failed so often then.
+    /// The store failed in its last call, and had failed `count` times by then.
     StoreFault { count: u64 },
     OutOfMemory,
 }
 
-/// Why a transaction wasn't committed. Contracts see the block whose line it was to become, where that had come to the
-/// store.
+/// Why a transaction wasn't committed. Contracts see the block that it was to become, if its line had come to the store.
 #[derive(Drop)]
 pub struct Uncommitted {
     pub fault: CommitFault,
@@ -73,11 +71,11 @@ impl From<SettleFault> for CommitFault {
 }
 
 impl<S: JournalStore, C: Clock> Tail<S, C> {
-    /// Commits an open transaction as the next block. `EndedTxn` comes where a statement of it was refused,
-    /// `DigestDiffers` where the digest isn't that of its statements, `Conflict` where a block behind its begin
-    /// touched something that it read, `JournalFull` where there are 2^32 - 1 blocks, in this order, and `StoreFault`
-    /// where the store fails. After a fault the blocks are as before; the transaction is spent by every answer. The
-    /// block's time is the clock's, or the last block's where that is later.
+    /// Commits an open transaction as the next block. It returns `EndedTxn` if a statement of it was refused,
+    /// `DigestDiffers` if the digest isn't that of its statements, `Conflict` if a block after its begin touched
+    /// something that it read, `JournalFull` if there are 2^32 - 1 blocks, in this order, and `StoreFault` if the store
+    /// fails. After a fault the blocks are as before; the transaction is spent in any case. The block's time is the
+    /// clock's, or the last block's if that is later.
     pub fn commit(
         &mut self,
         alloc: Global,
@@ -85,28 +83,14 @@ impl<S: JournalStore, C: Clock> Tail<S, C> {
         digest: Hash32,
     ) -> Result<Receipt, CommitFault>
         requires { IsOpenOn self.old.standing txn }
-        ensures ends { CommitEnds self.old.standing txn (Some digest)
-            (IsAnswer (C.answers self.old.clock) (C.answers self.new.clock) (C.always self.old.clock)) result self.new.standing }
+        ensures commits { CommitLeaves S.told C.answers C.always self.old self.new txn (Some digest) result }
         ensures still { (other : Opened) → IsOpenOn self.old.standing other
             → (other.begun.number ≡ txn.begun.number → ⊥) → IsOpenOn self.new.standing other }
-        ensures unasked { IfErr result (λ fault. IsService fault ⊎ (self.new ≡ self.old)) }
-        ensures asked { (self.new ≡ self.old) ⊎ ((time : TimeParts)
-            × IsAnswer (C.answers self.old.clock) (C.answers self.new.clock) (C.always self.old.clock) time) }
-        ensures always { C.always self.new.clock ≡ C.always self.old.clock }
-        ensures holds { OnOk result (Holding self.new.standing.blocks (held (S.told self.new.store))) }
-        ensures synced { OnOk result (IsSynced (S.told self.new.store)) }
-        ensures part { OnErr result (MayHoldPartOf self.old.standing txn (Some digest)
-            (IsAnswer (C.answers self.old.clock) (C.answers self.new.clock) (C.always self.old.clock))
-            (held (S.told self.old.store)) (held (S.told self.new.store))) }
-        ensures marked { OnErr result ((self.new ≡ record self.old { clock = self.new.clock })
-            ⊎ (self.new.marked ≡ true)) }
-        ensures fine { OnOk result ((S.told self.new.store).faults ≡ (S.told self.old.store).faults) }
-        ensures fault { IfErr result (λ fault. IsCommitFault fault (S.told self.old.store) (S.told self.new.store)) }
     {
         self.commit_with(alloc, txn, Some(digest))
     }
 
-    /// The same with the digest that is sent, where one is.
+    /// Commits an open transaction as the next block, with the digest that is sent, if one is.
     pub(crate) fn commit_with(
         &mut self,
         alloc: Global,
@@ -114,21 +98,7 @@ impl<S: JournalStore, C: Clock> Tail<S, C> {
         sent: Option<Hash32>,
     ) -> Result<Receipt, CommitFault>
         requires { IsOpenOn self.old.standing txn }
-        ensures ends { CommitEnds self.old.standing txn sent
-            (IsAnswer (C.answers self.old.clock) (C.answers self.new.clock) (C.always self.old.clock)) result self.new.standing }
-        ensures unasked { IfErr result (λ fault. IsService fault ⊎ (self.new ≡ self.old)) }
-        ensures asked { (self.new ≡ self.old) ⊎ ((time : TimeParts)
-            × IsAnswer (C.answers self.old.clock) (C.answers self.new.clock) (C.always self.old.clock) time) }
-        ensures always { C.always self.new.clock ≡ C.always self.old.clock }
-        ensures holds { OnOk result (Holding self.new.standing.blocks (held (S.told self.new.store))) }
-        ensures synced { OnOk result (IsSynced (S.told self.new.store)) }
-        ensures part { OnErr result (MayHoldPartOf self.old.standing txn sent
-            (IsAnswer (C.answers self.old.clock) (C.answers self.new.clock) (C.always self.old.clock))
-            (held (S.told self.old.store)) (held (S.told self.new.store))) }
-        ensures marked { OnErr result ((self.new ≡ record self.old { clock = self.new.clock })
-            ⊎ (self.new.marked ≡ true)) }
-        ensures fine { OnOk result ((S.told self.new.store).faults ≡ (S.told self.old.store).faults) }
-        ensures fault { IfErr result (λ fault. IsCommitFault fault (S.told self.old.store) (S.told self.new.store)) }
+        ensures { CommitLeaves S.told C.answers C.always self.old self.new txn sent result }
     {
         match self.try_commit(alloc, txn, sent) {
             Ok(receipt) => Ok(receipt),
@@ -136,8 +106,8 @@ impl<S: JournalStore, C: Clock> Tail<S, C> {
         }
     }
 
-    /// The same, which shows contracts the block where the commit had come to its store and failed there. The digest is
-    /// sent or not.
+    /// Commits an open transaction as the next block, with the digest that is sent, if one is. If it had come to its
+    /// store, contracts see the block whose line it was to become.
     pub fn try_commit(
         &mut self,
         alloc: Global,
@@ -145,27 +115,11 @@ impl<S: JournalStore, C: Clock> Tail<S, C> {
         sent: Option<Hash32>,
     ) -> Result<Receipt, Uncommitted>
         requires { IsOpenOn self.old.standing txn }
-        ensures ends { CommitEnds self.old.standing txn sent
-            (IsAnswer (C.answers self.old.clock) (C.answers self.new.clock) (C.always self.old.clock)) (told_end result)
-            self.new.standing }
+        ensures commits { CommitLeaves S.told C.answers C.always self.old self.new txn sent (told_end result) }
         ensures tried { IfErr result (λ e. IsTried self.old.standing txn sent
-            (IsAnswer (C.answers self.old.clock) (C.answers self.new.clock) (C.always self.old.clock)) e.fault
-            (option_map (λ b. b.value) e.tried)) }
+            (Asked S.told C.answers C.always self.old self.new) e.fault (option_map (λ b. b.value) e.tried)) }
         ensures left { IfErr result (λ e. Leaves self.old.standing.blocks (option_map (λ b. b.value) e.tried)
             (held (S.told self.old.store)) (held (S.told self.new.store))) }
-        ensures unasked { IfErr result (λ e. IsService e.fault ⊎ (self.new ≡ self.old)) }
-        ensures asked { (self.new ≡ self.old) ⊎ ((time : TimeParts)
-            × IsAnswer (C.answers self.old.clock) (C.answers self.new.clock) (C.always self.old.clock) time) }
-        ensures always { C.always self.new.clock ≡ C.always self.old.clock }
-        ensures holds { OnOk result (Holding self.new.standing.blocks (held (S.told self.new.store))) }
-        ensures synced { OnOk result (IsSynced (S.told self.new.store)) }
-        ensures part { OnErr result (MayHoldPartOf self.old.standing txn sent
-            (IsAnswer (C.answers self.old.clock) (C.answers self.new.clock) (C.always self.old.clock))
-            (held (S.told self.old.store)) (held (S.told self.new.store))) }
-        ensures marked { OnErr result ((self.new ≡ record self.old { clock = self.new.clock })
-            ⊎ (self.new.marked ≡ true)) }
-        ensures fine { OnOk result ((S.told self.new.store).faults ≡ (S.told self.old.store).faults) }
-        ensures fault { IfErr result (λ e. IsCommitFault e.fault (S.told self.old.store) (S.told self.new.store)) }
     {
         match self.checked(alloc, &txn, sent) {
             Ok(()) => {}
@@ -214,7 +168,7 @@ impl<S: JournalStore, C> Tail<S, C> {
         Ok(())
     }
 
-    /// Checks the digest that is sent, where one is.
+    /// Checks the digest that is sent, if one is.
     fn check_digest(
         &self,
         alloc: Global,
@@ -234,7 +188,7 @@ impl<S: JournalStore, C> Tail<S, C> {
         Ok(())
     }
 
-    /// Checks whether a block behind the transaction's begin touched something that it read.
+    /// Checks whether a block after the transaction's begin touched something that it read.
     fn check_conflict(
         &self,
         alloc: Global,

@@ -1,10 +1,10 @@
-//! Cutting a store and putting lines behind what it holds.
-ghost use Rattle.std.specs.Prelude.{◌≡◌, ◌≤◌, ◌+◌, ◌++◌, ◌⊎◌, ℕ, true, false, take, length, option_map, IsOk, IfOk, OnOk, OnErr, IfErr, IsErrOf};
+//! Cutting a store and appending lines to it.
+ghost use Rattle.std.specs.Prelude.{◌≡◌, ◌+◌, ◌++◌, ◌⊎◌, ℕ, true, false, take, length, option_map, IsOk, IfOk, OnOk, OnErr, IfErr, IsErrOf};
 ghost use Rattle.outside.specs.Causes.{HasCause};
 ghost use Rattle.outside.specs.Told.{held};
 ghost use Rattle.laws_history.specs.Stores.{IsSynced};
 ghost use Rattle.ledger_core.specs.Tails.{MayBeCut, HoldsPart, cleared};
-ghost use Rattle.ledger_core.specs.Faults.{IsSettleFault, told};
+ghost use Rattle.ledger_core.specs.Faults.{StoreLeaves, told};
 
 use ion_values::OutOfMemory;
 use outside::{JournalStore, OutFault};
@@ -13,7 +13,7 @@ use thiserror::Error;
 /// Why a store was not cut or took no line.
 #[derive(Clone, Copy, Debug, PartialEq, Eq, Error)]
 pub enum SettleFault {
-    /// The store failed in its last call, and had failed so often then.
+    /// The store failed in its last call, and had failed `count` times by then.
     #[error("the store failed, {count} times so far")]
     StoreFault { count: u64 },
     #[error("out of memory")]
@@ -31,8 +31,8 @@ impl From<OutOfMemory> for SettleFault {
     }
 }
 
-/// The keeper of a journal: its store, how long the journal's lines are together, in bytes, and whether what stands
-/// behind them is to be cut.
+/// The keeper of a journal: its store, the length of the journal's lines, in bytes, and whether what stands after them is
+/// to be cut.
 #[derive(Drop)]
 pub(crate) struct Keeper<S> {
     pub(crate) store: S,
@@ -41,7 +41,7 @@ pub(crate) struct Keeper<S> {
 }
 
 impl<S: JournalStore> Keeper<S> {
-    /// Where a cut is marked, cuts the store to the journal's lines and syncs it; else it does nothing.
+    /// Cuts the store to the journal's lines and syncs it, if a cut is marked.
     pub(crate) fn settle(&mut self) -> Result<(), SettleFault>
         ensures bytes { OnOk result (held (S.told self.new.store)
             ≡ option_map (cleared self.old.marked self.old.size) (held (S.told self.old.store))) }
@@ -52,9 +52,7 @@ impl<S: JournalStore> Keeper<S> {
             self.old.size) }
         ensures marked { OnErr result (self.new.marked ≡ self.old.marked) }
         ensures size { self.new.size ≡ self.old.size }
-        ensures later { (S.told self.old.store).faults ≤ (S.told self.new.store).faults }
-        ensures fine { OnOk result ((S.told self.new.store).faults ≡ (S.told self.old.store).faults) }
-        ensures fault { IfErr result (λ fault. IsSettleFault fault (S.told self.old.store) (S.told self.new.store)) }
+        ensures store { StoreLeaves result (S.told self.old.store) (S.told self.new.store) }
     {
         if self.marked {
             cut_back(&mut self.store, self.size)?;
@@ -63,8 +61,8 @@ impl<S: JournalStore> Keeper<S> {
         Ok(())
     }
 
-    /// Puts a line behind the journal's lines, and syncs it. Where a cut is marked, it is made before. After a fault of
-    /// the store a cut is marked.
+    /// Appends a line to the journal's lines, and syncs it. If a cut is marked, it is made before. After a fault of the
+    /// store a cut is marked.
     pub(crate) fn keep_line(&mut self, line: &[u8]) -> Result<(), SettleFault>
         ensures bytes { OnOk result (held (S.told self.new.store)
             ≡ option_map (λ held. cleared self.old.marked self.old.size held ++ line.now)
@@ -78,9 +76,7 @@ impl<S: JournalStore> Keeper<S> {
             (held (S.told self.new.store))) }
         ensures marked { IfErr result (λ fault. ((fault ≡ SettleFault.OutOfMemory) × (self.new ≡ self.old))
             ⊎ (self.new.marked ≡ true)) }
-        ensures later { (S.told self.old.store).faults ≤ (S.told self.new.store).faults }
-        ensures fine { OnOk result ((S.told self.new.store).faults ≡ (S.told self.old.store).faults) }
-        ensures fault { IfErr result (λ fault. IsSettleFault fault (S.told self.old.store) (S.told self.new.store)) }
+        ensures store { StoreLeaves result (S.told self.old.store) (S.told self.new.store) }
     {
         let size = grown(self.size, line)?;
         self.settle()?;
@@ -92,7 +88,7 @@ impl<S: JournalStore> Keeper<S> {
     }
 }
 
-/// The length with a line more. A length that doesn't fit is want of memory.
+/// The length with one line more. If it doesn't fit, it returns `OutOfMemory`.
 fn grown(size: u64, line: &[u8]) -> Result<u64, OutOfMemory>
     ensures { IfOk result (λ sum. sum ≡ size + length line.now) }
 {
@@ -119,9 +115,7 @@ fn cut_back<S: JournalStore>(store: &mut S, size: u64) -> Result<(), SettleFault
     ensures bytes { OnOk result (held (S.told store.new) ≡ option_map (take size) (held (S.told store.old))) }
     ensures synced { OnOk result (IsSynced (S.told store.new)) }
     ensures cut { MayBeCut (held (S.told store.old)) (held (S.told store.new)) size }
-    ensures later { (S.told store.old).faults ≤ (S.told store.new).faults }
-    ensures fine { OnOk result ((S.told store.new).faults ≡ (S.told store.old).faults) }
-    ensures fault { IfErr result (λ fault. IsSettleFault fault (S.told store.old) (S.told store.new)) }
+    ensures store { StoreLeaves result (S.told store.old) (S.told store.new) }
 {
     match cut_and_sync(store, size) {
         Ok(()) => Ok(()),
@@ -129,6 +123,7 @@ fn cut_back<S: JournalStore>(store: &mut S, size: u64) -> Result<(), SettleFault
     }
 }
 
+/// Cuts the store to this length, and syncs it.
 fn cut_and_sync<S: JournalStore>(store: &mut S, size: u64) -> Result<(), OutFault>
     ensures bytes { OnOk result (held (S.told store.new) ≡ option_map (take size) (held (S.told store.old))) }
     ensures synced { OnOk result (IsSynced (S.told store.new)) }
@@ -141,16 +136,14 @@ fn cut_and_sync<S: JournalStore>(store: &mut S, size: u64) -> Result<(), OutFaul
     Ok(())
 }
 
-/// Puts a line behind what the store holds, and syncs it.
+/// Appends a line to what the store holds, and syncs it.
 fn put_behind<S: JournalStore>(store: &mut S, line: &[u8]) -> Result<(), SettleFault>
     ensures bytes { OnOk result (held (S.told store.new)
         ≡ option_map (λ held. held ++ line.now) (held (S.told store.old))) }
     ensures synced { OnOk result (IsSynced (S.told store.new)) }
     ensures part { (kept : ℕ) × (held (S.told store.new)
         ≡ option_map (λ held. held ++ take kept line.now) (held (S.told store.old))) }
-    ensures later { (S.told store.old).faults ≤ (S.told store.new).faults }
-    ensures fine { OnOk result ((S.told store.new).faults ≡ (S.told store.old).faults) }
-    ensures fault { IfErr result (λ fault. IsSettleFault fault (S.told store.old) (S.told store.new)) }
+    ensures store { StoreLeaves result (S.told store.old) (S.told store.new) }
 {
     match append_and_sync(store, line) {
         Ok(()) => Ok(()),
@@ -158,6 +151,7 @@ fn put_behind<S: JournalStore>(store: &mut S, line: &[u8]) -> Result<(), SettleF
     }
 }
 
+/// Appends a line to what the store holds, and syncs it.
 fn append_and_sync<S: JournalStore>(store: &mut S, line: &[u8]) -> Result<(), OutFault>
     ensures bytes { OnOk result (held (S.told store.new)
         ≡ option_map (λ held. held ++ line.now) (held (S.told store.old))) }

@@ -3,7 +3,6 @@
 
 mod appending;
 mod begin;
-mod chain;
 mod commit;
 mod keeping;
 mod laws;
@@ -16,11 +15,13 @@ mod tail;
 pub use appending::Receipt;
 pub use begin::BeginFault;
 pub use commit::{CommitFault, Uncommitted};
+pub use journal_reader::LoadCause;
 pub use keeping::SettleFault;
 pub use laws::{
     begins_are_steps, commits_are_steps, spent_numbers_are_steps, statements_are_steps,
+    statements_keep_open,
 };
 pub use laws_machine::{commits_stand_once, conflict_comes_exactly, history_stays_legal};
 pub use outcomes::outcome_of;
-pub use reload::{LoadCause, LoadFault};
+pub use reload::LoadFault;
 pub use tail::Tail;

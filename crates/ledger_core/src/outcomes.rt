@@ -1,4 +1,4 @@
-//! How the end of a commit is told as an outcome.
+//! The outcome of a commit.
 ghost use Rattle.std.specs.Prelude.{◌≡◌};
 ghost use Rattle.ledger_core.specs.Outcomes.{outcome_of};
 
@@ -7,8 +7,8 @@ use crate::commit::CommitFault;
 use ledger_model::Outcome;
 use ql_types::TxId;
 
-/// How the end of a commit is told as the outcome of its job's transaction, of this id and on so many blocks. A
-/// transaction of which a statement was refused isn't committed.
+/// The outcome of the transaction of this id that began on `since` blocks, by what its commit returned. A transaction
+/// of which a statement was refused isn't committed.
 pub fn outcome_of(tx: TxId, since: u64, answer: Result<Receipt, CommitFault>) -> Outcome
     ensures { result ≡ outcome_of tx since answer }
 {

@@ -24,7 +24,7 @@ pub(crate) struct Made {
     pub(crate) text: Text,
 }
 
-/// The transaction as the next block behind these: made at this time, or at that of the last block where it is later.
+/// The transaction as the next block after these: made at this time, or at that of the last block if that is later.
 pub(crate) fn into_block(
     alloc: Global,
     txn: Txn,
@@ -42,7 +42,7 @@ pub(crate) fn into_block(
         schema,
         drafts,
     } = txn.finish(alloc)?;
-    // So many revisions find no memory.
+    // More revisions than a u32 counts find no memory.
     let Ok(count) = u32::try_from(drafts.len()) else {
         return Err(OutOfMemory);
     };
@@ -72,7 +72,7 @@ pub(crate) fn into_block(
     Ok(Made { block, text })
 }
 
-/// This time, or that of the last block where it isn't before this one.
+/// This time, or that of the last block if that isn't earlier.
 fn time_behind(before: &[Block], time: IonTime) -> IonTime
     ensures { result ≡ time_behind before.now time }
 {
@@ -82,7 +82,7 @@ fn time_behind(before: &[Block], time: IonTime) -> IonTime
     }
 }
 
-/// This time, or the header's where it isn't before this one.
+/// This time, or the header's if that isn't earlier.
 fn later_time(last: &Header, time: IonTime) -> IonTime
     ensures { result ≡ (if int_le (instant_of time) (instant_of last.now.time) then last.now.time else time) }
 {
@@ -94,7 +94,7 @@ fn later_time(last: &Header, time: IonTime) -> IonTime
     }
 }
 
-/// The hash of the last block, or that of the strand where there is none.
+/// The hash of the last block, or that of the strand if there is none.
 fn last_hash(alloc: Global, mask: IdMask, before: &[Block]) -> Result<Hash32, OutOfMemory>
     ensures { IfOk result (λ hash. hash ≡ last_hash mask.bits before.now) }
 {

@@ -10,9 +10,9 @@ ghost use Rattle.ledger_core.specs.Faults.{IsSettleFault, IsTriedWith};
 ghost use Rattle.ledger_core.specs.Tails.{Leaves, MayHoldPart, joined};
 
 use crate::appending::Unkept;
-use crate::chain::Chain;
 use crate::keeping::{Keeper, SettleFault};
 use ion_values::{OutOfMemory, Text};
+use journal_reader::Chain;
 use ledger_model::{Block, Blocks};
 use outside::JournalStore;
 use pad_tree::Grow;
@@ -23,8 +23,8 @@ use std::marker::Model;
 use std::snapshot::Snapshot;
 use versions::Versions;
 
-/// The blocks of a journal and the store that keeps them, with the clock that tells when a block was made. Behind the
-/// lines of the blocks the store holds nothing, or a rest that is marked to be cut.
+/// The blocks of a journal, the store that keeps them, and the clock that dates new ones. After the lines of the blocks
+/// the store holds nothing, or a rest that is marked to be cut.
 #[derive(Drop)]
 pub struct Tail<S: JournalStore, C> {
     pub(crate) keeper: Keeper<S>,
@@ -78,8 +78,8 @@ impl<S: JournalStore, C> Tail<S, C> {
         self.blocks.tree()
     }
 
-    /// The digest of the journal, with its last block as the tip, or None where there is no block. It takes no memory
-    /// and hashes nothing.
+    /// The digest of the journal with its last block as the tip, or None if there is no block. It takes no memory and
+    /// hashes nothing.
     pub fn digest(&self) -> Option<Digest>
         ensures { MatchOption result (self.now.standing.blocks ≡ [])
             (λ digest. IsDigest self.now.standing.blocks (length self.now.standing.blocks - 1) digest) }
@@ -97,16 +97,19 @@ impl<S: JournalStore, C> Tail<S, C> {
         let _mask = self.mask.bits;
     }
 
-    /// Puts a block behind the others, its line in the store first. After a fault the blocks are as before.
+    /// Appends a block, its line to the store first. After a fault the blocks are as before.
     pub(crate) fn append_block(&mut self, block: Block, text: Text) -> Result<(), Unkept>
         requires stands { IsStanding (joined self.old.standing block) }
         requires written { text ≡ line block }
+        // the blocks and the clock
         ensures standing { OnOk result (self.new.standing ≡ joined self.old.standing block) }
         ensures same { OnErr result (self.new.standing ≡ self.old.standing) }
         ensures clock { self.new.clock ≡ self.old.clock }
+        // the store after an append
         ensures holds { OnOk result (Holding self.new.standing.blocks (held (S.told self.new.store))) }
         ensures synced { OnOk result (IsSynced (S.told self.new.store)) }
         ensures settled { OnOk result (self.new.marked ≡ false) }
+        // the store after a fault
         ensures part { OnErr result (MayHoldPart self.old.standing.blocks block (held (S.told self.old.store))
             (held (S.told self.new.store))) }
         ensures tried { IfErr result (λ e. IsTriedWith block e.fault (option_map (λ b. b.value) e.tried)) }
@@ -114,6 +117,7 @@ impl<S: JournalStore, C> Tail<S, C> {
             (held (S.told self.old.store)) (held (S.told self.new.store))) }
         ensures marked { IfErr result (λ e. ((e.fault ≡ SettleFault.OutOfMemory) × (self.new ≡ self.old))
             ⊎ (self.new.marked ≡ true)) }
+        // when the store failed
         ensures later { (S.told self.old.store).faults ≤ (S.told self.new.store).faults }
         ensures fine { OnOk result ((S.told self.new.store).faults ≡ (S.told self.old.store).faults) }
         ensures fault { IfErr result (λ e. IsSettleFault e.fault (S.told self.old.store) (S.told self.new.store)) }

@@ -23,7 +23,7 @@ returns-clause-answers c =
     let done = c.commit-committed in
     closes desk.tail done.new.self desk.transactions.items c.take_named.new.list.items c.args.name.now c.args.digest c.in-Some.txn c.in_ok-digest.digest
     c.in_ok-footprint.footprint c.in_ok-said.said done.result c.in-Some.ensures.found c.take_named.ensures.rest c.in_ok-digest.ensures c.in_ok-footprint.ensures
-    done.ensures.ends c.in_ok-said.ensures.served c.in_ok-said.ensures.said
+    done.ensures.commits.ends c.in_ok-said.ensures.served c.in_ok-said.ensures.said
 
 pub returns-in_default-clause-sound : goal.returns-in_default-clause-sound
 returns-in_default-clause-sound c =

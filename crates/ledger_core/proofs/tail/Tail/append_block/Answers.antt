@@ -2,7 +2,7 @@ use Rattle.std.proofs.Common.{◌≡◌, ◌∙◌, [], ◌∷◌, ◌++◌, ap,
 use Rattle.ledger_model.specs.Journal.{line}
 use Rattle.laws_history.specs.Standings.{IsStanding}
 use Rattle.ledger_core.specs.Tails.{TailHeld, joined}
-use Rattle.ledger_core.proofs.Bounds.{undamaged_bound}
+use Rattle.journal_reader.proofs.Bounds.{undamaged_bound}
 use Rattle.ledger_core.proofs.Joined.{appended, faulted, holds-more, left_with, may-hold, tried_with}
 use Rattle.outside.specs.Told.{held}
 use Rattle.ledger_core.proofs.tail.Tail.append_block.Goals as goal

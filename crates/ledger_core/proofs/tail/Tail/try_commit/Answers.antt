@@ -1,9 +1,14 @@
 use Rattle.std.proofs.Common.{Err, subst, sym}
 use Rattle.std.specs.Prelude.{option_map}
 use Rattle.ledger_core.specs.declared.commit.CommitFault.{CommitFault}
-use Rattle.ledger_core.specs.Committing.{CommitEnds, IsAnswer, IsTried}
-use Rattle.ledger_core.proofs.Commits.{IsReady, put_faulted, put_part, put_seals, put_stands, put_tried, ready}
+use Rattle.ledger_core.specs.Committing.{IsAnswer, IsTried}
+use Rattle.ledger_core.specs.Leaving.{CommitLeaves}
+use Rattle.ledger_core.proofs.Commits.{IsReady, put_stands, put_tried, ready, refused_leaves, sealed_leaves, unkept_leaves}
 use Rattle.ledger_core.proofs.tail.Tail.try_commit.Goals as goal
+
+pub returns-in-Err-clause-commits : goal.returns-in-Err-clause-commits
+returns-in-Err-clause-commits g c =
+    refused_leaves g.S.JournalStore.told g.C.Clock.answers g.C.Clock.always c.args.self.now c.args.txn c.args.sent c.in-Err.fault c.in-Err.ensures
 
 pub append_next-requires : goal.append_next-requires
 append_next-requires g c =
@@ -13,15 +18,19 @@ append_next-requires g c =
     put_stands g.S.JournalStore.told g.C.Clock.answers g.C.Clock.always c.args.self.now c.time-time.new.self c.time-time.new.self _ c.args.txn c.args.sent c.time-time.result r
     c.time-time.ensures.same c.time-time.ensures.answer
 
-pub returns-in-Err-append_next-clause-ends : goal.returns-in-Err-append_next-clause-ends
-returns-in-Err-append_next-clause-ends g c =
-    let told = IsAnswer (g.C.Clock.answers c.args.self.now.clock) (g.C.Clock.answers c.append_next.new.self.clock) (g.C.Clock.always c.args.self.now.clock) in
+pub returns-in-Err-append_next-clause-commits : goal.returns-in-Err-append_next-clause-commits
+returns-in-Err-append_next-clause-commits g c =
+    let told = g.S.JournalStore.told in
+    let answers = g.C.Clock.answers in
+    let always = g.C.Clock.always in
+    let failed = c.in-Err-append_next.ensures in
     let r : IsReady c.args.self.now.standing c.args.txn c.args.sent =
     ready c.args.self.now.standing c.args.txn c.args.sent c.place.result c.is_tail.ensures.stands c.requires c.is_tail.ensures.mask
     c.place.ensures c.is_within.ensures c.is_within-2.ensures c.in-Ok.ensures in
-    subst (λ (f : CommitFault). CommitEnds c.args.self.now.standing c.args.txn c.args.sent told (Err f) c.append_next.new.self.standing) (sym c.from.ensures)
-    (put_faulted g.S.JournalStore.told g.C.Clock.answers g.C.Clock.always c.args.self.now c.time-time.new.self c.append_next.new.self _ c.args.txn c.args.sent
-    c.time-time.result r c.time-time.ensures.same c.time-time.ensures.answer c.in-Err-append_next.ensures.clock c.in-Err-append_next.field-0.fault c.in-Err-append_next.ensures.same)
+    subst (λ (f : CommitFault). CommitLeaves told answers always c.args.self.now c.append_next.new.self c.args.txn c.args.sent (Err f)) (sym c.from.ensures)
+    (unkept_leaves told answers always c.args.self.now c.time-time.new.self c.append_next.new.self _ c.args.txn c.args.sent c.time-time.result r
+    c.time-time.ensures.same c.time-time.ensures.answer failed.clock c.time-time.ensures.always c.in-Err-append_next.field-0.fault failed.same failed.part
+    failed.marked failed.fault)
 
 pub returns-in-Err-append_next-clause-tried : goal.returns-in-Err-append_next-clause-tried
 returns-in-Err-append_next-clause-tried g c =
@@ -34,19 +43,12 @@ returns-in-Err-append_next-clause-tried g c =
     c.time-time.result r c.time-time.ensures.same c.time-time.ensures.answer c.in-Err-append_next.ensures.clock c.in-Err-append_next.field-0.fault
     (option_map (λ b. b.value) c.in-Err-append_next.field-0.tried) c.in-Err-append_next.ensures.tried)
 
-pub returns-in-Err-append_next-clause-part : goal.returns-in-Err-append_next-clause-part
-returns-in-Err-append_next-clause-part g c =
+pub returns-in-Ok-append_next-clause-commits : goal.returns-in-Ok-append_next-clause-commits
+returns-in-Ok-append_next-clause-commits g c =
+    let kept = c.in-Ok-append_next.ensures in
     let r : IsReady c.args.self.now.standing c.args.txn c.args.sent =
     ready c.args.self.now.standing c.args.txn c.args.sent c.place.result c.is_tail.ensures.stands c.requires c.is_tail.ensures.mask
     c.place.ensures c.is_within.ensures c.is_within-2.ensures c.in-Ok.ensures in
-    put_part g.S.JournalStore.told g.C.Clock.answers g.C.Clock.always c.args.self.now c.time-time.new.self c.append_next.new.self _ c.args.txn c.args.sent
-    c.time-time.result r c.time-time.ensures.same c.time-time.ensures.answer c.in-Err-append_next.ensures.clock c.in-Err-append_next.ensures.part
-
-pub returns-in-Ok-append_next-clause-ends : goal.returns-in-Ok-append_next-clause-ends
-returns-in-Ok-append_next-clause-ends g c =
-    let r : IsReady c.args.self.now.standing c.args.txn c.args.sent =
-    ready c.args.self.now.standing c.args.txn c.args.sent c.place.result c.is_tail.ensures.stands c.requires c.is_tail.ensures.mask
-    c.place.ensures c.is_within.ensures c.is_within-2.ensures c.in-Ok.ensures in
-    put_seals g.S.JournalStore.told g.C.Clock.answers g.C.Clock.always c.args.self.now c.time-time.new.self c.append_next.new.self _ c.args.txn c.args.sent
-    c.time-time.result r c.time-time.ensures.same c.time-time.ensures.answer c.in-Ok-append_next.ensures.clock c.in-Ok-append_next.receipt c.in-Ok-append_next.ensures.receipt
-    c.in-Ok-append_next.ensures.standing
+    sealed_leaves g.S.JournalStore.told g.C.Clock.answers g.C.Clock.always c.args.self.now c.time-time.new.self c.append_next.new.self _ c.args.txn c.args.sent
+    c.time-time.result r c.time-time.ensures.same c.time-time.ensures.answer kept.clock c.time-time.ensures.always c.in-Ok-append_next.receipt kept.receipt
+    kept.standing kept.holds kept.synced kept.fine

@@ -2,7 +2,7 @@ use Rattle.std.proofs.Common.{◌≡◌, ◌-◌, ◌≤◌, None, length, take}
 use Rattle.std.specs.Prelude.{IfSome}
 use Rattle.outside.specs.Told.{held}
 use Rattle.journal_text.specs.Feeding.{taken}
-use Rattle.ledger_core.proofs.reload.read_stored.Given as goal
+use Rattle.journal_reader.proofs.reading.read_stored.Given as goal
 
 -- what was read is the front part of the bytes, and the store keeps them
 abbrev pub invariant-pieces : goal.invariant-pieces

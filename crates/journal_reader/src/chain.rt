@@ -15,7 +15,7 @@ use std::marker::Model;
 /// The blocks of a journal in order, and the tree over their hashes. Contracts see the blocks as `list`, and beside it
 /// `spare`, the number of blocks for which there is room already.
 #[derive(Drop)]
-pub(crate) struct Chain {
+pub struct Chain {
     blocks: Blocks,
     grow: Grow,
 }
@@ -38,7 +38,7 @@ impl Model for Chain {
 
 impl Chain {
     /// The chain of these blocks.
-    pub(crate) fn of(alloc: Global, blocks: Blocks) -> Result<Chain, OutOfMemory>
+    pub fn of(alloc: Global, blocks: Blocks) -> Result<Chain, OutOfMemory>
         requires { length blocks.list < 2 ^ 32 }
         ensures { IfOk result (λ chain. chain.list ≡ blocks.list) }
     {
@@ -47,21 +47,21 @@ impl Chain {
     }
 
     /// The blocks, lent.
-    pub(crate) fn as_slice(&self) -> &[Block]
+    pub fn as_slice(&self) -> &[Block]
         ensures { result.now ≡ self.now.list }
     {
         self.blocks.as_slice()
     }
 
     /// The blocks, lent as the list that they are kept in.
-    pub(crate) fn blocks(&self) -> &Blocks
+    pub fn blocks(&self) -> &Blocks
         ensures { result.now.list ≡ self.now.list }
     {
         &self.blocks
     }
 
     /// The tree over the blocks' hashes, lent.
-    pub(crate) fn tree(&self) -> &Grow
+    pub fn tree(&self) -> &Grow
         ensures { result.now.leaves ≡ block_hashes self.now.list }
     {
         &self.grow
@@ -69,7 +69,7 @@ impl Chain {
 
     /// The digest of a chained journal with its last block as the tip, or None where there is no block. It takes no
     /// memory and hashes nothing.
-    pub(crate) fn digest(&self) -> Option<Digest>
+    pub fn digest(&self) -> Option<Digest>
         requires { Chained self.now.list }
         ensures { MatchOption result (self.now.list ≡ [])
             (λ digest. IsDigest self.now.list (length self.now.list - 1) digest) }
@@ -85,7 +85,7 @@ impl Chain {
     }
 
     /// Makes room for one block more, where there is none.
-    pub(crate) fn make_room(&mut self) -> Result<(), OutOfMemory>
+    pub fn make_room(&mut self) -> Result<(), OutOfMemory>
         ensures list { self.new.list ≡ self.old.list }
         ensures spare { OnOk result (1 ≤ self.new.spare) }
     {
@@ -95,7 +95,7 @@ impl Chain {
     }
 
     /// Puts a block at the end. It takes no memory.
-    pub(crate) fn push(&mut self, block: Block)
+    pub fn push(&mut self, block: Block)
         requires room { 1 ≤ self.old.spare }
         requires few { length self.old.list < 2 ^ 32 }
         ensures { self.new.list ≡ self.old.list ++ block ∷ [] }
@@ -105,7 +105,7 @@ impl Chain {
     }
 
     /// The blocks. It takes no memory.
-    pub(crate) fn into_blocks(self) -> Blocks
+    pub fn into_blocks(self) -> Blocks
         ensures { result.list ≡ self.list }
     {
         let Chain { blocks, grow: _ } = self;

@@ -1,6 +1,6 @@
 use Rattle.std.proofs.Common.{◌≡◌, take}
 use Rattle.proof_model.specs.Issued.{block_hashes}
-use Rattle.ledger_core.proofs.chain.hashes_of.Given as goal
+use Rattle.journal_reader.proofs.chain.hashes_of.Given as goal
 
 -- the hashes of the blocks so far
 abbrev pub invariant-each : goal.invariant-each

@@ -1,10 +1,9 @@
 use Rattle.std.proofs.Common.{◌≡◌, ◌∙◌, ◌+◌, ◌++◌, Err, ap, arith, length, length-append, rules, take}
 use Rattle.outside.specs.Told.{held}
 use Rattle.journal_text.specs.Feeding.{taken}
-use Rattle.ledger_core.specs.Loads.{IsCause, cause_of}
-use Rattle.ledger_core.proofs.Read.{fed-cause, front-next, front-none, long-of, take-inside}
-use Rattle.ledger_core.proofs.Syncs.{bytes_of}
-use Rattle.ledger_core.proofs.reload.read_stored.Goals as goal
+use Rattle.journal_reader.specs.Loads.{IsCause, cause_of}
+use Rattle.journal_reader.proofs.Read.{bytes_of, fed-cause, front-next, front-none, long-of, take-inside}
+use Rattle.journal_reader.proofs.reading.read_stored.Goals as goal
 
 pub pieces-init : goal.pieces-init
 pieces-init g c = record {

@@ -3,8 +3,8 @@ use Rattle.std.specs.Prelude.{slice_get}
 use Rattle.ledger_model.specs.declared.block.Block.{Block}
 use Rattle.ledger_model.specs.Rooms.{Kept}
 use Rattle.proof_model.specs.Chained.{Chained}
-use Rattle.ledger_core.proofs.Leaves.{grown_digest, no_blocks}
-use Rattle.ledger_core.proofs.chain.Chain.digest.Goals as goal
+use Rattle.journal_reader.proofs.Leaves.{grown_digest, no_blocks}
+use Rattle.journal_reader.proofs.chain.Chain.digest.Goals as goal
 
 pub returns-in-Full : goal.returns-in-Full
 returns-in-Full c =

@@ -7,9 +7,9 @@ use Rattle.outside.specs.declared.traits.OutFault.{OutFault}
 use Rattle.outside.specs.declared.traits.OutFault.TheVariants as out
 use Rattle.journal_text.specs.declared.journal.JournalFault.{JournalFault}
 use Rattle.journal_text.specs.declared.journal.JournalFault.TheVariants as journal
-use Rattle.ledger_core.specs.declared.reload.LoadCause.{LoadCause}
-use Rattle.ledger_core.specs.declared.reload.LoadCause.TheVariants as cause
-use Rattle.ledger_core.specs.Faults.{IsStoreFault}
+use Rattle.journal_reader.specs.declared.cause.LoadCause.{LoadCause}
+use Rattle.journal_reader.specs.declared.cause.LoadCause.TheVariants as cause
+use Rattle.journal_reader.specs.Faults.{IsStoreFault}
 
 -- the bytes are the lines of these blocks and a rest that is no whole line, and it is marked where there is one
 abbrev pub IsRead : List ℕ → List Block → Bool → Type 0

@@ -1,6 +1,6 @@
 -- The front part of a store's bytes, read on.
 use Rattle.std.proofs.Common.{◌≡◌, ◌∙◌, ℕ, zero, suc, ◌+◌, ◌≤◌, Bool, List, [], ◌∷◌, ◌++◌, length, take, drop, refl, sym, ap, subst, Option, Some, None, append_assoc, arith, length-drop, length-take}
-use Rattle.std.specs.Prelude.{IfSome, nat_lt}
+use Rattle.std.specs.Prelude.{IfSome, nat_lt, option_map}
 use Rattle.std.proofs.Math.ListN.{drop_of_length-le}
 use Rattle.std.proofs.Math.Seq.{take-add, take-length}
 use Rattle.std.proofs.lemmas.Bool.{le-ltb, ltb-false}
@@ -13,10 +13,13 @@ use Rattle.outside.specs.Told.{StoreTold, held}
 use Rattle.journal_text.specs.declared.journal.JournalFault.{JournalFault}
 use Rattle.journal_text.specs.declared.journal.JournalFault.TheVariants as journal
 use Rattle.journal_text.specs.Reading.{IsFault}
-use Rattle.ledger_core.specs.declared.reload.LoadCause.{LoadCause}
-use Rattle.ledger_core.specs.declared.reload.LoadCause.TheVariants as cause
-use Rattle.ledger_core.specs.Loads.{IsCause, IsLoaded, IsRead, cause_of}
-use Rattle.ledger_core.proofs.Syncs.{bytes_of}
+use Rattle.journal_reader.specs.declared.cause.LoadCause.{LoadCause}
+use Rattle.journal_reader.specs.declared.cause.LoadCause.TheVariants as cause
+use Rattle.journal_reader.specs.Loads.{IsCause, IsLoaded, IsRead, cause_of}
+
+-- the bytes, where they are told
+abbrev pub bytes_of : Option Content → Option (List ℕ)
+bytes_of content = option_map (λ (c : Content). c.bytes) content
 
 -- a front part that ends within the first list
 pub take-inside : (n : ℕ) (xs ys : List ℕ) → n ≤ length xs → take n (xs ++ ys) ≡ take n xs

@@ -1,0 +1,5 @@
+pub mod Bounds
+mod Ends
+mod Leaves
+mod Lines
+mod Read

@@ -1,0 +1,79 @@
+//! The bytes of a store, read by pieces.
+ghost use Rattle.std.specs.Prelude.{◌≡◌, ◌<◌, ◌≤◌, None, length, IfOk, OnOk, IfErr, IfSome};
+ghost use Rattle.outside.specs.Store.{ReadsAt};
+ghost use Rattle.outside.specs.Told.{held};
+ghost use Rattle.journal_text.specs.Feeding.{taken};
+ghost use Rattle.journal_reader.specs.Loads.{IsCause};
+
+use crate::cause::{LoadCause, cause_told};
+use journal_text::JournalReader;
+use outside::JournalStore;
+use std::alloc::Global;
+
+/// What was read of a store, and how many bytes there were.
+#[derive(Drop)]
+pub(crate) struct Stored {
+    pub(crate) reader: JournalReader,
+    pub(crate) size: u64,
+}
+
+/// The size of the store.
+fn size_of<S: JournalStore>(store: &mut S) -> Result<u64, LoadCause>
+    ensures size { IfOk result (λ size. IfSome (held (S.told store.old)) (λ bytes. size ≡ length bytes)) }
+    ensures content { (S.told store.new).content ≡ (S.told store.old).content }
+    ensures fine { OnOk result ((S.told store.new).faults ≡ (S.told store.old).faults) }
+    ensures later { (S.told store.old).faults ≤ (S.told store.new).faults }
+    ensures cause { IfErr result (λ cause. IsCause cause (S.told store.old) (S.told store.new)) }
+{
+    match store.size() {
+        Ok(size) => Ok(size),
+        Err(fault) => Err(cause_told(store, fault)),
+    }
+}
+
+/// The number of bytes that were read into the piece, from an offset of the store on.
+fn read_piece<S: JournalStore>(store: &mut S, at: u64, piece: &mut [u8]) -> Result<usize, LoadCause>
+    requires { 0 < length piece.old }
+    ensures bytes { IfOk result (λ count. IfSome (S.told store.old).content (λ content.
+        ReadsAt content.bytes at piece.new count)) }
+    ensures within { IfOk result (λ count. count ≤ length piece.new) }
+    ensures content { (S.told store.new).content ≡ (S.told store.old).content }
+    ensures fine { OnOk result ((S.told store.new).faults ≡ (S.told store.old).faults) }
+    ensures later { (S.told store.old).faults ≤ (S.told store.new).faults }
+    ensures cause { IfErr result (λ cause. IsCause cause (S.told store.old) (S.told store.new)) }
+{
+    match store.read_at(at, piece) {
+        Ok(count) => Ok(count),
+        Err(fault) => Err(cause_told(store, fault)),
+    }
+}
+
+/// Reads the store up to the size that it tells, or to its end, in pieces of at most 65,536 bytes. Each turn takes at
+/// least one byte.
+pub(crate) fn read_stored<S: JournalStore>(
+    alloc: Global,
+    store: &mut S,
+) -> Result<Stored, LoadCause>
+    ensures read { IfOk result (λ stored. IfSome (held (S.told store.old)) (λ held. taken stored.reader ≡ held)) }
+    ensures reads { IfOk result (λ stored. stored.reader.damaged ≡ None) }
+    ensures size { IfOk result (λ stored. stored.size ≡ length (taken stored.reader)) }
+    ensures content { (S.told store.new).content ≡ (S.told store.old).content }
+    ensures later { (S.told store.old).faults ≤ (S.told store.new).faults }
+    ensures fine { OnOk result ((S.told store.new).faults ≡ (S.told store.old).faults) }
+    ensures cause { IfErr result (λ cause. IsCause cause (S.told store.old) (S.told store.new)) }
+{
+    let whole = size_of(store)?;
+    let mut reader = JournalReader::new(alloc);
+    let mut size = 0;
+    let mut piece = [0u8; 65536];
+    'pieces: while size < whole {
+        let room = (whole - size).min(65536) as usize;
+        let count = read_piece(store, size, &mut piece[..room])?;
+        if count == 0 {
+            return Ok(Stored { reader, size });
+        }
+        reader.feed_all(&piece[..count])?;
+        size += count as u64;
+    }
+    Ok(Stored { reader, size })
+}

@@ -1,0 +1,34 @@
+-- What a commit leaves, by what it returns: the blocks, the clock and the store.
+use Rattle.std.specs.Prelude.{◌≡◌, ◌⊎◌, ℕ, ℤ, true, List, Option, Result, OnOk, OnErr, IfErr}
+use Rattle.ion_values.specs.declared.time.TimeParts.{TimeParts}
+use Rattle.ql_types.specs.declared.Hash32.{Hash32}
+use Rattle.laws_history.specs.Stores.{Holding, IsSynced}
+use Rattle.outside.specs.Told.{StoreTold, held}
+use Rattle.txn_core.specs.Opened.{Opened}
+use Rattle.ledger_core.specs.declared.appending.Receipt.{Receipt}
+use Rattle.ledger_core.specs.declared.commit.CommitFault.{CommitFault}
+use Rattle.ledger_core.specs.Committing.{CommitEnds, IsAnswer, IsCommitFault, IsService, MayHoldPartOf}
+use Rattle.ledger_core.specs.Tails.{TailHeld}
+
+-- with what a store tells, and what a clock tells of its answers
+module _ {S C : Type 0} (told : S → StoreTold) (answers : C → Option (List ℤ)) (always : C → Option ℤ)
+    (before after : TailHeld S C) where
+  -- the clock was asked once in between, and this is its time
+  abbrev pub Asked : TimeParts → Type 0
+  Asked = IsAnswer (answers before.clock) (answers after.clock) (always before.clock)
+
+  pub record CommitLeaves (t : Opened) (sent : Option Hash32) (result : Result Receipt CommitFault) : Type 0 where
+    -- the blocks, and the whole tail after a fault: as it was, unless it comes of memory or of the store
+    pub ends : CommitEnds before.standing t sent Asked result after.standing
+    pub unasked : IfErr result (λ fault. IsService fault ⊎ (after ≡ before))
+    pub marked : OnErr result ((after ≡ record before { clock = after.clock }) ⊎ (after.marked ≡ true))
+    -- the clock, which is asked at most once
+    pub asked : (after ≡ before) ⊎ ((time : TimeParts) × Asked time)
+    pub always_is : always after.clock ≡ always before.clock
+    -- the store: a block that is kept is synced, and no rest stands after it; after a fault a part of its line may stand
+    pub holds : OnOk result (Holding after.standing.blocks (held (told after.store)))
+    pub synced : OnOk result (IsSynced (told after.store))
+    pub part : OnErr result (MayHoldPartOf before.standing t sent Asked (held (told before.store)) (held (told after.store)))
+    -- the store failed exactly if the commit returns so
+    pub fine : OnOk result ((told after.store).faults ≡ (told before.store).faults)
+    pub fault : IfErr result (λ fault. IsCommitFault fault (told before.store) (told after.store))
