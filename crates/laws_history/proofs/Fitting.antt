@@ -125,7 +125,7 @@ module _ (t : RunRecord) (ss : List Served) (es : List Entry) (pass_of : ℕ →
       → is_committed x ≡ true
   committed_true x front b e = ap is_committed e
 
-  blockless : (s : Served) → Stands s ss → is_committed s.outcome ≡ false → HasNoBlock t s.placed
+  pub blockless : (s : Served) → Stands s ss → is_committed s.outcome ≡ false → HasNoBlock t s.placed
   blockless s h none =
       each_made (λ (b : Block). b.info.place ≡ s.placed.place → ⊥)
       (λ front number b p place.

@@ -1,5 +1,5 @@
 -- What is true of the blocks of a beginning is true of all blocks: conflicts that were found, and a full journal.
-use Rattle.std.proofs.Common.{◌≡◌, ℕ, ◌+◌, ◌-◌, ◌^◌, ◌≤◌, ◌&&◌, ◌==◌, nat_le, List, [], ◌∷◌, ◌++◌, length, length-append, take, drop, Option, Some, None, ap, ◌∙◌, subst, arith, append-nil, append_assoc}
+use Rattle.std.proofs.Common.{◌≡◌, ℕ, ◌+◌, ◌-◌, ◌^◌, ◌≤◌, ◌&&◌, ◌==◌, nat_le, List, [], ◌∷◌, ◌++◌, length, length-append, take, drop, Option, Some, None, ap, sym, ◌∙◌, subst, arith, append-nil, append_assoc}
 use Rattle.std.specs.List.{find}
 use Rattle.std.proofs.lemmas.Bool.{and_parts, leb-true}
 use Rattle.std.proofs.lemmas.List.{take-append-le, drop-append-le}
@@ -13,7 +13,8 @@ use Rattle.laws_validity.proofs.Journals.{passes_all}
 use Rattle.laws_footprint.specs.Conflicts.{IsFirst, Tells}
 use Rattle.laws_footprint.specs.Touches.{conflict, conflict_from, named_or, touched}
 use Rattle.laws_footprint.proofs.Conflicts.{conflict_is_first}
-use Rattle.turn_lock.proofs.Lists.{prefix_length}
+use Rattle.turn_lock.proofs.Lists.{prefix_length, prefix_self}
+use Rattle.laws_history.proofs.Lists.{one_length}
 
 -- ---- conflicts
 
@@ -72,3 +73,8 @@ stays_full bs cs p u full =
     let low = prefix_length bs cs p in
     let high = few_blocks cs u in
     omega (arith, low, high, full)
+
+-- so no block comes behind a full journal
+pub full_same : (bs cs : List Block) → IsPrefix bs cs → Undamaged cs → length bs ≡ 2 ^ 32 - 1 → bs ≡ cs
+full_same bs cs p u full =
+    one_length bs cs cs p (prefix_self cs) (full ∙ sym (stays_full bs cs p u full))

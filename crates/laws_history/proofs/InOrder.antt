@@ -317,7 +317,7 @@ module _ (t : RunRecord) (ss : List Served) (es : List Entry) (pass_of : ℕ →
   numbers_less (s ∷ xs) h = (
     all_like
         (λ (q : Served). HaveOneWorker t.workers s.placed.place.session q.placed.place.session
-        → RunsBefore t.mask s.outcome q.placed.job q.outcome)
+        → RunsBefore t s.outcome q.placed q.outcome)
         (λ (q : Served). AllByRecursion (λ m. AllByRecursion (λ n. m < n) (numbers_of t.mask q.outcome))
         (numbers_of t.mask s.outcome))
         (λ q before. all_mapped (λ m. AllByRecursion (λ n. m < n) (numbers_of t.mask q.outcome)) (transaction_in t.mask)

@@ -26,4 +26,6 @@ pub mod InOrder
 pub mod Passes
 pub mod Driving
 pub mod Steps
+pub mod Refusals
 mod RunRows
+mod WrongRuns

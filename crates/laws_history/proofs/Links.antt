@@ -22,12 +22,12 @@ use Rattle.laws_machine.specs.Entries.{Entry, Opening, reach_at}
 use Rattle.laws_history.specs.Seen.{IsRight, blocks_in, reach}
 use Rattle.laws_history.specs.Alone.{is_spent}
 use Rattle.laws_history.specs.Attempts.{Attempted, IsInConflict}
-use Rattle.laws_history.specs.Claims.{Holds, retried, stood_behind}
+use Rattle.laws_history.specs.Claims.{Holds, RunsPast, retried, stood_behind}
 use Rattle.laws_history.specs.Runs.{Served, Works, opening_of}
 use Rattle.laws_history.proofs.Lists.{stands_front, stands_parts, stands_rest}
 use Rattle.laws_history.proofs.Makes.{IsEntryOf, Makes, drawn, drawn-append, makes_both, makes_seen, makes_still, is_committed}
 use Rattle.laws_history.proofs.Reaches.{fewer_blocks}
-use Rattle.laws_history.proofs.Tells.{IsFailed, IsNumbered, IsTold, draws, holds, moves, spare, told}
+use Rattle.laws_history.proofs.Tells.{IsFailed, IsNumbered, IsTold, draws, holds, moves, runs_past, spare, told}
 
 -- ---- what is shown
 
@@ -55,6 +55,7 @@ pub record IsLink (t : RunRecord) (es : List Entry) (l : Link) : Type 0 where
   pub counts : AllByRecursion (IsFailed (opening_of t) l.served.placed.place l.until) (told_count l.served.outcome)
   pub starts : IfSome (stood_before l.served.outcome) (λ n. length (blocks_in (opening_of t) l.mid) ≤ n)
   pub late : retried l.served.placed.job l.served.outcome ≤ l.tries
+  pub past : RunsPast t l.served.placed l.served.outcome (length (blocks_in (opening_of t) l.mid))
   pub ends : IfSome (stood_behind l.served.outcome) (λ n. n ≤ length (blocks_in (opening_of t) l.until))
   pub spends : is_spent l.served.outcome ≡ true → (reach (opening_of t) l.until).last ≡ 2 ^ 64 - 1
   pub holds : (reach (opening_of t) es).last + spare l.served.outcome ≤ greatest t.mask t.before + attempts t.jobs
@@ -179,16 +180,16 @@ module _ (t : RunRecord) (es : List Entry) (right : IsRight (opening_of t) es)
         }
 
   -- a job between two moments of its pass
-  record Linked (s : Served) (k now : Known Entry) : Type 0 where
-    link : Link
-    is : IsLink t es link
-    served : link.served ≡ s
-    from : link.from ≡ k.seen
-    until : link.until ≡ now.seen
-    owns : now.own ≡ k.own ++ link.new
-    later : IsPrefix k.seen now.seen
+  pub record Linked (s : Served) (k now : Known Entry) : Type 0 where
+    pub link : Link
+    pub is : IsLink t es link
+    pub served : link.served ≡ s
+    pub from : link.from ≡ k.seen
+    pub until : link.until ≡ now.seen
+    pub owns : now.own ≡ k.own ++ link.new
+    pub later : IsPrefix k.seen now.seen
 
-  linked : (s : Served) (k now : Known Entry) → IsPrefix now.seen es
+  pub linked : (s : Served) (k now : Known Entry) → IsPrefix now.seen es
       → Retried (Attempted o) s.placed.job s.placed.place k s.outcome now → Linked s k now
   linked s k now inside r =
       let p : Placed = s.placed in
@@ -221,6 +222,7 @@ module _ (t : RunRecord) (es : List Entry) (right : IsRight (opening_of t) es)
           counts = tells.counts;
           starts = tells.starts;
           late = retried_most p.job x r.count r.fewer;
+          past = runs_past t es right after closed p r.between x now inside r.last;
           ends = tells.ends;
           spends = tells.spends;
           holds = λ bound none. holds t es right after closed p r.between x now inside r.last bound none

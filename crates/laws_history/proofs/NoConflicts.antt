@@ -66,18 +66,18 @@ module _ (t : RunRecord) (h : Fits t) (alone : HasOneWorker t) where
 
     against : (by : Served) (x : TxId) → by.outcome ≡ Committed x named.block
         → (own ≡ by)
-        ⊎ (RunsBefore t.mask (Conflict tx since named) by.placed.job by.outcome
-        ⊎ RunsBefore t.mask by.outcome p.job (Conflict tx since named))
+        ⊎ (RunsBefore t (Conflict tx since named) by.placed by.outcome
+        ⊎ RunsBefore t by.outcome p (Conflict tx since named))
         → ⊥
     against by x e (inl one) =
         let bad : ⊥ = cc (one, e) in bad
     against by x e (inr (inl before)) =
         let less : named.block + 1 + 0 ≤ named.block =
-        (subst (λ (o : Outcome). RunsBefore t.mask (Conflict tx since named) by.placed.job o) e before).blocks in
+        (subst (λ (o : Outcome). RunsBefore t (Conflict tx since named) by.placed o) e before).blocks in
         omega (arith, less)
     against by x e (inr (inr before)) =
         let less : named.block + 1 + p.job.retries ≤ since =
-        (subst (λ (o : Outcome). RunsBefore t.mask o p.job (Conflict tx since named)) e before).blocks in
+        (subst (λ (o : Outcome). RunsBefore t o p (Conflict tx since named)) e before).blocks in
         omega (arith, less, (first).late)
 
     never : ⊥
@@ -104,11 +104,11 @@ module _ (t : RunRecord) (h : Fits t) (alone : HasOneWorker t) where
   -- ---- the blocks in order
 
   less_behind : (tx : TxId) (m : ℕ) (r : Served) (y : Outcome)
-      → RunsBefore t.mask (Committed tx m) r.placed.job y → AllByRecursion (λ n. m < n) (told_block y)
+      → RunsBefore t (Committed tx m) r.placed y → AllByRecursion (λ n. m < n) (told_block y)
   less_behind tx m r (Committed x n) before = let less : m + 1 + 0 ≤ n = before.blocks in (omega (arith, less), tt)
   less_behind tx m r other before = tt
 
-  less_by : (r : Served) (x : Outcome) → RunsBefore t.mask x r.placed.job r.outcome → TellsLess told_block x r.outcome
+  less_by : (r : Served) (x : Outcome) → RunsBefore t x r.placed r.outcome → TellsLess told_block x r.outcome
   less_by r (Committed tx m) before = (less_behind tx m r r.outcome before, tt)
   less_by r other before = tt
 
@@ -120,7 +120,7 @@ module _ (t : RunRecord) (h : Fits t) (alone : HasOneWorker t) where
         (λ r a. less_by r s.outcome
         (stands_all
         (λ (x : Served). HaveOneWorker t.workers s.placed.place.session x.placed.place.session
-        → RunsBefore t.mask s.outcome x.placed.job x.outcome) r xs order.0 a
+        → RunsBefore t s.outcome x.placed x.outcome) r xs order.0 a
         (one_worker s r (among s (inl refl)) (among r (inr a))))),
     all_less xs (λ r a. among r (inr a)) order.1,
   )

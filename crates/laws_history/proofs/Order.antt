@@ -5,17 +5,20 @@ use Rattle.std.specs.Prelude.{IfSome}
 use Rattle.std.specs.List.{AllByRecursion}
 use mathlib.Core.List.{IsPrefix}
 use Rattle.ql_types.specs.Ids.{raw_id, transaction_in}
+use Rattle.ql_types.specs.declared.TxId.{TxId}
 use Rattle.ledger_model.specs.declared.outcome.Outcome.{Outcome}
+use Rattle.ledger_model.specs.declared.outcome.Outcome.TheVariants.{Committed, Conflict, Refused, DigestDiffers, StoreFault, JournalFull, IdsSpent, Aborted, OutOfMemory}
 use Rattle.ledger_model.specs.declared.outcome.PlacedOutcome.{PlacedOutcome}
+use Rattle.ledger_model.specs.Script.{Placed}
 use Rattle.turn_lock.specs.declared.view.Known.{Known}
 use Rattle.turn_lock.specs.History.{Stands}
 use Rattle.turn_lock.proofs.Lists.{prefix_trans}
 use Rattle.laws_validity.proofs.Lists.{all_append, all_like}
-use Rattle.laws_history.specs.Records.{RunRecord, HasNoBlock, HaveOneWorker, attempts, greatest, stood_before, told_id}
+use Rattle.laws_history.specs.Records.{RunRecord, CameToCommit, HasNoBlock, HaveOneWorker, attempts, greatest, stood_before, told_id}
 use Rattle.laws_history.proofs.Numbers.{transaction_of_id}
 use Rattle.laws_machine.specs.Entries.{Entry, Opening, Reach, begun_at, reach_at}
 use Rattle.laws_history.specs.Seen.{blocks_in, reach}
-use Rattle.laws_history.specs.Claims.{AllBefore, EachHolds, Holds, RunsBefore, retried, stood_behind}
+use Rattle.laws_history.specs.Claims.{AllBefore, EachHolds, Holds, RunsBefore, RunsPast, retried, stood_behind}
 use Rattle.laws_history.specs.Runs.{IsRunBy, Served, dealt, is_dealt, opening_of, told_of}
 use Rattle.laws_history.proofs.Dealt.{own_dealt, rest_of}
 use Rattle.laws_history.proofs.Links.{InTime, IsLink, Link}
@@ -36,14 +39,14 @@ module _ (t : RunRecord) (ss : List Served) (es : List Entry) (pass_of : ℕ →
   -- ---- what was over at a moment
 
   -- the id is that of a number which was drawn by then
-  record IsDrawnBy (from : List Entry) (raw : ℕ) : Type 0 where
-    number : ℕ
-    id : raw ≡ raw_id t.mask number 0
-    drawn : number ≤ (reach o from).last
+  pub record IsDrawnBy (from : List Entry) (raw : ℕ) : Type 0 where
+    pub number : ℕ
+    pub id : raw ≡ raw_id t.mask number 0
+    pub drawn : number ≤ (reach o from).last
 
-  record IsOver (from : List Entry) (x : Outcome) : Type 0 where
-    numbers : AllByRecursion (IsDrawnBy from) (told_id x)
-    ends : IfSome (stood_behind x) (λ n. n ≤ length (blocks_in o from))
+  pub record IsOver (from : List Entry) (x : Outcome) : Type 0 where
+    pub numbers : AllByRecursion (IsDrawnBy from) (told_id x)
+    pub ends : IfSome (stood_behind x) (λ n. n ≤ length (blocks_in o from))
 
   number_is : (l : Link) → IsLink t es l → (raw : ℕ) (n : IsNumbered o l.served.placed.place l.mid l.until raw)
       → n.number ≡ (reach o n.front).last + 1
@@ -68,7 +71,7 @@ module _ (t : RunRecord) (ss : List Served) (es : List Entry) (pass_of : ℕ →
   some_later few many low (Some n) h = omega (arith, low, h)
 
   -- the job's outcome was over at each moment behind its last attempt
-  over : (l : Link) → IsLink t es l → (from : List Entry) → IsPrefix l.until from → IsPrefix from es
+  pub over : (l : Link) → IsLink t es l → (from : List Entry) → IsPrefix l.until from → IsPrefix from es
       → IsOver from l.served.outcome
   over l is from p q = record {
     numbers = all_like (IsNumbered o l.served.placed.place l.mid l.until) (IsDrawnBy from) (drawn_by l is from p q)
@@ -102,8 +105,40 @@ module _ (t : RunRecord) (ss : List Served) (es : List Entry) (pass_of : ℕ →
   joined few extra many (Some m) None low h k = tt
   joined few extra many (Some m) (Some n) low h k = omega (arith, low, h, k)
 
-  runs_before : (l : Link) → IsLink t es l → (first : Outcome) → IsOver l.from first
-      → RunsBefore t.mask first l.served.placed.job l.served.outcome
+  -- what ran on some blocks at the least ran on fewer at the least
+  abbrev came_fewer : (p : Placed) (tx : TxId) (low high : ℕ) → low ≤ high → CameToCommit t p tx high
+      → CameToCommit t p tx low
+  came_fewer p tx low high less h = record {
+    number = h.number;
+    id = h.id;
+    since = h.since;
+    from = omega (arith, less, h.from);
+    not_past = h.not_past;
+    progress = h.progress;
+    ends = h.ends;
+  }
+
+  past_fewer : (p : Placed) (x : Outcome) (low high : ℕ) → low ≤ high → RunsPast t p x high → RunsPast t p x low
+  past_fewer p (StoreFault tx count) low high less h = came_fewer p tx low high less h
+  past_fewer p (JournalFull tx blocks) low high less h = record {
+    came = came_fewer p tx low high less h.came;
+    untouched = h.untouched;
+  }
+  past_fewer p (Committed tx block) low high less h = tt
+  past_fewer p (Conflict tx since named) low high less h = tt
+  past_fewer p (Refused tx since statement cause) low high less h = tt
+  past_fewer p (DigestDiffers tx since mine given) low high less h = tt
+  past_fewer p (IdsSpent last) low high less h = tt
+  past_fewer p (Aborted tx since) low high less h = tt
+  past_fewer p OutOfMemory low high less h = tt
+
+  past_all : (p : Placed) (x : Outcome) (few many : ℕ) (behind : Option ℕ) → few ≤ many → IfSome behind (λ m. m ≤ few)
+      → RunsPast t p x many → IfSome behind (λ m. RunsPast t p x m)
+  past_all p x few many None low h k = tt
+  past_all p x few many (Some m) low h k = past_fewer p x m many (omega (arith, low, h)) k
+
+  pub runs_before : (l : Link) → IsLink t es l → (first : Outcome) → IsOver l.from first
+      → RunsBefore t first l.served.placed l.served.outcome
   runs_before l is first was = record {
     numbers = all_like (IsDrawnBy l.from)
         (λ m. AllByRecursion (λ n. transaction_in t.mask m < transaction_in t.mask n) (told_id l.served.outcome))
@@ -114,6 +149,8 @@ module _ (t : RunRecord) (ss : List Served) (es : List Entry) (pass_of : ℕ →
     blocks = joined (length (blocks_in o l.from)) (retried l.served.placed.job l.served.outcome)
         (length (blocks_in o l.mid)) (stood_behind first) (stood_before l.served.outcome)
         (omega (arith, is.late, is.moved)) was.ends is.starts;
+    past = past_all l.served.placed l.served.outcome (length (blocks_in o l.from)) (length (blocks_in o l.mid))
+        (stood_behind first) (fewer_blocks (reach_at o) l.from l.mid is.from_mid) was.ends is.past;
   }
 
   -- ---- a worker between two jobs of the script
@@ -245,8 +282,8 @@ module _ (t : RunRecord) (ss : List Served) (es : List Entry) (pass_of : ℕ →
       all_like
       (λ (d : PlacedOutcome). d.place.session % t.workers ≡ rest_of t.workers s → IsOver n.link.from d.outcome)
       (λ (d : PlacedOutcome). HaveOneWorker t.workers d.place.session s.placed.place.session
-      → RunsBefore t.mask d.outcome s.placed.job s.outcome)
-      (λ d h same. subst (λ (x : Served). RunsBefore t.mask d.outcome x.placed.job x.outcome) n.served
+      → RunsBefore t d.outcome s.placed s.outcome)
+      (λ d h same. subst (λ (x : Served). RunsBefore t d.outcome x.placed x.outcome) n.served
       (runs_before n.link n.is d.outcome (h same))) done n.before
 
   each_holds : (done : List PlacedOutcome) (more : List Served) → ((s : Served) → Stands s more → Stands s ss)

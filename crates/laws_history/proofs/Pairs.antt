@@ -62,7 +62,7 @@ AreInOrder t [] = Unit {0}
 AreInOrder t (s ∷ ss) =
     AllByRecursion
     (λ (r : Served). HaveOneWorker t.workers s.placed.place.session r.placed.place.session
-    → RunsBefore t.mask s.outcome r.placed.job r.outcome) ss
+    → RunsBefore t s.outcome r.placed r.outcome) ss
     × AreInOrder t ss
 
 pub record AreServed (t : RunRecord) (done : List PlacedOutcome) (ps : List Placed)
@@ -90,16 +90,16 @@ one_served t done p ps o os place h before rest =
             (λ (r : Served). AllBefore t done r.placed r.outcome)
             (λ r b. all_front
             (λ (d : PlacedOutcome). HaveOneWorker t.workers d.place.session r.placed.place.session
-            → RunsBefore t.mask d.outcome r.placed.job r.outcome) done (o ∷ []) b) rest.all rest.behind,
+            → RunsBefore t d.outcome r.placed r.outcome) done (o ∷ []) b) rest.all rest.behind,
       );
       in_order = (
         all_like (λ (r : Served). AllBefore t (done ++ o ∷ []) r.placed r.outcome)
             (λ (r : Served). HaveOneWorker t.workers p.place.session r.placed.place.session
-            → RunsBefore t.mask o.outcome r.placed.job r.outcome)
+            → RunsBefore t o.outcome r.placed r.outcome)
             (λ r b same.
             (all_rest
             (λ (d : PlacedOutcome). HaveOneWorker t.workers d.place.session r.placed.place.session
-            → RunsBefore t.mask d.outcome r.placed.job r.outcome) done (o ∷ []) b).0
+            → RunsBefore t d.outcome r.placed r.outcome) done (o ∷ []) b).0
             (subst (λ (x : Place). HaveOneWorker t.workers x.session r.placed.place.session)
             (sym place) same)) rest.all rest.behind,
         rest.in_order,
@@ -119,20 +119,20 @@ pub one_first : (t : RunRecord) (ss : List Served) (s r : Served) → AreInOrder
     → HaveOneWorker t.workers s.placed.place.session r.placed.place.session
     → HaveOneWorker t.workers r.placed.place.session s.placed.place.session
     → (s ≡ r)
-    ⊎ (RunsBefore t.mask s.outcome r.placed.job r.outcome ⊎ RunsBefore t.mask r.outcome s.placed.job s.outcome)
+    ⊎ (RunsBefore t s.outcome r.placed r.outcome ⊎ RunsBefore t r.outcome s.placed s.outcome)
 one_first t [] s r h a b one other = absurd a
 one_first t (x ∷ ss) s r h (inl a) (inl b) one other = inl (a ∙ sym b)
 one_first t (x ∷ ss) s r h (inl a) (inr b) one other =
-    inr (inl (subst (λ (y : Served). RunsBefore t.mask y.outcome r.placed.job r.outcome) (sym a)
+    inr (inl (subst (λ (y : Served). RunsBefore t y.outcome r.placed r.outcome) (sym a)
     (stands_all
     (λ (y : Served). HaveOneWorker t.workers x.placed.place.session y.placed.place.session
-    → RunsBefore t.mask x.outcome y.placed.job y.outcome) r ss h.0 b
+    → RunsBefore t x.outcome y.placed y.outcome) r ss h.0 b
     (subst (λ (y : Served). HaveOneWorker t.workers y.placed.place.session r.placed.place.session) a one))))
 one_first t (x ∷ ss) s r h (inr a) (inl b) one other =
-    inr (inr (subst (λ (y : Served). RunsBefore t.mask y.outcome s.placed.job s.outcome) (sym b)
+    inr (inr (subst (λ (y : Served). RunsBefore t y.outcome s.placed s.outcome) (sym b)
     (stands_all
     (λ (y : Served). HaveOneWorker t.workers x.placed.place.session y.placed.place.session
-    → RunsBefore t.mask x.outcome y.placed.job y.outcome) s ss h.0 a
+    → RunsBefore t x.outcome y.placed y.outcome) s ss h.0 a
     (subst (λ (y : Served). HaveOneWorker t.workers y.placed.place.session s.placed.place.session) b other))))
 one_first t (x ∷ ss) s r h (inr a) (inr b) one other = one_first t ss s r h.1 a b one other
 

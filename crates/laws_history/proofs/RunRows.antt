@@ -229,6 +229,7 @@ module _ (time : TimeParts) where
     digest = tt;
     made = second;
     adds = record { front = (again).seen; later = ([], refl); added = refl };
+    untouched = refl;
     time = time;
     is_made = record { progress = did_u 3; runs = runs_again; block_is = refl };
     block_is = refl;
@@ -262,6 +263,7 @@ module _ (time : TimeParts) where
     digest = tt;
     made = first;
     adds = record { front = (begun_t).seen; later = ([], refl); added = refl };
+    untouched = refl;
     time = time;
     is_made = record { progress = did_t; runs = runs_t; block_is = refl };
     block_is = refl;
@@ -369,6 +371,6 @@ untried : (t : RunRecord) (p : Placed) (tx : TxId) (named : Named) → p.job.ret
 untried t p tx named one h = omega (arith, one, h.retries)
 
 -- and one that names a block behind which another job of the same worker has its own
-named_late : (mask : ℕ) (job : Job) (one two : TxId) (since : ℕ) (i : Item)
-    → claim.RunsBefore mask (Conflict one since (record { block = 7; item = i })) job (Committed two 7) → ⊥
-named_late mask job one two since i h = let late : 7 + 1 + 0 ≤ 7 = h.blocks in omega (arith, late)
+named_late : (t : RunRecord) (p : Placed) (one two : TxId) (since : ℕ) (i : Item)
+    → claim.RunsBefore t (Conflict one since (record { block = 7; item = i })) p (Committed two 7) → ⊥
+named_late t p one two since i h = let late : 7 + 1 + 0 ≤ 7 = h.blocks in omega (arith, late)

@@ -100,7 +100,10 @@ module _ (o : Opening) (job : Job) (place : Place) (k : Known Entry) (tx : TxId)
   Told e = EndsAttempt o job place k tx begun.now front t c e
 
   -- behind the checks
-  module _ (digest : SendsOwn job tx) where
+  module _ (digest : SendsOwn job tx) (free : conflict_of m t r.progress ≡ None) where
+    untouched : conflict (blocks_in o front) begun.since r.progress.footprint ≡ None
+    untouched = (λ i. conflict (sym r.blocks i) (sym r.since i) r.progress.footprint) ∙ free
+
     made : block_in (ending m c t t.done) ≡ Some (own_block m t c r.progress)
         → IsMadeOf (begun_as o begun.number) (blocks_in o front) place c.time job.statements
         (own_block m t c r.progress)
@@ -119,8 +122,16 @@ module _ (o : Opening) (job : Job) (place : Place) (k : Known Entry) (tx : TxId)
         }
 
     comes : block_in (ending m c t t.done) ≡ Some (own_block m t c r.progress)
-        → Comes o job place k tx begun.number front (own_block m t c r.progress)
-    comes is = record { commits = r.commits; digest = digest; time = c.time; is_made = made is }
+        → Comes o job place k tx begun front (own_block m t c r.progress)
+    comes is = record {
+      commits = r.commits;
+      digest = digest;
+      progress = r.progress;
+      ends = (ready).ends;
+      untouched = untouched;
+      time = c.time;
+      is_made = made is;
+    }
 
     by_service : (s : Service) → ending m c t t.done ≡ ends_by s (own_block m t c r.progress)
         → Told (ends_by s (own_block m t c r.progress))
@@ -132,6 +143,7 @@ module _ (o : Opening) (job : Job) (place : Place) (k : Known Entry) (tx : TxId)
         digest = digest;
         made = own_block m t c r.progress;
         adds = adds (λ n. sealed n (own_block m t c r.progress));
+        untouched = untouched;
         time = c.time;
         is_made = made (ap block_in is);
         block_is = ap length r.blocks;
@@ -173,9 +185,17 @@ module _ (o : Opening) (job : Job) (place : Place) (k : Known Entry) (tx : TxId)
         let all : length m.blocks ≡ 2 ^ 32 - 1 = omega (arith, low, high) in (
           JournalFull tx (length m.blocks),
           refl,
-          record { ready = ready; digest = digest; sees = sees; full = sym (ap length r.blocks) ∙ all; told = all },
+          record {
+            ready = ready;
+            digest = digest;
+            sees = sees;
+            untouched = untouched;
+            full = sym (ap length r.blocks) ∙ all;
+            told = all;
+          },
         )
 
+  module _ (digest : SendsOwn job tx) where
     by_conflict : (f : Option Named) → conflict_of m t r.progress ≡ f
         → ending m c t t.done
         ≡ unless_conflict t.since f
@@ -184,7 +204,7 @@ module _ (o : Opening) (job : Job) (place : Place) (k : Known Entry) (tx : TxId)
         → Told (unless_conflict t.since f
         (if nat_lt (length m.blocks) (2 ^ 32 - 1) then ends_by c.service (own_block m t c r.progress) else full
         (length m.blocks)))
-    by_conflict None e is = by_room (nat_lt (length m.blocks) (2 ^ 32 - 1)) refl is
+    by_conflict None e is = by_room digest e (nat_lt (length m.blocks) (2 ^ 32 - 1)) refl is
     by_conflict (Some f) e is = (
       Conflict tx t.since f,
       refl,

@@ -23,17 +23,17 @@ use Rattle.laws_footprint.specs.Touches.{conflict}
 use Rattle.session_driver.specs.Retries.{is_conflict}
 use Rattle.turn_lock.specs.declared.view.Known.{Known}
 use Rattle.turn_lock.proofs.Lists.{prefix_get, prefix_trans}
-use Rattle.laws_history.specs.Records.{RunRecord, HasNoBlock, HasNumber, IsAborted, IsCommitted, IsFresh, IsJournalFull, IsOfJob, IsRefused, IsStoreFault, attempts, greatest, ran_on, stood_before, told_count, told_id}
+use Rattle.laws_history.specs.Records.{RunRecord, CameToCommit, HasNoBlock, HasNumber, IsAborted, IsCommitted, IsFresh, IsJournalFull, IsOfJob, IsRefused, IsStoreFault, IsUntouched, attempts, greatest, ran_on, stood_before, told_count, told_id}
 use Rattle.laws_history.proofs.Lists.{slice_get_seam, prefix_front, prefix_take}
 use Rattle.laws_machine.specs.Entries.{Entry, Opening, Reach, begun_at, failed, reach_at, sealed, wanted}
 use Rattle.laws_history.specs.Seen.{IsRight, blocks_in, reach}
 use Rattle.laws_history.specs.Alone.{is_spent}
-use Rattle.laws_history.specs.Attempts.{Adds, Attempted, Begins, SendsOwn, begun_as, ran_in}
+use Rattle.laws_history.specs.Attempts.{Adds, Attempted, Begins, Readies, SendsOwn, begun_as, ran_in}
 use Rattle.laws_history.specs.Attempts as attempt
-use Rattle.laws_history.specs.Claims.{Holds, stood_behind}
+use Rattle.laws_history.specs.Claims.{Holds, RunsPast, stood_behind}
 use Rattle.laws_history.specs.Claims as claim
 use Rattle.laws_history.specs.Runs.{opening_of}
-use Rattle.laws_history.proofs.Grown.{conflict_on, found_first, stays_full}
+use Rattle.laws_history.proofs.Grown.{conflict_on, found_first, full_same, stays_full}
 use Rattle.laws_history.proofs.Makes.{IsCommittedAs, IsTriedAs, Makes, Says, adds_later, adds_within, is_committed, makes_both, makes_none, makes_seen, makes_still, makes_two}
 use Rattle.laws_history.proofs.Reaches.{blocks_on, blocks_sealed, comes_behind, counts_on, fewer_blocks, lasts_on, may_come, run_prefix}
 
@@ -249,7 +249,7 @@ module _ (t : RunRecord) (es : List Entry) (right : IsRight (opening_of t) es)
 
     -- the block with which it came to its store
     tried_as : (x : Outcome) → is_committed x ≡ false → (tx : TxId) (b : Begins o p.place k tx) → IsPrefix b.now.seen es
-        → (front : List Entry) (block : Block) → attempt.Comes o p.job p.place k tx b.number front block
+        → (front : List Entry) (block : Block) → attempt.Comes o p.job p.place k tx b front block
         → IsTriedAs o p x front block
     tried_as x untold tx b inside front block h =
         let next : b.number ≡ (reach o b.adds.front).last + 1 =
@@ -304,7 +304,7 @@ module _ (t : RunRecord) (es : List Entry) (right : IsRight (opening_of t) es)
         }
 
     says_wanted : (tx : TxId) (b : Begins o p.place k tx) (block : Option Block) (a : Adds b.now (wanted b.number block) now)
-        → attempt.WantsAt o p.job p.place k tx b.number a.front block
+        → attempt.WantsAt o p.job p.place k tx b a.front block
         → Says o p OutOfMemory a.front (wanted b.number block)
     says_wanted tx b None a h = tt
     says_wanted tx b (Some block) a h =
@@ -434,6 +434,37 @@ module _ (t : RunRecord) (es : List Entry) (right : IsRight (opening_of t) es)
             numbered = numbered tx b (begun_inside tx b sealed_later) bound;
           }
 
+    -- ---- a transaction that came to its commit
+
+    from_before : length t.before ≤ length (blocks_in o k.seen)
+    from_before = fewer_blocks (reach_at o) [] k.seen (k.seen, refl)
+
+    abbrev came : (tx : TxId) (r : Readies o p.job p.place k tx) → IsPrefix (r.begun).now.seen now.seen → (low : ℕ)
+        → low ≤ length (blocks_in o k.seen) → CameToCommit t p tx low
+    came tx r later low lower =
+        let b_inside : IsPrefix (r.begun).now.seen es = begun_inside tx r.begun later in
+        let late = at_since tx r.begun later (r.begun).since refl in
+        let stood : IsFresh t (r.begun).since = fresh tx r.begun b_inside (r.begun).since refl in
+        record {
+          number = (r.begun).number;
+          id = (r.begun).id;
+          since = (r.begun).since;
+          from = omega (arith, late, lower);
+          not_past = stood.not_past;
+          progress = r.progress;
+          ends = ran_same tx r.begun b_inside (r.begun).since refl ∙ r.ends;
+        }
+
+    abbrev untouched : (tx : TxId) (blocks : ℕ) (h : attempt.Fills o p.job p.place k tx blocks now) (low : ℕ)
+        → low ≤ length (blocks_in o k.seen) → IsUntouched t p tx low
+    untouched tx blocks h low lower = record {
+      came = came tx h.ready h.sees.later low lower;
+      untouched = ap (λ (bs : List Block). conflict bs h.ready.begun.since h.ready.progress.footprint)
+          (after
+          ∙ sym (full_same (blocks_in o now.seen) (blocks_in o es) (blocks_on (reach_at o) now.seen es inside)
+          right.undamaged h.full)) ∙ h.untouched;
+    }
+
     -- ---- held
 
     module _ (bound : (reach o es).last ≤ greatest t.mask t.before + attempts t.jobs) where
@@ -509,7 +540,7 @@ module _ (t : RunRecord) (es : List Entry) (right : IsRight (opening_of t) es)
       holds_JournalFull : (tx : TxId) (blocks : ℕ) → attempt.Fills o p.job p.place k tx blocks now → HasNoBlock t p
           → IsJournalFull t p tx blocks
       holds_JournalFull tx blocks h blockless = record {
-        number = h.ready.begun.number;
+        free = untouched tx blocks h (length t.before) from_before;
         numbered = numbered tx h.ready.begun (begun_inside tx h.ready.begun h.sees.later) bound;
         commits = h.ready.commits;
         full = ap length after
@@ -535,9 +566,10 @@ module _ (t : RunRecord) (es : List Entry) (right : IsRight (opening_of t) es)
           let high = counts_on (reach_at o) (h.adds.front ++ e ∷ []) es fault right.run in
           let own : (reach o (h.adds.front ++ e ∷ [])).count ≡ count =
           ap (λ (x : Reach). x.count) (comes_behind (reach_at o) h.adds.front e) in
+          let b_inside : IsPrefix b.now.seen es = begun_inside tx b (adds_later b.now e now h.adds) in
           record {
-            number = b.number;
-            numbered = numbered tx b (begun_inside tx b (adds_later b.now e now h.adds)) bound;
+            came = came tx h.ready (adds_later b.now e now h.adds) (length t.before) from_before;
+            numbered = numbered tx b b_inside bound;
             commits = h.ready.commits;
             rose = omega (arith, low, risen);
             not_past = omega (arith, high, own, closed);
@@ -590,6 +622,23 @@ module _ (t : RunRecord) (es : List Entry) (right : IsRight (opening_of t) es)
   holds (Aborted tx since) now inside h bound none retried =
       holds_Aborted now inside (omega (arith, bound)) tx since h (none refl)
   holds OutOfMemory now inside h bound none retried = none refl
+
+  -- the transaction ran on the blocks that the pass had seen, and perhaps on more
+  pub runs_past : (x : Outcome) (now : Known Entry) → IsPrefix now.seen es → Attempted o k p.job p.place x now
+      → RunsPast t p x (length (blocks_in o k.seen))
+  runs_past (StoreFault tx count) now inside h =
+      came now inside tx h.ready
+      (adds_later h.ready.begun.now (failed h.ready.begun.number count h.block) now h.adds)
+      (length (blocks_in o k.seen)) (omega arith)
+  runs_past (JournalFull tx blocks) now inside h =
+      untouched now inside tx blocks h (length (blocks_in o k.seen)) (omega arith)
+  runs_past (Committed tx block) now inside h = tt
+  runs_past (Conflict tx since named) now inside h = tt
+  runs_past (Refused tx since statement cause) now inside h = tt
+  runs_past (DigestDiffers tx since mine given) now inside h = tt
+  runs_past (IdsSpent last) now inside h = tt
+  runs_past (Aborted tx since) now inside h = tt
+  runs_past OutOfMemory now inside h = tt
 
   -- a conflict has brought the pass past one block more
   pub moves : (tx : TxId) (since : ℕ) (named : Named) (now : Known Entry) → IsPrefix now.seen es

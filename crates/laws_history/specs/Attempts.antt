@@ -77,7 +77,7 @@ module _ (o : Opening) (job : Job) (place : Place) (k : Known Entry) where
     pub ends : ran_in o begun.adds.front begun.number job ≡ refused statement cause
     pub sees : Sees begun.now now
 
-  -- no statement is, and the job says that it is to be given up
+  -- no statement is, and the job says that it is to be aborted
   pub record GivesUp (tx : TxId) (since : ℕ) (now : Known Entry) : Type 0 where
     pub begun : Begins o place k tx
     pub since_is : since ≡ begun.since
@@ -111,20 +111,25 @@ module _ (o : Opening) (job : Job) (place : Place) (k : Known Entry) where
     pub sees : Sees ready.begun.now now
     pub finds : conflict (blocks_in o now.seen) since ready.progress.footprint ≡ Some named
 
-  -- as many blocks stand as can
+  -- no later block touched what it read, and as many blocks stand as can
   pub record Fills (tx : TxId) (blocks : ℕ) (now : Known Entry) : Type 0 where
     pub ready : Readies o job place k tx
     pub digest : SendsOwn job tx
     pub sees : Sees ready.begun.now now
+    pub untouched : conflict (blocks_in o now.seen) ready.begun.since ready.progress.footprint ≡ None
     pub full : length (blocks_in o now.seen) ≡ 2 ^ 32 - 1
     pub told : blocks ≡ 2 ^ 32 - 1
 
-  -- so is this block that of its statements behind all blocks, with which it came to its store
-  pub record Comes (tx : TxId) (number : ℕ) (front : List Entry) (block : Block) : Type 0 where
+  -- no later block touched what it read, and it came to its store with this block, that of its statements behind all
+  -- blocks
+  pub record Comes (tx : TxId) (begun : Begins o place k tx) (front : List Entry) (block : Block) : Type 0 where
     pub commits : job.abort ≡ false
     pub digest : SendsOwn job tx
+    pub progress : Progress
+    pub ends : ran_in o begun.adds.front begun.number job ≡ ran progress
+    pub untouched : conflict (blocks_in o front) begun.since progress.footprint ≡ None
     pub time : TimeParts
-    pub is_made : IsMadeOf (begun_as o number) (blocks_in o front) place time job.statements block
+    pub is_made : IsMadeOf (begun_as o begun.number) (blocks_in o front) place time job.statements block
 
   -- the store failed at it
   pub record Fails (tx : TxId) (count : ℕ) (now : Known Entry) : Type 0 where
@@ -132,30 +137,31 @@ module _ (o : Opening) (job : Job) (place : Place) (k : Known Entry) where
     pub digest : SendsOwn job tx
     pub block : Block
     pub adds : Adds ready.begun.now (failed ready.begun.number count block) now
-    pub comes : Comes tx ready.begun.number adds.front block
+    pub comes : Comes tx ready.begun adds.front block
 
-  -- it is sealed as the block of its statements behind all blocks
+  -- no later block touched what it read, and it is sealed as the block of its statements behind all blocks
   pub record Commits (tx : TxId) (block : ℕ) (now : Known Entry) : Type 0 where
     pub ready : Readies o job place k tx
     pub digest : SendsOwn job tx
     pub made : Block
     pub adds : Adds ready.begun.now (sealed ready.begun.number made) now
+    pub untouched : conflict (blocks_in o adds.front) ready.begun.since ready.progress.footprint ≡ None
     pub time : TimeParts
     pub is_made : IsMadeOf (begun_as o ready.begun.number) (blocks_in o adds.front) place time job.statements made
     pub block_is : block ≡ length (blocks_in o adds.front)
 
-  -- ---- want of memory
+  -- ---- out of memory
 
   -- before the commit has come to its store, or there
-  abbrev pub WantsAt : TxId → (number : ℕ) → (front : List Entry) → Option Block → Type 0
-  WantsAt tx number front None = Unit {0}
-  WantsAt tx number front (Some block) = Comes tx number front block
+  abbrev pub WantsAt : (tx : TxId) → Begins o place k tx → (front : List Entry) → Option Block → Type 0
+  WantsAt tx begun front None = Unit {0}
+  WantsAt tx begun front (Some block) = Comes tx begun front block
 
   abbrev pub WantsBehind : (tx : TxId) → Begins o place k tx → Known Entry → Type 0
   WantsBehind tx begun now =
       Sees begun.now now
       ⊎ ((block : Option Block) × (adds : Adds begun.now (wanted begun.number block) now)
-      × WantsAt tx begun.number adds.front block)
+      × WantsAt tx begun adds.front block)
 
   -- before a transaction has begun, or behind that
   abbrev pub Wants : Known Entry → Type 0

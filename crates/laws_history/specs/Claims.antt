@@ -16,7 +16,7 @@ use Rattle.ledger_model.specs.Follows.{all_differ}
 use Rattle.ledger_model.specs.Run.{Progress, ran}
 use Rattle.ledger_model.specs.Script.{Placed}
 use Rattle.laws_footprint.specs.Touches.{conflict}
-use Rattle.laws_history.specs.Records.{RunRecord, made, FitsBlocks, HasNumber, HaveOneWorker, IsFresh, HasNoBlock, IsAborted, IsCommitted, IsJournalFull, IsRefused, IsStoreFault, attempts, greatest, greatest_count, ran_on, stood_before, told_counts, told_id, told_ids}
+use Rattle.laws_history.specs.Records.{RunRecord, made, CameToCommit, FitsBlocks, HasNumber, HaveOneWorker, IsFresh, HasNoBlock, IsAborted, IsCommitted, IsJournalFull, IsRefused, IsStoreFault, IsUntouched, attempts, greatest, greatest_count, ran_on, stood_before, told_counts, told_id, told_ids}
 use Rattle.laws_history.specs.Attempts.{SendsOwn}
 
 -- ---- the blocks
@@ -38,12 +38,19 @@ abbrev pub retried : Job → Outcome → ℕ
 retried job (Conflict tx since named) = job.retries
 retried job other = 0
 
--- Of two transactions the first one was over when the second one began: it has the smaller number, and the second one
--- ran on all blocks that stood behind the first one, and on one more for each time that it was tried again.
-pub record RunsBefore (mask : ℕ) (first : Outcome) (job : Job) (second : Outcome) : Type 0 where
+-- Where the outcome doesn't tell on which blocks the job's transaction ran, it ran on `low` of them at the least.
+abbrev pub RunsPast : RunRecord → Placed → Outcome → ℕ → Type 0
+RunsPast t p (StoreFault tx count) low = CameToCommit t p tx low
+RunsPast t p (JournalFull tx blocks) low = IsUntouched t p tx low
+RunsPast t p other low = Unit {0}
+
+-- Of two transactions the first one was over when the second one, of this job, began: it has the smaller number, and the
+-- second one ran on all blocks that stood behind the first one, and on one more for each time that it was tried again.
+pub record RunsBefore (t : RunRecord) (first : Outcome) (p : Placed) (second : Outcome) : Type 0 where
   pub numbers : AllByRecursion
-      (λ m. AllByRecursion (λ n. transaction_in mask m < transaction_in mask n) (told_id second)) (told_id first)
-  pub blocks : IfSome (stood_behind first) (λ m. IfSome (stood_before second) (λ n. m + retried job second ≤ n))
+      (λ m. AllByRecursion (λ n. transaction_in t.mask m < transaction_in t.mask n) (told_id second)) (told_id first)
+  pub blocks : IfSome (stood_behind first) (λ m. IfSome (stood_before second) (λ n. m + retried p.job second ≤ n))
+  pub past : IfSome (stood_behind first) (λ m. RunsPast t p second m)
 
 -- ---- the outcomes
 
@@ -80,7 +87,7 @@ pub record IsSpent (t : RunRecord) (p : Placed) (last : ℕ) : Type 0 where
   pub used : 2 ^ 64 ≤ greatest t.mask t.before + attempts t.jobs
   pub blockless : HasNoBlock t p
 
--- what an outcome says is true; want of memory may come to any transaction
+-- what an outcome says is true; any transaction may run out of memory
 abbrev pub Holds : RunRecord → Placed → Outcome → Type 0
 Holds t p (Committed tx block) = IsCommitted t p tx block
 Holds t p (Conflict tx since named) = IsInConflict t p tx since named
@@ -96,7 +103,7 @@ Holds t p OutOfMemory = HasNoBlock t p
 abbrev pub AllBefore : RunRecord → List PlacedOutcome → Placed → Outcome → Type 0
 AllBefore t done p outcome =
     AllByRecursion
-    (λ o. HaveOneWorker t.workers o.place.session p.place.session → RunsBefore t.mask o.outcome p.job outcome) done
+    (λ o. HaveOneWorker t.workers o.place.session p.place.session → RunsBefore t o.outcome p outcome) done
 
 -- An outcome for each job, in the script's order, behind those of the jobs in front. Those of the same worker ran
 -- before it.

@@ -11,3 +11,4 @@ pub mod Alone
 pub mod Passes
 pub mod Steps
 pub mod Tried
+pub mod Refusals

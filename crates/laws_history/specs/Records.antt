@@ -18,6 +18,7 @@ use Rattle.ledger_model.specs.Legal.{Legal, asked_in}
 use Rattle.ledger_model.specs.Damages.{Undamaged}
 use Rattle.ledger_model.specs.Making.{time_behind}
 use Rattle.ledger_model.specs.Script.{Placed}
+use Rattle.laws_footprint.specs.Touches.{conflict}
 
 -- Where the times of a run's blocks come from: one time, or what a clock answered, in milliseconds since 1970 in UTC,
 -- where it tells that.
@@ -219,24 +220,40 @@ pub record IsAborted (t : RunRecord) (p : Placed) (tx : TxId) (since : ℕ) : Ty
   pub aborts : p.job.abort ≡ true
   pub blockless : HasNoBlock t p
 
--- the store failed in the transaction's commit, and then had failed so often
-pub record IsStoreFault (t : RunRecord) (p : Placed) (tx : TxId) (count : ℕ) : Type 0 where
+-- The transaction came to its commit: its statements were all done on the first `since` blocks, of which there are `low`
+-- at the least.
+pub record CameToCommit (t : RunRecord) (p : Placed) (tx : TxId) (low : ℕ) : Type 0 where
   pub number : ℕ
-  pub numbered : HasNumber t tx number
+  pub id : tx.raw ≡ raw_id t.mask number 0
+  pub since : ℕ
+  pub from : low ≤ since
+  pub not_past : since ≤ length t.after
+  pub progress : Progress
+  pub ends : ran_on t p number since ≡ ran progress
+
+-- The store failed in the transaction's commit, and then had failed `count` times.
+pub record IsStoreFault (t : RunRecord) (p : Placed) (tx : TxId) (count : ℕ) : Type 0 where
+  pub came : CameToCommit t p tx (length t.before)
+  pub numbered : HasNumber t tx came.number
   pub commits : p.job.abort ≡ false
   pub rose : t.opened < count
   pub not_past : count ≤ t.closed
   pub blockless : HasNoBlock t p
 
--- the journal has as many blocks as it can have
+-- The transaction came to its commit, and no later block touches what it read.
+pub record IsUntouched (t : RunRecord) (p : Placed) (tx : TxId) (low : ℕ) : Type 0 where
+  pub came : CameToCommit t p tx low
+  pub untouched : conflict t.after came.since came.progress.footprint ≡ None
+
+-- At the transaction's commit the journal has as many blocks as it can have, and nothing conflicts.
 pub record IsJournalFull (t : RunRecord) (p : Placed) (tx : TxId) (blocks : ℕ) : Type 0 where
-  pub number : ℕ
-  pub numbered : HasNumber t tx number
+  pub free : IsUntouched t p tx (length t.before)
+  pub numbered : HasNumber t tx free.came.number
   pub commits : p.job.abort ≡ false
   pub full : length t.after ≡ 2 ^ 32 - 1
   pub told : blocks ≡ 2 ^ 32 - 1
   pub blockless : HasNoBlock t p
 
--- Of so many workers one runs both of these sessions: the sessions are dealt to the workers in turn.
+-- One worker runs both of these sessions: the sessions are dealt to the workers in turn.
 abbrev pub HaveOneWorker : ℕ → ℕ → ℕ → Type 0
 HaveOneWorker workers first second = first % workers ≡ second % workers

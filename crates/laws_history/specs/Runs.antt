@@ -34,7 +34,7 @@ Works o (s ∷ ss) k now =
     × Retried (Attempted o) s.placed.job s.placed.place k s.outcome between
     × Works o ss between now
 
--- Of so many workers each one runs the sessions whose numbers leave one rest, and that rest names it.
+-- Each of the workers runs the sessions whose numbers leave one rest, and that rest names it.
 abbrev pub is_dealt : ℕ → ℕ → Served → Bool
 is_dealt workers rest s = s.placed.place.session % workers == rest
 
@@ -74,6 +74,13 @@ pub record IsRunBy (t : RunRecord) (ss : List Served) (entries : List Entry) (pa
   pub closed : t.closed ≡ (reach (opening_of t) entries).count
   pub some : 0 < t.workers
   pub workers : AreWorkers (opening_of t) t.workers ss entries pass_of
+
+-- the record is that of some run of its jobs
+pub record WasRun (t : RunRecord) : Type 0 where
+  pub served : List Served
+  pub entries : List Entry
+  pub pass_of : ℕ → Known Entry
+  pub by : IsRunBy t served entries pass_of
 
 -- ---- the law
 

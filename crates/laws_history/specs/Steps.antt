@@ -23,7 +23,7 @@ use Rattle.laws_history.specs.Seen.{blocks_in}
 abbrev pub sent : Job → TxId → Hash32
 sent job tx = unwrap_or job.digest (commit_digest tx job.statements)
 
--- how the ending of a transaction that ran on so many blocks is told
+-- the outcome that tells the ending of a transaction which ran on the first `since` blocks
 abbrev pub IsToldAs : TxId → (since : ℕ) → Ending → Outcome → Type 0
 IsToldAs tx since ended x = ⊥
 IsToldAs tx since (differs mine given) x = x ≡ DigestDiffers tx since mine given

@@ -6,7 +6,7 @@ use Rattle.laws_history.specs.Calls.{Span}
 
 -- ---- the source
 
--- so many bytes of an input are read at the most, the last of them only to see that the input is too long
+-- the most bytes of an input that are read, the last of them only to see that the input is too long
 abbrev pub most_read : ℕ
 most_read = 16777217
 

@@ -1,5 +1,5 @@
--- What a run leaves whose store took the block of a commit and refused it: that block stands behind those of the run, and
--- all of them are still blocks of its jobs (the ledger's own).
+-- What a run leaves whose store took the block of a commit and refused it: that block stands behind those of the run,
+-- and all of them are still blocks of its jobs (the ledger's own).
 use Rattle.std.specs.Prelude.{◌≡◌, ℕ, List, [], ◌∷◌, ◌++◌, length, drop, fold, Option, Some, None, Contains}
 use Rattle.std.specs.List.{AllByRecursion}
 use Rattle.ledger_model.specs.declared.block.Block.{Block}
@@ -30,6 +30,7 @@ left_with t b = record t { after = t.after ++ b ∷ [] }
 abbrev pub TriedFit : Type 0
 TriedFit =
     (t : RunRecord) (ss : List Served) (entries : List Entry) (pass_of : ℕ → Known Entry) (b : Block)
-    → IsRunBy t ss entries pass_of → Contains (tried_in entries) b → Undamaged (t.after ++ b ∷ []) → HasTime t.times t.after b
+    → IsRunBy t ss entries pass_of → Contains (tried_in entries) b → Undamaged (t.after ++ b ∷ [])
+    → HasTime t.times t.after b
     → FitsBlocks (left_with t b)
     × AllByRecursion (IsOfOwnDigest t.jobs) (drop (length t.before) (t.after ++ b ∷ []))

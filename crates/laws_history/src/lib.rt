@@ -5,6 +5,7 @@
 ghost use Rattle.laws_history.specs.Alone.{NoneConflicts, OneWorkerInOrder};
 ghost use Rattle.laws_history.specs.Claims.{BlocksAreTold};
 ghost use Rattle.laws_history.specs.Passes.{PassesWork};
+ghost use Rattle.laws_history.specs.Refusals.{StatementsAreRefused};
 ghost use Rattle.laws_history.specs.Runs.{RunsFit};
 ghost use Rattle.laws_history.specs.Seen.{MachinesLeaveRight, RunsAreLegal};
 ghost use Rattle.laws_history.specs.Steps.{CommitsEndAttempts};
@@ -36,8 +37,9 @@ pub fn runs_fit()
     ensures { RunsFit }
 {}
 
-/// Where the store was left with the block of a commit that it refused behind the run's blocks, all of them are blocks of
-/// its jobs still.
+/// All blocks that a store is left with are blocks of the run's jobs.
+///
+/// The store may hold the block of a commit that it refused behind the run's blocks.
 pub fn tried_fit()
     ensures { TriedFit }
 {}
@@ -55,4 +57,9 @@ pub fn none_conflicts()
 /// A run by one worker has no conflict, and its numbers and its blocks come in the script's order.
 pub fn one_worker_in_order()
     ensures { OneWorkerInOrder }
+{}
+
+/// A statement that is refused is refused with a code from 1 to 12.
+pub fn statements_are_refused()
+    ensures { StatementsAreRefused }
 {}

@@ -44,7 +44,7 @@ pub dealt_takes : (workers rest : ℕ) (s : Served) (ss : List Served) → is_de
 dealt_takes workers rest s ss e =
     ap (λ (b : Bool). cond b (s ∷ dealt workers rest ss) (dealt workers rest ss)) e
 
-zero_rest : (workers n : ℕ) → n ≡ 0 → n % workers ≡ 0
+pub zero_rest : (workers n : ℕ) → n ≡ 0 → n % workers ≡ 0
 zero_rest workers n e = ap (λ m. m % workers) e ∙ (let is : 0 % workers ≡ 0 = omega arith in is)
 
 -- ---- the passes

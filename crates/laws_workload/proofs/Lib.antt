@@ -7,3 +7,4 @@ pub mod Adding
 pub mod Behind
 pub mod Moving
 pub mod Joining
+pub mod First

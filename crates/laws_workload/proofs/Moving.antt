@@ -83,25 +83,28 @@ module _ (o behind : Opening) (es : List Entry) (mask : behind.mask ≡ o.mask)
       subst (λ (b : Begun). r b (blocks_in o (es ++ front))) (sym (begun_same number))
       (subst (λ (bs : List Block). r (begun_as behind number) bs) (sym (blocks front)) h)
 
-  comes : (tx : TxId) (number : ℕ) (front : List Entry) (block : Block) → Comes behind job place k tx number front block
-      → Comes o job place start tx number (es ++ front) block
-  comes tx number front block c = record {
+  comes : (tx : TxId) (b : Begins behind place k tx) (front : List Entry) (block : Block)
+      → Comes behind job place k tx b front block → Comes o job place start tx (begins tx b) (es ++ front) block
+  comes tx b front block c = record {
     commits = c.commits;
     digest = c.digest;
+    progress = c.progress;
+    ends = ran_same b.adds.front b.number ∙ c.ends;
+    untouched = ap (λ bs. conflict bs b.since c.progress.footprint) (blocks front) ∙ c.untouched;
     time = c.time;
-    is_made = made_same front number (λ b bs. IsMadeOf b bs place c.time job.statements block) c.is_made;
+    is_made = made_same front b.number (λ x bs. IsMadeOf x bs place c.time job.statements block) c.is_made;
   }
 
-  wants_at : (tx : TxId) (number : ℕ) (front : List Entry) (block : Option Block)
-      → WantsAt behind job place k tx number front block → WantsAt o job place start tx number (es ++ front) block
-  wants_at tx number front None c = tt
-  wants_at tx number front (Some block) c = comes tx number front block c
+  wants_at : (tx : TxId) (b : Begins behind place k tx) (front : List Entry) (block : Option Block)
+      → WantsAt behind job place k tx b front block → WantsAt o job place start tx (begins tx b) (es ++ front) block
+  wants_at tx b front None c = tt
+  wants_at tx b front (Some block) c = comes tx b front block c
 
   wants_behind : (tx : TxId) (b : Begins behind place k tx) (now : Known Entry) → WantsBehind behind job place k tx b now
       → WantsBehind o job place start tx (begins tx b) (moved now)
   wants_behind tx b now (inl s) = inl (sees_on b.now now s)
   wants_behind tx b now (inr a) =
-      inr (a.0, adds b.now (wanted b.number a.0) now a.1, wants_at tx b.number a.1.front a.0 a.2)
+      inr (a.0, adds b.now (wanted b.number a.0) now a.1, wants_at tx b a.1.front a.0 a.2)
 
   wants : (now : Known Entry) → Wants behind job place k now → Wants o job place start (moved now)
   wants now (inl s) = inl (sees now s)
@@ -114,6 +117,8 @@ module _ (o behind : Opening) (es : List Entry) (mask : behind.mask ≡ o.mask)
     digest = h.digest;
     made = h.made;
     adds = adds h.ready.begun.now (sealed h.ready.begun.number h.made) now h.adds;
+    untouched = ap (λ bs. conflict bs h.ready.begun.since h.ready.progress.footprint) (blocks h.adds.front)
+        ∙ h.untouched;
     time = h.time;
     is_made = made_same h.adds.front h.ready.begun.number
         (λ b bs. IsMadeOf b bs place h.time job.statements h.made) h.is_made;
@@ -145,12 +150,13 @@ module _ (o behind : Opening) (es : List Entry) (mask : behind.mask ≡ o.mask)
     digest = h.digest;
     block = h.block;
     adds = adds h.ready.begun.now (failed h.ready.begun.number count h.block) now h.adds;
-    comes = comes tx h.ready.begun.number h.adds.front h.block h.comes;
+    comes = comes tx h.ready.begun h.adds.front h.block h.comes;
   }
   attempted_moved (JournalFull tx full) now h = record {
     ready = readies tx h.ready;
     digest = h.digest;
     sees = sees_on h.ready.begun.now now h.sees;
+    untouched = ap (λ bs. conflict bs h.ready.begun.since h.ready.progress.footprint) (blocks_now now) ∙ h.untouched;
     full = ap length (blocks_now now) ∙ h.full;
     told = h.told;
   }

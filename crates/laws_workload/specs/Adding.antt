@@ -5,8 +5,8 @@ use Rattle.workload.specs.Laws.{made_total}
 use Rattle.workload.specs.Made.{made_placed}
 use Rattle.workload.specs.Sums.{summary}
 
--- Where the blocks are a history of the workload's transactions, one for each of them, behind none, the workload's documents
--- are counted and added up.
+-- Where the blocks are a history of the workload's transactions, one for each of them, behind none, the workload's
+-- documents are counted and added up.
 abbrev pub MadeRunsAddUp : Type 0
 MadeRunsAddUp =
     (t : RunRecord) (seed sessions transactions : ℕ) → FitsBlocks t → t.before ≡ []

@@ -114,6 +114,11 @@ module _ (o : Opening) (place : Place) (k : Known Entry) (t : Opened) (begun : K
         place_is : t.place ≡ place
         place_is = ap (λ (x : Opened). x.place) c.does.txn_is
 
+        -- what no block since the transaction's base touches, no block since it began does
+        untouched_here : (front : List Entry) → conflict (blocks_in o front) t.since p.footprint ≡ None
+            → conflict (blocks_in o front) (length (blocks_in o c.front)) p.footprint ≡ None
+        untouched_here front free = ap (λ n. conflict (blocks_in o front) n p.footprint) (sym since_is) ∙ free
+
         sealed_here : (receipt : Receipt) (m : Calls begun now (λ front added. calls.Seals o front d job.digest receipt added))
             → Commits o job place k (tx_of t) receipt.block now
         sealed_here receipt m =
@@ -125,16 +130,21 @@ module _ (o : Opening) (place : Place) (k : Known Entry) (t : Opened) (begun : K
               digest = sends_own d job runs s.makes.ready.digest_is;
               made = s.block;
               adds = adds begun now _ m (sealed t.begun.number s.block) s.adds;
+              untouched = untouched_here m.front s.makes.untouched;
               time = s.makes.time;
               is_made = made;
               block_is = ap (λ (r : Receipt). r.block) s.receipt_is ∙ ap (λ (b : Block). b.header.address.sequence) made.block_is;
             }
 
         -- the block with which it came to its store
-        comes_here : (front : List Entry) (b : Block) → calls.Makes o front d job.digest b → Comes o job place k (tx_of t) t.begun.number front b
+        comes_here : (front : List Entry) (b : Block) → calls.Makes o front d job.digest b
+            → Comes o job place k (tx_of t) (begins_by t.begun.number refl) front b
         comes_here front b makes = record {
           commits = commits;
           digest = sends_own d job runs makes.ready.digest_is;
+          progress = p;
+          ends = ran_here job (ran p) is;
+          untouched = untouched_here front makes.untouched;
           time = makes.time;
           is_made = subst (λ at. IsMadeOf (begun_as o t.begun.number) (blocks_in o front) at makes.time job.statements b) place_is
               (makes.made job.statements runs);
@@ -196,6 +206,8 @@ module _ (o : Opening) (place : Place) (k : Known Entry) (t : Opened) (begun : K
           ready = ready;
           digest = sends_own d job runs m.does.0.digest_is;
           sees = sees begun now _ m m.does.4;
+          untouched = ap (λ es. conflict (blocks_in o es) (length (blocks_in o c.front)) p.footprint)
+              (seen_is begun now _ m m.does.4) ∙ untouched_here m.front m.does.1;
           full = ap (λ es. length (blocks_in o es)) (seen_is begun now _ m m.does.4) ∙ m.does.2;
           told = m.does.3;
         }

@@ -10,7 +10,7 @@ use Rattle.turn_lock.proofs.Lists.{each-append, each_front, each_last}
 use Rattle.laws_machine.specs.Entries.{Entry}
 use Rattle.ledger_core.specs.Tails.{TailHeld}
 use Rattle.ledger_shared.specs.declared.workers.Desk.{Desk}
-use Rattle.ledger_shared.specs.Crew.{IsAt, knowns}
+use Rattle.ledger_shared.specs.Desks.{IsAt, knowns}
 use Rattle.ledger_shared.proofs.Setting.{whole_first}
 
 pub emptied : {A : Type 0} (xs : List A) → length xs ≡ 0 → xs ≡ []

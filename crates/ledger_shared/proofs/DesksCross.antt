@@ -10,7 +10,7 @@ use Rattle.turn_lock.proofs.turns.Turns.TheSendSync as turns
 use Rattle.pad_tree.proofs.grow.Grow.TheSendSync as grow
 use Rattle.outside.specs.declared.traits.JournalStore as store
 use Rattle.outside.specs.declared.traits.Clock as clock
-use Rattle.ledger_core.specs.contracts.chain.Chain as Chain
+use Rattle.journal_reader.specs.contracts.chain.Chain as Chain
 use Rattle.ledger_core.specs.contracts.tail.Tail as Tail
 use Rattle.ledger_model.proofs.outcome.PlacedOutcome.TheSendSync as outcome
 use Rattle.ledger_shared.specs.contracts.entry.Entry as Entry

@@ -18,8 +18,8 @@ use Rattle.laws_history.specs.Runs.{Served, Works, dealt, told_of}
 use Rattle.ledger_core.specs.Tails.{TailHeld}
 use Rattle.ledger_shared.specs.declared.workers.Desk.{Desk}
 use Rattle.ledger_shared.specs.Behind.{opening_of}
-use Rattle.ledger_shared.specs.Crew.{AreDealt, AreReady, HaveEnded, HaveWorked, IsAt, IsIdle, dealt_outcomes, knowns}
-use Rattle.ledger_shared.specs.Desks.{HasRun}
+use Rattle.ledger_shared.specs.Desks.{AreDealt, AreReady, HaveEnded, HaveWorked, IsAt, IsIdle, dealt_outcomes, knowns}
+use Rattle.ledger_shared.specs.Dealt.{HasRun}
 use Rattle.ledger_shared.specs.Sessions.{HasServed, course, dealt_jobs}
 use Rattle.ledger_shared.specs.Workers.{WorkerHeld}
 use Rattle.ledger_shared.proofs.Merged.{place_again, place_low, rest_again}

@@ -10,7 +10,7 @@ use Rattle.ledger_model.specs.declared.script.Job.{Job}
 use Rattle.ledger_model.specs.Script.{all_placed, placed_from}
 use Rattle.laws_history.specs.Passes.{place_of}
 use Rattle.ledger_shared.specs.declared.workers.Desk.{Desk}
-use Rattle.ledger_shared.specs.Crew.{AreDealt, dealt_outcomes}
+use Rattle.ledger_shared.specs.Desks.{AreDealt, dealt_outcomes}
 use Rattle.ledger_shared.specs.Sessions.{job_count}
 use Rattle.ledger_shared.proofs.Moved.{AreOf, Cut, as_many, cut, dealt_both, dealt_here, dealt_there, front_left, of_session, placed_at, places_of, same_ends}
 

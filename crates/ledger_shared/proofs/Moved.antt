@@ -5,7 +5,7 @@ use Rattle.ql_types.specs.declared.Place.{Place}
 use Rattle.ledger_model.specs.declared.outcome.PlacedOutcome.{PlacedOutcome}
 use Rattle.ledger_model.specs.declared.script.Job.{Job}
 use Rattle.ledger_model.specs.Script.{Placed, all_placed_from, placed_from}
-use Rattle.ledger_shared.specs.Crew.{dealt_outcomes}
+use Rattle.ledger_shared.specs.Desks.{dealt_outcomes}
 use Rattle.ledger_shared.proofs.Serving.{is_other, is_rest}
 
 abbrev pub places_of : List PlacedOutcome → List Place

@@ -28,7 +28,7 @@ use Rattle.ledger_shared.specs.Calls.{Begins, Commits, Extends, IsOpen, Opens, W
 use Rattle.ledger_shared.specs.Known.{Calls, MayCommit, MayJoin}
 use Rattle.ledger_shared.proofs.Numbers.{Within, opened_between, used_below}
 
--- what came behind a front is the same, however it is told
+-- what comes after a front doesn't depend on how the front is given
 pub append_same : {A : Type 0} (xs ys zs : List A) → xs ++ ys ≡ xs ++ zs → ys ≡ zs
 append_same [] ys zs h = h
 append_same (x ∷ xs) ys zs h = let rest : xs ++ ys ≡ xs ++ zs = cc in append_same xs ys zs rest

@@ -13,7 +13,7 @@ use Rattle.laws_history.specs.Passes.{ArePasses, pass_in}
 use Rattle.laws_history.proofs.Passes.{passes_work}
 use Rattle.ledger_core.specs.Tails.{TailHeld}
 use Rattle.ledger_shared.specs.Behind.{IsRightFor, Keeps, opening_of}
-use Rattle.ledger_shared.specs.Crew.{HaveWorked}
+use Rattle.ledger_shared.specs.Desks.{HaveWorked}
 use Rattle.ledger_shared.specs.Ran.{AllHaveRun}
 use Rattle.ledger_shared.proofs.Whole.{none_made}
 

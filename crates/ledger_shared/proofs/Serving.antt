@@ -137,7 +137,7 @@ pub count_done : (workers rest at : ℕ) (script : List (List Job)) → length s
 count_done workers rest at script past =
     ap (λ (x : List (List Job)). length (dealt_jobs workers rest (all_placed_from (1 + at) x))) (drop_all at script past)
 
--- so many jobs are those of the session, where it is dealt, and else none
+-- the number of jobs of the session, where it is dealt, and else 0
 pub count_of : (workers rest session share : ℕ) (jobs : List Job) → (session % workers ≡ rest → share ≡ length jobs)
     → ((session % workers ≡ rest → ⊥) → share ≡ 0) → share ≡ length (dealt_jobs workers rest (placed_from session 1 jobs))
 count_of workers rest session share jobs all none =

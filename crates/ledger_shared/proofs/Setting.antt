@@ -12,7 +12,7 @@ use Rattle.turn_lock.proofs.Lists.{each-append, each_map}
 use Rattle.laws_machine.specs.Entries.{Entry}
 use Rattle.ledger_core.specs.Tails.{TailHeld}
 use Rattle.ledger_shared.specs.declared.workers.Desk.{Desk}
-use Rattle.ledger_shared.specs.Crew.{AreReady, HasRoom, HaveRoom, IsAt, IsIdle, IsOf, knowns}
+use Rattle.ledger_shared.specs.Desks.{AreReady, HasRoom, HaveRoom, IsAt, IsIdle, IsOf, knowns}
 use Rattle.ledger_shared.specs.Workers.{WorkerHeld}
 use Rattle.ledger_shared.proofs.Running.{each_mapped}
 use Rattle.ledger_shared.proofs.Whole.{whole_split}

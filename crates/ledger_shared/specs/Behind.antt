@@ -46,8 +46,8 @@ module _ {S C : Type 0} (told : S → StoreTold) where
 
 -- ---- what the tail is behind the entries
 
--- the entries are a run that has come to the tail's blocks and last number; its store has failed as often as the last of
--- them tells, or else as at the opening
+-- the entries are a run that has come to the tail's blocks and last number; its store has failed as often as the last
+-- of them tells, or else as at the opening
 pub record IsBehind (o : Opening) (opened s : Standing) (count : ℕ) (es : List Entry) : Type 0 where
   pub opening : IsStanding opened
   pub of_mask : opened.mask ≡ o.mask
@@ -64,7 +64,8 @@ pub record IsBehind (o : Opening) (opened s : Standing) (count : ℕ) (es : List
 -- between the two moments the clock gave this answer, where it tells them
 abbrev pub GaveBetween : Option (List ℤ) → Option (List ℤ) → ℤ → Type 0
 GaveBetween before now answer =
-    IfSome now (λ told. IsSomeAnd before (λ earlier. (given : List ℤ) × (told ≡ earlier ++ given) × Contains given answer))
+    IfSome now
+    (λ told. IsSomeAnd before (λ earlier. (given : List ℤ) × (told ≡ earlier ++ given) × Contains given answer))
 
 -- the time is that of such an answer, which is the clock's one answer where it has one
 pub record IsTimeOf (always : Option ℤ) (before now : Option (List ℤ)) (time : TimeParts) : Type 0 where
@@ -95,8 +96,10 @@ AreTimed P r (e ∷ es) = IsTimed P r.blocks e × AreTimed P (comes r e) es
 abbrev pub GoesOn : Option (List ℤ) → Option (List ℤ) → Type 0
 GoesOn before now = IfSome now (λ told. IsSomeAnd before (λ earlier. IsPrefix earlier told))
 
--- the clock has the one answer that it had, its list goes on, and each block that an entry carries has a time that it told since
-pub record HasTimes (always later : Option ℤ) (before now : Option (List ℤ)) (o : Opening) (es : List Entry) : Type 0 where
+-- the clock has the one answer that it had, its list goes on, and each block that an entry carries has a time that it
+-- told since
+pub record HasTimes (always later : Option ℤ) (before now : Option (List ℤ)) (o : Opening) (es : List Entry)
+    : Type 0 where
   pub always_is : later ≡ always
   pub goes_on : GoesOn before now
   pub timed : AreTimed (IsTimeOf always before now) (reach_at o) es
@@ -107,6 +110,8 @@ module _ {S C : Type 0} (told : S → StoreTold) (answers : C → Option (List �
   -- these entries have come since the tail was as it was opened
   pub record Keeps (opened tail : TailHeld S C) (es : List Entry) : Type 0 where
     pub behind : IsBehind (opening_of told opened) opened.standing tail.standing (told tail.store).faults es
-    pub times : HasTimes (always opened.clock) (always tail.clock) (answers opened.clock) (answers tail.clock) (opening_of told opened) es
-    pub rest : HoldsRest (held (told opened.store)) (held (told tail.store)) opened.standing.blocks tail.standing.blocks (tried_in es)
+    pub times : HasTimes (always opened.clock) (always tail.clock) (answers opened.clock) (answers tail.clock)
+        (opening_of told opened) es
+    pub rest : HoldsRest (held (told opened.store)) (held (told tail.store)) opened.standing.blocks
+        tail.standing.blocks (tried_in es)
     pub synced : IsKept told opened → IsKept told tail

@@ -92,7 +92,7 @@ module _ (o : Opening) (front : List Entry) where
     pub rose : (reach o front).count < count
     pub adds : added ≡ failed t.begun.number count block ∷ []
 
-  -- memory was wanted behind the turn, with its block where it had come to its store
+  -- memory ran out behind the turn, with its block where it had come to its store
   abbrev pub Wants : Opened → Option Hash32 → List Entry → Type 0
   Wants t sent [] = Unit {0}
   Wants t sent (wanted number None ∷ []) = number ≡ t.begun.number
@@ -113,7 +113,8 @@ module _ (o : Opening) (front : List Entry) where
   Commits t sent (Err (StoreFault count)) added = Fails t sent count added
   Commits t sent (Err OutOfMemory) added = Wants t sent added
 
--- the entry that a refused commit of the transaction of this number adds, with the block with which it came to its store
+-- the entry that a refused commit of the transaction of this number adds, with the block with which it came to its
+-- store
 abbrev pub refusal_of : (number : ℕ) → CommitFault → Option Block → Option Entry
 refusal_of number (StoreFault count) (Some block) = Some (failed number count block)
 refusal_of number (StoreFault count) None = None

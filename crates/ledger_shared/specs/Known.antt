@@ -22,8 +22,8 @@ pub record Calls (k now : Known Entry) (Does : (front added : List Entry) → Ty
   pub does : Does front added
   pub knows : now ≡ knows_behind k front added
 
--- The transaction was opened with the pass, none of the pass's entries uses its number, and it stands on a front part of
--- the blocks that the pass has seen. What it has done is what some statements come to.
+-- The transaction was opened with the pass, none of the pass's entries uses its number, and it stands on a front part
+-- of the blocks that the pass has seen. What it has done is what some statements come to.
 pub record MayCommit (o : Opening) (k : Known Entry) (t : Opened) : Type 0 where
   pub mask : t.begun.mask ≡ o.mask
   pub since : t.since ≤ length (blocks_in o k.seen)

@@ -2,10 +2,11 @@ pub mod EntryCode
 pub mod Told
 pub mod Behind
 pub mod Calls
+pub mod Ledgers
 pub mod Known
 pub mod Workers
 pub mod Sessions
+pub mod Dealt
 pub mod Desks
-pub mod Crew
 pub mod Ran
 pub mod Rests

@@ -10,9 +10,10 @@ use Rattle.ledger_core.specs.Tails.{TailHeld}
 use Rattle.ledger_shared.specs.Behind.{IsRightFor, Keeps, opening_of}
 
 module _ {S C : Type 0} (told : S → StoreTold) (answers : C → Option (List ℤ)) (always : C → Option ℤ) where
-  -- The jobs were run by so many workers, each one's in the order of the script, and these are their outcomes, in that
+  -- The jobs were run by the workers, each one's in the order of the script, and these are their outcomes, in that
   -- order. The entries that the workers made brought the tail from what it was as it was opened to what it is.
-  pub record AllHaveRun (workers : ℕ) (jobs : List Placed) (opened tail : TailHeld S C) (outcomes : List PlacedOutcome) : Type 0 where
+  pub record AllHaveRun (workers : ℕ) (jobs : List Placed) (opened tail : TailHeld S C) (outcomes : List PlacedOutcome)
+      : Type 0 where
     pub entries : List Entry
     pub keeps : Keeps told answers always opened tail entries
     pub right : IsRightFor told opened entries

@@ -6,8 +6,8 @@ use Rattle.ledger_model.specs.Journal.{line}
 use Rattle.laws_history.specs.Stores.{HoldsBehind, Holding}
 pub use Rattle.laws_history.specs.Tried.{tried_behind, tried_in}
 
--- It is nothing; or a part of the line of one of these blocks, perhaps none of it or all, and that block is undamaged there;
--- or what stood there at first, where no block was sealed since.
+-- It is nothing; or a part of the line of one of these blocks, perhaps none of it or all, and that block is undamaged
+-- there; or what stood there at first, where no block was sealed since.
 abbrev pub HoldsRest : (first now : Option (List ℕ)) → (opened blocks tried : List Block) → Type 0
 HoldsRest first now opened blocks tried =
     Holding blocks now

@@ -15,8 +15,8 @@ pub record Course : Type 0 where
 abbrev pub course : List PlacedOutcome → Known Entry → Course
 course outcomes known = record { outcomes = outcomes; known = known }
 
--- Of these jobs those in front were run with one pass, one after another and each as often as it is retried, and these are
--- left. Their outcomes stand in order behind those that were there.
+-- Of these jobs those in front were run with one pass, one after another and each as often as it is retried, and these
+-- are left. Their outcomes stand in order after those that were there.
 pub record HasServed (o : Opening) (all left : List Placed) (first now : Course) : Type 0 where
   pub served : List Served
   pub jobs : map (λ (s : Served). s.placed) served ++ left ≡ all
@@ -26,11 +26,12 @@ pub record HasServed (o : Opening) (all left : List Placed) (first now : Course)
 -- these jobs, which were left next, were run
 abbrev pub Serves : Opening → List Placed → Course → Course → Type 0
 Serves o placed before now =
-    (all rest : List Placed) (first : Course) → HasServed o all (placed ++ rest) first before → HasServed o all rest first now
+    (all rest : List Placed) (first : Course) → HasServed o all (placed ++ rest) first before
+    → HasServed o all rest first now
 
 -- ---- sessions
 
--- the jobs of the sessions that a worker runs: of so many workers, those whose numbers leave one rest
+-- the jobs of the sessions that a worker runs: those whose numbers leave one rest, divided by the number of workers
 abbrev pub dealt_jobs : ℕ → ℕ → List Placed → List Placed
 dealt_jobs workers rest placed = filter (λ (p : Placed). p.place.session % workers == rest) placed
 

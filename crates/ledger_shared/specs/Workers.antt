@@ -25,13 +25,16 @@ pub record WorkerHeld (S C : Type 0) : Type 0 where
   pub known : Known Entry
 
 abbrev pub placed_code : Coded (Placed Entry)
-placed_code = code_by (ℕ × Entry) (coded× coded_ℕ entry_code) (λ p. (p.place, p.entry)) (λ p. record { place = p.0; entry = p.1 }) (λ _. refl)
+placed_code =
+    code_by (ℕ × Entry) (coded× coded_ℕ entry_code) (λ p. (p.place, p.entry))
+    (λ p. record { place = p.0; entry = p.1 }) (λ _. refl)
 
 abbrev pub known_code : Coded (Known Entry)
 known_code =
     code_by (List ℕ × (ℕ × (List Entry × List (Placed Entry))))
     (coded× (coded_list coded_ℕ) (coded× coded_ℕ (coded× (coded_list entry_code) (coded_list placed_code))))
-    (λ k. (k.name, (k.splits, (k.seen, k.own)))) (λ p. record { name = p.0; splits = p.1.0; seen = p.1.1.0; own = p.1.1.1 }) (λ _. refl)
+    (λ k. (k.name, (k.splits, (k.seen, k.own))))
+    (λ p. record { name = p.0; splits = p.1.0; seen = p.1.1.0; own = p.1.1.1 }) (λ _. refl)
 
 abbrev pub worker_code : {S C : Type 0} → Coded S → Coded C → Coded (WorkerHeld S C)
 worker_code {S} {C} store clock =
@@ -40,7 +43,8 @@ worker_code {S} {C} store clock =
 
 module _ {S C : Type 0} (told : S → StoreTold) where
   -- the worker stays of its ledger, and its pass knows what the attempt made
-  pub record Tries (before : WorkerHeld S C) (job : Job) (place : Place) (outcome : Outcome) (after : WorkerHeld S C) : Type 0 where
+  pub record Tries (before : WorkerHeld S C) (job : Job) (place : Place) (outcome : Outcome) (after : WorkerHeld S C)
+      : Type 0 where
     pub table : after.table ≡ before.table
     pub opened : after.opened ≡ before.opened
     pub attempted : Attempted (opening_of told before.opened) before.known job place outcome after.known
@@ -60,4 +64,5 @@ pub record IsDone (o : Opening) (job : Job) (place : Place) (t : Opened) (now : 
 
 -- this is how an attempt ends whose transaction began so
 abbrev pub Ends : Opening → Job → Place → Opened → Known Entry → Outcome → Known Entry → Type 0
-Ends o job place t begun outcome now = (k : Known Entry) → Starts o k place t begun → Attempted o k job place outcome now
+Ends o job place t begun outcome now =
+    (k : Known Entry) → Starts o k place t begun → Attempted o k job place outcome now

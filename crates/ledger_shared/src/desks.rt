@@ -9,12 +9,14 @@ ghost use Rattle.ledger_model.specs.Script.{all_placed};
 ghost use Rattle.ledger_core.specs.Tails.{TailHeld};
 ghost use Rattle.ledger_shared.specs.declared.workers.Desk.{Desk};
 ghost use Rattle.ledger_shared.specs.Behind.{IsRightFor, opening_of};
-ghost use Rattle.ledger_shared.specs.Crew.{AreReady, HasRoom, HaveEnded, HaveRoom, HaveWorked, IsAt, IsIdle, knowns};
+ghost use Rattle.ledger_shared.specs.Desks.{AreReady, HasRoom, HaveEnded, HaveRoom, HaveWorked, IsAt, IsIdle, knowns};
 ghost use Rattle.ledger_shared.specs.Sessions.{AreNumbered, job_count};
 
-use crate::ledger::{Ledger, Pass};
+use crate::crew::Deal;
+use crate::ledger::Pass;
 use crate::merging::merge;
 use crate::room::put;
+use crate::run::Lists;
 use crate::worker::Worker;
 use crate::workers::{Desk, run_workers};
 use ion_values::OutOfMemory;
@@ -24,23 +26,21 @@ use std::alloc::Global;
 use std::sync::Wait;
 use std::thread::Threads;
 
-/// Puts a desk for the worker behind the others, with room for the outcomes of the jobs that are dealt to it at
-/// this place, counted from 0, among so many workers. After want of memory the desk stands there without that
-/// room.
+/// Adds a desk for the worker at this place, counted from 0. It has room for the outcomes of the jobs that are
+/// dealt to the worker; if memory runs out, the desk is added without that room.
 fn add_desk<'a, S: JournalStore, C: Clock, G: Gate>(
     alloc: Global,
-    script: &[Session],
-    workers: u32,
+    deal: &Deal<'_>,
     place: u32,
     worker: Worker<'a, S, C, G>,
     desks: &mut Vec<Desk<'a, S, C, G>>,
 ) -> Result<(), OutOfMemory>
-    requires some { 0 < workers }
-    requires few { AreNumbered script.now }
+    requires some { 0 < deal.now.workers }
+    requires few { AreNumbered deal.now.script.now }
     requires counted { place + 1 < 2 ^ 32 }
     requires space { vec_len desks.old < vec_capacity desks.old }
     ensures added { (d : Desk S C G) × (desks.new.items ≡ desks.old.items ++ d ∷ []) × (d.worker ≡ worker.entry)
-        × (d.outcomes.items ≡ []) × OnOk result (HasRoom workers script.now place d) }
+        × (d.outcomes.items ≡ []) × OnOk result (HasRoom deal.now.workers deal.now.script.now place d) }
     ensures len { vec_len desks.new ≡ vec_len desks.old + 1 }
     ensures space { vec_capacity desks.old ≤ vec_capacity desks.new }
 {
@@ -48,24 +48,23 @@ fn add_desk<'a, S: JournalStore, C: Clock, G: Gate>(
         worker,
         outcomes: Vec::new(alloc),
     };
-    let made = desk.make_room(script, workers, place);
+    let made = desk.make_room(deal, place);
     put(desks, desk);
     made
 }
 
-/// Puts desks for all workers but the last one into the list. Their passes are split from the pass of the worker
-/// that is lent. After want of memory some of them stand there.
+/// Adds desks for all workers but the last one. Their passes are split from the last worker's pass. If memory runs
+/// out, only some of them are added.
 fn add_others<'a, S: JournalStore, C: Clock, G: Gate>(
     alloc: Global,
-    script: &[Session],
-    workers: u32,
+    deal: &Deal<'_>,
     last: &mut Worker<'a, S, C, G>,
     desks: &mut Vec<Desk<'a, S, C, G>>,
 ) -> Result<(), OutOfMemory>
-    requires some { 0 < workers }
-    requires few { AreNumbered script.now }
+    requires some { 0 < deal.now.workers }
+    requires few { AreNumbered deal.now.script.now }
     requires empty { desks.old.items ≡ [] }
-    requires space { workers ≤ vec_capacity desks.old }
+    requires space { deal.now.workers ≤ vec_capacity desks.old }
     requires known { last.old.known ≡ newborn }
     ensures table { last.new.table ≡ last.old.table }
     ensures opened { last.new.opened ≡ last.old.opened }
@@ -73,40 +72,39 @@ fn add_others<'a, S: JournalStore, C: Clock, G: Gate>(
     ensures idle { Each (IsIdle last.old.table last.old.opened) desks.new.items }
     ensures whole { AreWhole (knowns desks.new.items ++ last.new.known ∷ []) }
     ensures space { vec_len desks.new < vec_capacity desks.new }
-    ensures most { vec_len desks.new ≤ workers - 1 }
-    ensures all { OnOk result (vec_len desks.new ≡ workers - 1) }
-    ensures room { OnOk result (HaveRoom workers script.now desks.new.items) }
+    ensures most { vec_len desks.new ≤ deal.now.workers - 1 }
+    ensures all { OnOk result (vec_len desks.new ≡ deal.now.workers - 1) }
+    ensures room { OnOk result (HaveRoom deal.now.workers deal.now.script.now desks.new.items) }
 {
-    'desks: for place in 0..workers - 1 {
+    'desks: for place in 0..deal.workers - 1 {
         let worker = last.another()?;
-        add_desk(alloc, script, workers, place, worker, desks)?;
+        add_desk(alloc, deal, place, worker, desks)?;
     }
     Ok(())
 }
 
-/// Puts desks for so many workers into the list, the first one being lent its pass and the others having passes
-/// split from that. After want of memory some of them stand there, with all passes.
+/// Adds desks for all workers. This worker gets the last one, and the passes of the others are split from its pass.
+/// If memory runs out, only some desks are added, which hold all passes.
 fn set_up<'a, S: JournalStore, C: Clock, G: Gate>(
     alloc: Global,
-    script: &[Session],
-    workers: u32,
+    deal: &Deal<'_>,
     worker: Worker<'a, S, C, G>,
     desks: &mut Vec<Desk<'a, S, C, G>>,
 ) -> Result<(), OutOfMemory>
-    requires some { 0 < workers }
-    requires few { AreNumbered script.now }
+    requires some { 0 < deal.now.workers }
+    requires few { AreNumbered deal.now.script.now }
     requires empty { desks.old.items ≡ [] }
-    requires space { workers ≤ vec_capacity desks.old }
+    requires space { deal.now.workers ≤ vec_capacity desks.old }
     requires known { worker.known ≡ newborn }
     ensures ready { AreReady worker.entry.table worker.entry.opened desks.new.items }
     ensures some { 0 < vec_len desks.new }
-    ensures most { vec_len desks.new ≤ workers }
-    ensures all { OnOk result (vec_len desks.new ≡ workers) }
-    ensures room { OnOk result (HaveRoom workers script.now desks.new.items) }
+    ensures most { vec_len desks.new ≤ deal.now.workers }
+    ensures all { OnOk result (vec_len desks.new ≡ deal.now.workers) }
+    ensures room { OnOk result (HaveRoom deal.now.workers deal.now.script.now desks.new.items) }
 {
     let mut last = worker;
-    let others = add_others(alloc, script, workers, &mut last, desks);
-    let own = add_desk(alloc, script, workers, workers - 1, last, desks);
+    let others = add_others(alloc, deal, &mut last, desks);
+    let own = add_desk(alloc, deal, deal.workers - 1, last, desks);
     others?;
     own
 }
@@ -132,8 +130,8 @@ fn clear<'a, S: JournalStore, C: Clock, G: Gate>(
     passes.reverse();
 }
 
-/// Runs the script with a worker at each desk, and puts the outcomes of all jobs in the script's order into the
-/// list, which has room for them.
+/// Runs the script with a worker at each desk. The outcomes of all jobs are put into the list, which has room for
+/// them, in the script's order.
 fn work<'a, S: JournalStore + Send, C: Clock + Send, G: Gate + Sync, R: Threads + Wait + Sync>(
     rt: &R,
     script: &[Session],
@@ -154,10 +152,13 @@ fn work<'a, S: JournalStore + Send, C: Clock + Send, G: Gate + Sync, R: Threads 
     merge(script, desks, outcomes);
 }
 
-/// Runs the script by so many workers, each in a thread of its own: the first one has this pass of the ledger, and
-/// the others have passes that are split from it. All passes come back in the order of their workers, and the
-/// outcomes of all jobs in the script's order. There is room for both. After want of memory nothing was run.
+/// Runs the script's sessions, each worker in a thread of its own. This worker is the last one, and the others have
+/// passes that are split from its pass.
+///
+/// All passes are put into the lists in the order of their workers, and the outcomes of all jobs in the script's
+/// order. There is room for both. If memory runs out, nothing is run.
 pub(crate) fn run_desks<
+    'a,
     S: JournalStore + Send,
     C: Clock + Send,
     G: Gate + Sync,
@@ -165,43 +166,35 @@ pub(crate) fn run_desks<
 >(
     rt: &R,
     alloc: Global,
-    script: &[Session],
-    workers: u32,
-    gate: &G,
-    ledger: &Ledger<S, C>,
-    pass: Pass<S, C>,
-    passes: &mut Vec<Pass<S, C>>,
-    outcomes: &mut Vec<PlacedOutcome>,
+    deal: &Deal<'_>,
+    worker: Worker<'a, S, C, G>,
+    lists: &mut Lists<S, C>,
 ) -> Result<(), OutOfMemory>
-    requires some { 0 < workers }
-    requires few { AreNumbered script.now }
-    requires pass { Rests (IsRightFor S.told) ledger.now.turns.table.shared.table_id
-        ledger.now.turns.table.shared.key.value.opened pass }
-    requires known { known pass ≡ newborn }
-    requires empty { (passes.old.items ≡ []) × (outcomes.old.items ≡ []) }
-    requires space { workers ≤ vec_capacity passes.old }
-    requires room { job_count script.now ≤ vec_capacity outcomes.old }
-    ensures some { 0 < vec_len passes.new }
-    ensures each { Each (Rests (IsRightFor S.told) ledger.now.turns.table.shared.table_id
-        ledger.now.turns.table.shared.key.value.opened) passes.new.items }
-    ensures whole { AreWhole (map known passes.new.items) }
-    ensures idle { OnErr result (Each (λ k. k.own ≡ []) (map known passes.new.items)) }
-    ensures worked { OnOk result (HaveWorked (opening_of S.told ledger.now.turns.table.shared.key.value.opened) workers
-        (all_placed script.now) (map known passes.new.items) outcomes.new.items) }
+    requires some { 0 < deal.now.workers }
+    requires few { AreNumbered deal.now.script.now }
+    requires known { worker.known ≡ newborn }
+    requires empty { (lists.old.passes.items ≡ []) × (lists.old.outcomes.items ≡ []) }
+    requires space { deal.now.workers ≤ vec_capacity lists.old.passes }
+    requires room { job_count deal.now.script.now ≤ vec_capacity lists.old.outcomes }
+    ensures some { 0 < vec_len lists.new.passes }
+    ensures each { Each (Rests (IsRightFor S.told) worker.entry.table worker.entry.opened) lists.new.passes.items }
+    ensures whole { AreWhole (map known lists.new.passes.items) }
+    ensures idle { OnErr result (Each (λ k. k.own ≡ []) (map known lists.new.passes.items)) }
+    ensures worked { OnOk result (HaveWorked (opening_of S.told worker.entry.opened) deal.now.workers
+        (all_placed deal.now.script.now) (map known lists.new.passes.items) lists.new.outcomes.items) }
 {
-    let Ok(mut desks) = Vec::with_capacity(alloc, workers as usize) else {
-        put(passes, pass);
+    let Ok(mut desks) = Vec::with_capacity(alloc, deal.workers as usize) else {
+        put(&mut lists.passes, worker.into_pass());
         return Err(OutOfMemory);
     };
-    let worker = Worker::new(alloc, ledger, gate, pass);
-    match set_up(alloc, script, workers, worker, &mut desks) {
+    match set_up(alloc, deal, worker, &mut desks) {
         Ok(()) => {
-            work(rt, script, desks.as_mut_slice(), outcomes);
-            clear(desks, passes);
+            work(rt, deal.script, desks.as_mut_slice(), &mut lists.outcomes);
+            clear(desks, &mut lists.passes);
             Ok(())
         }
         Err(OutOfMemory) => {
-            clear(desks, passes);
+            clear(desks, &mut lists.passes);
             Err(OutOfMemory)
         }
     }

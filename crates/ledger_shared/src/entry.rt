@@ -12,7 +12,7 @@ use std::snapshot::Snapshot;
 /// its store.
 #[derive(Drop)]
 pub enum Entry {
-    /// A transaction has begun at this place of the script, on so many blocks.
+    /// A transaction has begun at this place of the script, on the first `since` blocks.
     Begun {
         place: Place,
         tx: TxId,
@@ -30,7 +30,7 @@ pub enum Entry {
         count: u64,
         made: Snapshot<Block>,
     },
-    /// Memory was wanted at its commit.
+    /// Memory ran out at its commit.
     Wanted {
         tx: TxId,
         tried: Option<Snapshot<Block>>,
@@ -70,7 +70,7 @@ impl Entries {
         self.items.as_slice()
     }
 
-    /// Makes room for one entry more, where there is none.
+    /// Makes room for one entry more, if there is none.
     pub(crate) fn make_room(&mut self) -> Result<(), OutOfMemory>
         ensures items { self.new.items.items ≡ self.old.items.items }
         ensures spare { OnOk result (1 ≤ self.new.spare) }

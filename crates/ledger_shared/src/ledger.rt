@@ -5,12 +5,13 @@ ghost use mathlib.Core.List.{IsPrefix};
 ghost use Rattle.turn_lock.specs.History.{AreWhole, OwnedOnce, ShareNothing, after_split, newborn, split_off};
 ghost use Rattle.turn_lock.specs.History.{with_seen};
 ghost use Rattle.turn_lock.specs.Rule.{Each};
-ghost use Rattle.turn_lock.specs.Seats.{HoldsTurn, Rests, known, own, seen};
+ghost use Rattle.turn_lock.specs.Seats.{known, own, seen};
 ghost use Rattle.laws_machine.specs.Entries.{Entry};
 ghost use Rattle.laws_history.specs.Steps.{knows_behind};
-ghost use Rattle.ledger_shared.specs.Behind.{IsRightFor, Keeps, opening_of};
+ghost use Rattle.ledger_shared.specs.Behind.{IsRightFor, Keeps};
 ghost use Rattle.ledger_shared.specs.Calls.{Begins, Commits, Extends};
 ghost use Rattle.ledger_shared.specs.Known.{Calls, MayCommit, MayJoin};
+ghost use Rattle.ledger_shared.specs.Ledgers.{HasTurn, IsPass, begins_with, opened_of};
 ghost use Rattle.ledger_shared.specs.Told.{all_told};
 
 use crate::entry::Entries;
@@ -28,7 +29,7 @@ use txn_core::Txn;
 /// those that were made with it.
 pub type Pass<S: JournalStore, C: Clock> = turn_lock::Pass<Shared<S, C>>;
 
-/// Want of memory. The tail comes back.
+/// Memory ran out. The tail comes back.
 #[derive(Drop)]
 pub struct NotMade<S: JournalStore, C: Clock> {
     pub tail: Tail<S, C>,
@@ -48,11 +49,10 @@ pub struct Ledger<S: JournalStore, C: Clock> {
 }
 
 impl<S: JournalStore, C: Clock> Ledger<S, C> {
-    /// A ledger of this tail, and its first pass. Refused only for want of memory.
+    /// A ledger of this tail, and its first pass. Refused only if memory runs out.
     pub fn new(alloc: Global, tail: Tail<S, C>) -> Result<(Ledger<S, C>, Pass<S, C>), NotMade<S, C>>
-        ensures pass { IfOk result (λ made. Rests (IsRightFor S.told) made.0.turns.table.shared.table_id
-            made.0.turns.table.shared.key.value.opened made.1) }
-        ensures opened { IfOk result (λ made. made.0.turns.table.shared.key.value.opened ≡ tail) }
+        ensures pass { IfOk result (λ made. IsPass S.told made.0 made.1) }
+        ensures opened { IfOk result (λ made. opened_of made.0 ≡ tail) }
         ensures known { IfOk result (λ made. known made.1 ≡ newborn) }
         ensures refused { IfErr result (λ e. e.tail ≡ tail) }
     {
@@ -73,13 +73,11 @@ impl<S: JournalStore, C: Clock> Ledger<S, C> {
         pass: &mut Pass<S, C>,
         place: Place,
     ) -> Result<Txn, BeginFault>
-        requires { Rests (IsRightFor S.told) self.now.turns.table.shared.table_id
-            self.now.turns.table.shared.key.value.opened pass.old }
-        ensures pass { Rests (IsRightFor S.told) self.now.turns.table.shared.table_id
-            self.now.turns.table.shared.key.value.opened pass.new }
+        requires { IsPass S.told self.now pass.old }
+        ensures pass { IsPass S.told self.now pass.new }
         ensures begins { Calls (known pass.old) (known pass.new) (λ front added.
-            Begins (opening_of S.told self.now.turns.table.shared.key.value.opened) front place result added) }
-        ensures opens { IfOk result (λ txn. MayCommit (opening_of S.told self.now.turns.table.shared.key.value.opened)
+            Begins (begins_with S.told self.now) front place result added) }
+        ensures opens { IfOk result (λ txn. MayCommit (begins_with S.told self.now)
             (known pass.new) txn) }
     {
         let mut shared = self.turns.take(rt, pass);
@@ -98,20 +96,18 @@ impl<S: JournalStore, C: Clock> Ledger<S, C> {
         txn: Txn,
         digest: Hash32,
     ) -> Result<Receipt, CommitFault>
-        requires pass { Rests (IsRightFor S.told) self.now.turns.table.shared.table_id
-            self.now.turns.table.shared.key.value.opened pass.old }
-        requires opens { MayCommit (opening_of S.told self.now.turns.table.shared.key.value.opened)
+        requires pass { IsPass S.told self.now pass.old }
+        requires opens { MayCommit (begins_with S.told self.now)
             (known pass.old) txn }
-        ensures pass { Rests (IsRightFor S.told) self.now.turns.table.shared.table_id
-            self.now.turns.table.shared.key.value.opened pass.new }
+        ensures pass { IsPass S.told self.now pass.new }
         ensures commits { Calls (known pass.old) (known pass.new) (λ front added.
-            Commits (opening_of S.told self.now.turns.table.shared.key.value.opened) front txn (Some digest)
+            Commits (begins_with S.told self.now) front txn (Some digest)
             result added) }
     {
         self.commit_with(rt, alloc, pass, txn, Some(digest))
     }
 
-    /// The same with the digest that is sent, where one is.
+    /// Commits with the digest that is sent, if one is.
     pub(crate) fn commit_with<R: Wait>(
         &self,
         rt: &R,
@@ -120,14 +116,12 @@ impl<S: JournalStore, C: Clock> Ledger<S, C> {
         txn: Txn,
         sent: Option<Hash32>,
     ) -> Result<Receipt, CommitFault>
-        requires pass { Rests (IsRightFor S.told) self.now.turns.table.shared.table_id
-            self.now.turns.table.shared.key.value.opened pass.old }
-        requires opens { MayCommit (opening_of S.told self.now.turns.table.shared.key.value.opened)
+        requires pass { IsPass S.told self.now pass.old }
+        requires opens { MayCommit (begins_with S.told self.now)
             (known pass.old) txn }
-        ensures pass { Rests (IsRightFor S.told) self.now.turns.table.shared.table_id
-            self.now.turns.table.shared.key.value.opened pass.new }
+        ensures pass { IsPass S.told self.now pass.new }
         ensures commits { Calls (known pass.old) (known pass.new) (λ front added.
-            Commits (opening_of S.told self.now.turns.table.shared.key.value.opened) front txn sent result added) }
+            Commits (begins_with S.told self.now) front txn sent result added) }
     {
         let mut shared = self.turns.take(rt, pass);
         let before = shared.count();
@@ -138,14 +132,12 @@ impl<S: JournalStore, C: Clock> Ledger<S, C> {
 
     /// Gives the turn back. An entry more than before is told to the pass.
     fn put_back(&self, pass: &mut Pass<S, C>, shared: Shared<S, C>, before: u64)
-        requires pass { HoldsTurn (IsRightFor S.told) self.now.turns.table.shared.table_id
-            self.now.turns.table.shared.key.value.opened pass.old }
-        requires opened { shared.opened ≡ self.now.turns.table.shared.key.value.opened }
+        requires pass { HasTurn S.told self.now pass.old }
+        requires opened { shared.opened ≡ opened_of self.now }
         requires before { before ≡ length (seen pass.old) }
         requires joins { Extends (seen pass.old) shared.entries
             (λ added. MayJoin (seen pass.old) (own pass.old) added) }
-        ensures pass { Rests (IsRightFor S.told) self.now.turns.table.shared.table_id
-            self.now.turns.table.shared.key.value.opened pass.new }
+        ensures pass { IsPass S.told self.now pass.new }
         ensures known { (added : List Entry) → shared.entries ≡ seen pass.old ++ added
             → known pass.new ≡ knows_behind (known pass.old) (seen pass.old) added }
     {
@@ -159,12 +151,9 @@ impl<S: JournalStore, C: Clock> Ledger<S, C> {
 
     /// A further pass, which has seen as much and made nothing.
     pub fn split(&self, pass: &mut Pass<S, C>) -> Result<Pass<S, C>, OutOfMemory>
-        requires { Rests (IsRightFor S.told) self.now.turns.table.shared.table_id
-            self.now.turns.table.shared.key.value.opened pass.old }
-        ensures pass { Rests (IsRightFor S.told) self.now.turns.table.shared.table_id
-            self.now.turns.table.shared.key.value.opened pass.new }
-        ensures further { IfOk result (λ other. Rests (IsRightFor S.told) self.now.turns.table.shared.table_id
-            self.now.turns.table.shared.key.value.opened other) }
+        requires { IsPass S.told self.now pass.old }
+        ensures pass { IsPass S.told self.now pass.new }
+        ensures further { IfOk result (λ other. IsPass S.told self.now other) }
         ensures split { IfOk result (λ other. known other ≡ split_off (known pass.old)) }
         ensures known { OnOk result (known pass.new ≡ after_split (known pass.old)) }
         ensures refused { OnErr result (known pass.new ≡ known pass.old) }
@@ -174,14 +163,10 @@ impl<S: JournalStore, C: Clock> Ledger<S, C> {
 
     /// Brings two passes to one list of what was seen, which begins with what either had seen.
     pub fn meet(&self, a: &mut Pass<S, C>, b: &mut Pass<S, C>) -> Result<(), OutOfMemory>
-        requires a { Rests (IsRightFor S.told) self.now.turns.table.shared.table_id
-            self.now.turns.table.shared.key.value.opened a.old }
-        requires b { Rests (IsRightFor S.told) self.now.turns.table.shared.table_id
-            self.now.turns.table.shared.key.value.opened b.old }
-        ensures a { Rests (IsRightFor S.told) self.now.turns.table.shared.table_id
-            self.now.turns.table.shared.key.value.opened a.new }
-        ensures b { Rests (IsRightFor S.told) self.now.turns.table.shared.table_id
-            self.now.turns.table.shared.key.value.opened b.new }
+        requires a { IsPass S.told self.now a.old }
+        requires b { IsPass S.told self.now b.old }
+        ensures a { IsPass S.told self.now a.new }
+        ensures b { IsPass S.told self.now b.new }
         ensures one { OnOk result (seen a.new ≡ seen b.new) }
         ensures known_a { known a.new ≡ with_seen (known a.old) (seen a.new) }
         ensures known_b { known b.new ≡ with_seen (known b.old) (seen b.new) }
@@ -196,11 +181,10 @@ impl<S: JournalStore, C: Clock> Ledger<S, C> {
     /// memory.
     pub fn close<R: Wait>(self, rt: &R, passes: Vec<Pass<S, C>>) -> Closed<S, C>
         requires some { 0 < vec_len passes }
-        requires each { All (Rests (IsRightFor S.told) self.turns.table.shared.table_id
-            self.turns.table.shared.key.value.opened) passes.items }
-        ensures keeps { Keeps S.told C.answers C.always self.turns.table.shared.key.value.opened result.tail
+        requires each { All (IsPass S.told self) passes.items }
+        ensures keeps { Keeps S.told C.answers C.always (opened_of self) result.tail
             (all_told result.tail.standing.mask result.entries.items.items) }
-        ensures right { IsRightFor S.told self.turns.table.shared.key.value.opened
+        ensures right { IsRightFor S.told (opened_of self)
             (all_told result.tail.standing.mask result.entries.items.items) }
         ensures seen { Each (λ p. IsPrefix (seen p)
             (all_told result.tail.standing.mask result.entries.items.items)) passes.items }

@@ -1,6 +1,7 @@
 //! The ledger of several threads: the tail of a journal and the entries that its calls have made, behind one turn.
 #![tactic(auto)]
 
+mod crew;
 mod desks;
 mod entry;
 mod ledger;
@@ -12,6 +13,7 @@ mod shared;
 mod worker;
 mod workers;
 
+pub use crew::{Crew, Share};
 pub use entry::{Entries, Entry};
 pub use ledger::{Closed, Ledger, NotMade, Pass};
 pub use run::{AllRan, run_all};

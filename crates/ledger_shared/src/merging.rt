@@ -2,7 +2,7 @@
 ghost use Rattle.std.specs.Prelude.{◌≡◌, ◌+◌, ◌<◌, ◌≤◌, ℕ, List, [], ◌++◌, length, reverse, slice_index_or};
 ghost use Rattle.std.specs.Prelude.{vec_capacity, vec_len};
 ghost use Rattle.ledger_model.specs.declared.outcome.PlacedOutcome.{PlacedOutcome};
-ghost use Rattle.ledger_shared.specs.Crew.{AreDealt};
+ghost use Rattle.ledger_shared.specs.Desks.{AreDealt};
 ghost use Rattle.ledger_shared.specs.declared.workers.Desk.{Desk};
 ghost use Rattle.ledger_shared.specs.Sessions.{job_count};
 
@@ -35,7 +35,7 @@ pub(crate) fn merge<'a, S: JournalStore, C: Clock, G: Gate>(
     outcomes.reverse();
 }
 
-/// Moves so many outcomes from the end of a list to the end of another one, the last one first. There is room for
+/// Moves `count` outcomes from the end of a list to the end of another one, the last one first. There is room for
 /// them.
 fn move_last(from: &mut Vec<PlacedOutcome>, count: usize, to: &mut Vec<PlacedOutcome>)
     requires count { count ≤ vec_len from.old }

@@ -5,9 +5,11 @@ ghost use Rattle.ledger_shared.specs.Behind.{Keeps};
 ghost use Rattle.ledger_shared.specs.Ran.{AllHaveRun};
 ghost use Rattle.ledger_shared.specs.Sessions.{AreNumbered, job_count};
 
+use crate::crew::{Crew, Deal};
 use crate::desks::run_desks;
 use crate::ledger::{Closed, Ledger, NotMade, Pass};
 use crate::session::count_jobs;
+use crate::worker::Worker;
 use containers::Sequence;
 use ion_values::OutOfMemory;
 use ledger_core::Tail;
@@ -24,43 +26,45 @@ pub struct AllRan<S: JournalStore, C: Clock> {
     pub outcomes: Outcomes,
 }
 
-/// Runs the script's sessions on the tail by so many workers, each in a thread of its own where one can be made: the
-/// first of N workers runs the sessions 1, 1 + N, 1 + 2N and so on, each whole and in order, the second one 2, 2 + N
-/// and so on. A worker for whom no session is left does nothing.
+/// What the workers of a run give back: their passes, and the outcomes of all jobs.
+#[derive(Drop)]
+pub(crate) struct Lists<S: JournalStore, C: Clock> {
+    pub(crate) passes: Vec<Pass<S, C>>,
+    pub(crate) outcomes: Vec<PlacedOutcome>,
+}
+
+/// Runs the script's sessions on the tail, each worker in a thread of its own where one can be made.
 ///
-/// All room is made before the first transaction begins. Where it can't be had nothing is run, and the tail comes
+/// The first of N workers runs the sessions 1, 1 + N, 1 + 2N and so on; the second one 2, 2 + N and so on. Each
+/// session is run whole and in order. A worker for whom no session is left does nothing.
+///
+/// All room is made before the first transaction begins. If memory runs out there, nothing is run, and the tail comes
 /// back.
 pub fn run_all<S: JournalStore + Send, C: Clock + Send, G: Gate + Sync, R: Threads + Wait + Sync>(
-    rt: &R,
+    crew: &Crew<'_, R, G>,
     alloc: Global,
     script: &[Session],
-    workers: u32,
-    gate: &G,
     tail: Tail<S, C>,
 ) -> Result<AllRan<S, C>, NotMade<S, C>>
-    requires some { 0 < workers }
+    requires some { 0 < crew.now.workers }
     requires few { AreNumbered script.now }
-    ensures ran { IfOk result (λ r. AllHaveRun S.told C.answers C.always workers (all_placed script.now) tail r.tail
-        r.outcomes) }
+    ensures ran { IfOk result (λ r. AllHaveRun S.told C.answers C.always crew.now.workers (all_placed script.now) tail
+        r.tail r.outcomes) }
     ensures refused { IfErr result (λ e. Keeps S.told C.answers C.always tail e.tail []) }
 {
     tail.blocks();
-    let Ok((mut passes, mut outcomes)) = make_lists(alloc, script, workers) else {
+    let deal = Deal {
+        script,
+        workers: crew.workers,
+    };
+    let Ok(mut lists) = make_lists(alloc, &deal) else {
         return Err(NotMade { tail });
     };
     let (ledger, pass) = Ledger::new(alloc, tail)?;
-    let ran = run_desks(
-        rt,
-        alloc,
-        script,
-        workers,
-        gate,
-        &ledger,
-        pass,
-        &mut passes,
-        &mut outcomes,
-    );
-    let Closed { tail, entries: _ } = ledger.close(rt, passes);
+    let worker = Worker::new(alloc, &ledger, crew.gate, pass);
+    let ran = run_desks(crew.rt, alloc, &deal, worker, &mut lists);
+    let Lists { passes, outcomes } = lists;
+    let Closed { tail, entries: _ } = ledger.close(crew.rt, passes);
     match ran {
         Ok(()) => Ok(AllRan {
             tail,
@@ -70,18 +74,17 @@ pub fn run_all<S: JournalStore + Send, C: Clock + Send, G: Gate + Sync, R: Threa
     }
 }
 
-/// Lists with room for the passes of so many workers, and for the outcomes of all jobs.
+/// Lists with room for the passes of all workers, and for the outcomes of all jobs.
 fn make_lists<S: JournalStore, C: Clock>(
     alloc: Global,
-    script: &[Session],
-    workers: u32,
-) -> Result<(Vec<Pass<S, C>>, Vec<PlacedOutcome>), OutOfMemory>
-    requires few { AreNumbered script.now }
-    ensures empty { IfOk result (λ made. (made.0.items ≡ []) × (made.1.items ≡ [])) }
-    ensures space { IfOk result (λ made. workers ≤ vec_capacity made.0) }
-    ensures room { IfOk result (λ made. job_count script.now ≤ vec_capacity made.1) }
+    deal: &Deal<'_>,
+) -> Result<Lists<S, C>, OutOfMemory>
+    requires few { AreNumbered deal.now.script.now }
+    ensures empty { IfOk result (λ made. (made.passes.items ≡ []) × (made.outcomes.items ≡ [])) }
+    ensures space { IfOk result (λ made. deal.now.workers ≤ vec_capacity made.passes) }
+    ensures room { IfOk result (λ made. job_count deal.now.script.now ≤ vec_capacity made.outcomes) }
 {
-    let passes = Vec::with_capacity(alloc, workers as usize)?;
-    let outcomes = Vec::with_capacity(alloc, count_jobs(script))?;
-    Ok((passes, outcomes))
+    let passes = Vec::with_capacity(alloc, deal.workers as usize)?;
+    let outcomes = Vec::with_capacity(alloc, count_jobs(deal.script))?;
+    Ok(Lists { passes, outcomes })
 }

@@ -4,6 +4,7 @@ ghost use Rattle.ledger_model.specs.Script.{all_placed, placed_from};
 ghost use Rattle.ledger_shared.specs.Behind.{opening_of};
 ghost use Rattle.ledger_shared.specs.Sessions.{AreNumbered, Serves, course, dealt_jobs, job_count};
 
+use crate::crew::Share;
 use crate::room::put;
 use crate::worker::Worker;
 use ledger_model::{Job, PlacedOutcome, Session};
@@ -13,8 +14,9 @@ use session_driver::run_job;
 use std::sync::Wait;
 
 impl<'a, S: JournalStore, C: Clock, G: Gate> Worker<'a, S, C, G> {
-    /// Runs the jobs of the session of this number, one after another, each as often as it is retried. The
-    /// outcomes are put behind those of the list, which has room for them.
+    /// Runs the jobs of the session of this number, one after another, each as often as it is retried.
+    ///
+    /// The outcomes are appended to the list, which has room for them.
     pub fn run_session<R: Wait + Sync>(
         &mut self,
         rt: &R,
@@ -40,55 +42,56 @@ impl<'a, S: JournalStore, C: Clock, G: Gate> Worker<'a, S, C, G> {
         }
     }
 
-    /// Runs the sessions whose numbers leave this rest where they are divided by the number of workers, each whole
-    /// and in order. The outcomes are put behind those of the list, which has room for them.
+    /// Runs the sessions of this share, each whole and in order.
+    ///
+    /// The outcomes are appended to the list, which has room for them.
     pub fn run_dealt<R: Wait + Sync>(
         &mut self,
         rt: &R,
         script: &[Session],
-        workers: u32,
-        rest: u32,
+        share: Share,
         outcomes: &mut Vec<PlacedOutcome>,
     )
-        requires some { 0 < workers }
+        requires some { 0 < share.workers }
         requires few { AreNumbered script.now }
-        requires room { vec_len outcomes.old + length (dealt_jobs workers rest (all_placed script.now))
+        requires room { vec_len outcomes.old + length (dealt_jobs share.workers share.rest (all_placed script.now))
             ≤ vec_capacity outcomes.old }
         ensures table { self.new.table ≡ self.old.table }
         ensures opened { self.new.opened ≡ self.old.opened }
-        ensures serves { Serves (opening_of S.told self.old.opened) (dealt_jobs workers rest (all_placed script.now))
+        ensures serves { Serves (opening_of S.told self.old.opened)
+            (dealt_jobs share.workers share.rest (all_placed script.now))
             (course outcomes.old.items self.old.known) (course outcomes.new.items self.new.known) }
     {
         'sessions: for (at, jobs) in script.iter().enumerate() {
             let session = at as u32 + 1;
-            self.run_if_dealt(rt, session, jobs.as_slice(), workers, rest, outcomes);
+            self.run_if_dealt(rt, session, jobs.as_slice(), share, outcomes);
         }
     }
 
-    /// Runs the session where its number leaves this rest.
+    /// Runs the session if its number is of this share.
     fn run_if_dealt<R: Wait + Sync>(
         &mut self,
         rt: &R,
         session: u32,
         jobs: &[Job],
-        workers: u32,
-        rest: u32,
+        share: Share,
         outcomes: &mut Vec<PlacedOutcome>,
     )
-        requires some { 0 < workers }
+        requires some { 0 < share.workers }
         requires few { length jobs.now < 2 ^ 32 }
-        requires room { vec_len outcomes.old + length (dealt_jobs workers rest (placed_from session 1 jobs.now))
+        requires room { vec_len outcomes.old
+            + length (dealt_jobs share.workers share.rest (placed_from session 1 jobs.now))
             ≤ vec_capacity outcomes.old }
         ensures table { self.new.table ≡ self.old.table }
         ensures opened { self.new.opened ≡ self.old.opened }
         ensures serves { Serves (opening_of S.told self.old.opened)
-            (dealt_jobs workers rest (placed_from session 1 jobs.now)) (course outcomes.old.items self.old.known)
-            (course outcomes.new.items self.new.known) }
+            (dealt_jobs share.workers share.rest (placed_from session 1 jobs.now))
+            (course outcomes.old.items self.old.known) (course outcomes.new.items self.new.known) }
         ensures all { vec_len outcomes.new
-            ≡ vec_len outcomes.old + length (dealt_jobs workers rest (placed_from session 1 jobs.now)) }
+            ≡ vec_len outcomes.old + length (dealt_jobs share.workers share.rest (placed_from session 1 jobs.now)) }
         ensures room { vec_capacity outcomes.old ≤ vec_capacity outcomes.new }
     {
-        if session % workers == rest {
+        if session % share.workers == share.rest {
             self.run_session(rt, session, jobs, outcomes);
         }
     }
@@ -114,27 +117,31 @@ impl<'a, S: JournalStore, C: Clock, G: Gate> Worker<'a, S, C, G> {
     }
 }
 
-/// How many jobs are dealt to the worker of this rest, of so many workers.
-pub(crate) fn dealt_count(script: &[Session], workers: u32, rest: u32) -> usize
-    requires some { 0 < workers }
+/// How many jobs of the script are of this share.
+pub(crate) fn dealt_count(script: &[Session], share: Share) -> usize
+    requires some { 0 < share.workers }
     requires few { AreNumbered script.now }
-    ensures { result ≡ length (dealt_jobs workers rest (all_placed script.now)) }
+    ensures { result ≡ length (dealt_jobs share.workers share.rest (all_placed script.now)) }
 {
     let mut count: usize = 0;
     'sessions: for (at, jobs) in script.iter().enumerate() {
-        count += share_of(at as u32 + 1, jobs.len(), workers, rest);
+        count += share_of(at as u32 + 1, jobs.len(), share);
     }
     count
 }
 
-/// So many jobs, where a session of this number leaves this rest; else none.
-fn share_of(session: u32, jobs: usize, workers: u32, rest: u32) -> usize
-    requires some { 0 < workers }
-    ensures dealt { session % workers ≡ rest → result ≡ jobs }
-    ensures other { session % workers ≢ rest → result ≡ 0 }
+/// `jobs` if the session of this number is of this share; else none.
+fn share_of(session: u32, jobs: usize, share: Share) -> usize
+    requires some { 0 < share.workers }
+    ensures dealt { session % share.workers ≡ share.rest → result ≡ jobs }
+    ensures other { session % share.workers ≢ share.rest → result ≡ 0 }
     ensures low { result ≤ jobs }
 {
-    if session % workers == rest { jobs } else { 0 }
+    if session % share.workers == share.rest {
+        jobs
+    } else {
+        0
+    }
 }
 
 /// How many jobs a script has.

@@ -108,7 +108,7 @@ impl<S: JournalStore, C: Clock> Shared<S, C> {
         self.tail.blocks();
     }
 
-    /// Begins a transaction of the tail, and puts its entry behind the others.
+    /// Begins a transaction of the tail, and appends its entry to the others.
     pub(crate) fn begin(&mut self, alloc: Global, place: Place) -> Result<Txn, BeginFault>
         ensures opened { self.new.opened ≡ self.old.opened }
         ensures begins { Extends self.old.entries self.new.entries
@@ -124,8 +124,9 @@ impl<S: JournalStore, C: Clock> Shared<S, C> {
         Ok(txn)
     }
 
-    /// Commits a transaction on the tail with the digest that is sent, where one is, and puts the entry of that, if
-    /// there is one, behind the others.
+    /// Commits a transaction on the tail with the digest that is sent, if one is.
+    ///
+    /// The entry of the commit, if there is one, is appended to the others.
     pub(crate) fn commit(
         &mut self,
         alloc: Global,

@@ -8,8 +8,9 @@ ghost use Rattle.txn_core.specs.Runs.{IsRunOf, ran_of};
 ghost use Rattle.turn_lock.specs.History.{after_split, split_off};
 ghost use Rattle.turn_lock.specs.Seats.{Rests, known};
 ghost use Rattle.ledger_shared.specs.Behind.{IsRightFor, opening_of};
-ghost use Rattle.ledger_shared.specs.Crew.{IsOf};
+ghost use Rattle.ledger_shared.specs.Desks.{IsOf};
 ghost use Rattle.ledger_shared.specs.Known.{MayCommit};
+ghost use Rattle.ledger_shared.specs.Ledgers.{IsPass, opened_of, table_of};
 ghost use Rattle.ledger_shared.specs.Workers.{Ends, IsDone, Tries};
 
 use crate::ledger::{Ledger, Pass};
@@ -34,8 +35,8 @@ pub struct Worker<'a, S: JournalStore, C: Clock, G: Gate> {
 }
 
 impl<'a, S: JournalStore, C: Clock, G: Gate> Model for Worker<'a, S, C, G> {
-    ghost use Rattle.turn_lock.specs.Seats.{Rests, known};
-    ghost use Rattle.ledger_shared.specs.Behind.{IsRightFor};
+    ghost use Rattle.turn_lock.specs.Seats.{known};
+    ghost use Rattle.ledger_shared.specs.Ledgers.{IsPass, opened_of, table_of};
     ghost use Rattle.ledger_shared.specs.Workers.{WorkerHeld, worker_code};
 
     ghost Value = { WorkerHeld S C };
@@ -43,13 +44,12 @@ impl<'a, S: JournalStore, C: Clock, G: Gate> Model for Worker<'a, S, C, G> {
     ghost coded = { worker_code S.code C.code };
 
     ghost view = { λ w. record {
-      table = w.ledger.now.turns.table.shared.table_id;
-      opened = w.ledger.now.turns.table.shared.key.value.opened;
+      table = table_of w.ledger.now;
+      opened = opened_of w.ledger.now;
       known = known w.pass;
     } };
 
-    ghost invariant = { λ w. Rests (IsRightFor S.told) w.ledger.now.turns.table.shared.table_id
-        w.ledger.now.turns.table.shared.key.value.opened w.pass };
+    ghost invariant = { λ w. IsPass S.told w.ledger.now w.pass };
 }
 
 impl<'a, S: JournalStore, C: Clock, G: Gate> Worker<'a, S, C, G> {
@@ -60,11 +60,10 @@ impl<'a, S: JournalStore, C: Clock, G: Gate> Worker<'a, S, C, G> {
         gate: &'a G,
         pass: Pass<S, C>,
     ) -> Worker<'a, S, C, G>
-        requires { Rests (IsRightFor S.told) ledger.now.turns.table.shared.table_id
-            ledger.now.turns.table.shared.key.value.opened pass }
+        requires { IsPass S.told ledger.now pass }
         ensures { result ≡ record {
-          table = ledger.now.turns.table.shared.table_id;
-          opened = ledger.now.turns.table.shared.key.value.opened;
+          table = table_of ledger.now;
+          opened = opened_of ledger.now;
           known = known pass;
         } }
     {
@@ -120,7 +119,7 @@ trait Steps {
     /// Runs the job's transaction once, from its begin to its end.
     fn run_once<R: Wait + Sync>(&mut self, rt: &R, job: &Job, place: Place) -> Outcome;
 
-    /// Runs the job's statements as the transaction that has begun, and commits it or gives it up.
+    /// Runs the job's statements as the transaction that has begun, and commits or aborts it.
     fn run<R: Wait + Sync>(&mut self, rt: &R, job: &Job, place: Place, txn: Txn) -> Outcome
         requires may { may_run self.old txn }
         requires fresh { txn.done ≡ start }

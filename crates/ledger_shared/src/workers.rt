@@ -2,10 +2,11 @@
 ghost use Rattle.std.specs.Prelude.{◌≡◌, ℕ, ◌+◌, ◌%◌, ◌<◌, ◌≤◌, ◌^◌, length, slice_index_or, OnOk};
 ghost use Rattle.ledger_model.specs.Script.{all_placed};
 ghost use Rattle.ledger_shared.specs.declared.workers.Desk.{Desk};
-ghost use Rattle.ledger_shared.specs.Crew.{HasRoom, HaveRoom};
-ghost use Rattle.ledger_shared.specs.Desks.{HasRun};
+ghost use Rattle.ledger_shared.specs.Desks.{HasRoom, HaveRoom};
+ghost use Rattle.ledger_shared.specs.Dealt.{HasRun};
 ghost use Rattle.ledger_shared.specs.Sessions.{AreNumbered};
 
+use crate::crew::{Deal, Share};
 use crate::session::dealt_count;
 use crate::worker::Worker;
 use ion_values::OutOfMemory;
@@ -23,27 +24,25 @@ pub struct Desk<'a, S: JournalStore, C: Clock, G: Gate> {
 }
 
 impl<'a, S: JournalStore, C: Clock, G: Gate> Desk<'a, S, C, G> {
-    /// Makes room for the outcomes of the jobs that are dealt to this worker, of so many workers. Its place among
-    /// them is counted from 0.
-    pub(crate) fn make_room(
-        &mut self,
-        script: &[Session],
-        workers: u32,
-        place: u32,
-    ) -> Result<(), OutOfMemory>
-        requires some { 0 < workers }
-        requires few { AreNumbered script.now }
+    /// Makes room for the outcomes of the jobs that are dealt to this worker. Its place is counted from 0.
+    pub(crate) fn make_room(&mut self, deal: &Deal<'_>, place: u32) -> Result<(), OutOfMemory>
+        requires some { 0 < deal.now.workers }
+        requires few { AreNumbered deal.now.script.now }
         requires counted { place + 1 < 2 ^ 32 }
         ensures worker { self.new.worker ≡ self.old.worker }
         ensures items { self.new.outcomes.items ≡ self.old.outcomes.items }
-        ensures room { OnOk result (HasRoom workers script.now place self.new) }
+        ensures room { OnOk result (HasRoom deal.now.workers deal.now.script.now place self.new) }
     {
-        let jobs = dealt_count(script, workers, (place + 1) % workers);
+        let share = Share {
+            workers: deal.workers,
+            rest: (place + 1) % deal.workers,
+        };
+        let jobs = dealt_count(deal.script, share);
         self.outcomes.reserve_exact(jobs)?;
         Ok(())
     }
 
-    /// Runs the sessions of this worker, of so many workers. Its place among them is counted from 0.
+    /// Runs the sessions of this worker. Its place among the workers is counted from 0.
     fn run<R: Wait + Sync>(&mut self, rt: &R, script: &[Session], workers: u32, place: u32)
         requires some { 0 < workers }
         requires few { AreNumbered script.now }
@@ -52,15 +51,18 @@ impl<'a, S: JournalStore, C: Clock, G: Gate> Desk<'a, S, C, G> {
         ensures { HasRun S.told workers ((place + 1) % workers) (all_placed script.now) self.old.worker
             self.old.outcomes.items self.new.worker self.new.outcomes.items }
     {
-        let rest = (place + 1) % workers;
-        self.worker
-            .run_dealt(rt, script, workers, rest, &mut self.outcomes);
+        let share = Share {
+            workers,
+            rest: (place + 1) % workers,
+        };
+        self.worker.run_dealt(rt, script, share, &mut self.outcomes);
     }
 }
 
-/// Runs the script with a worker at each desk, each in a thread of its own: the first of N workers runs the
-/// sessions 1, 1 + N, 1 + 2N and so on, the second one 2, 2 + N and so on, each session whole. Each list of
-/// outcomes has room for those of the jobs that are dealt to its worker.
+/// Runs the script with a worker at each desk, each in a thread of its own.
+///
+/// The first of N workers runs the sessions 1, 1 + N, 1 + 2N and so on; the second one 2, 2 + N and so on. Each
+/// session is run whole. Each list of outcomes has room for those of the jobs that are dealt to its worker.
 pub fn run_workers<
     'a,
     S: JournalStore + Send,

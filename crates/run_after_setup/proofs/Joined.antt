@@ -22,6 +22,7 @@ use Rattle.ledger_core.specs.Tails.{TailHeld}
 use Rattle.ledger_shared.specs.Behind.{AreTimed, GaveBetween, GoesOn, HasTimeOf, HasTimes, IsBehind, IsTimeOf, Keeps, opening_of}
 use Rattle.ledger_shared.specs.Ran.{AllHaveRun}
 use Rattle.ledger_shared.specs.Rests.{HoldsRest}
+use Rattle.run_after_setup.specs.FirstRuns.{RanInTurn}
 use Rattle.laws_workload.specs.Joining.{HaveWorked, OpensBehind}
 use Rattle.laws_workload.proofs.Behind.{blocks_on, count_on, last_on, run_on}
 use Rattle.laws_workload.proofs.Joining.{workers_join}
@@ -275,7 +276,8 @@ module _ {S C : Type 0} (told : S → StoreTold) (answers : C → Option (List �
 
   pub all_joined : (workers : ℕ) (jobs : List Placed) (outcomes : List PlacedOutcome) → 0 < workers
       → AllHaveRun told answers always workers jobs mid now outcomes
-      → AllHaveRun told answers always workers (p ∷ jobs) opened now (o ∷ outcomes)
+      → (all : AllHaveRun told answers always workers (p ∷ jobs) opened now (o ∷ outcomes))
+      × RanInTurn told workers opened mid all.served all.entries
   all_joined workers jobs outcomes some all =
       let one = one_served alone.served alone.jobs_are alone.outcomes_are in
       let session : one.0.placed.place.session ≡ 0 = ap (λ (x : Placed). x.place.session) one.2 ∙ at in
@@ -287,17 +289,29 @@ module _ {S C : Type 0} (told : S → StoreTold) (answers : C → Option (List �
       let behind : HaveWorked (opening_of told mid) workers all.served all.entries =
       record { right = all.right; pass_of = all.pass_of; are = all.workers_are } in
       let whole = workers_join (opening_of told opened) (opening_of told mid) workers one.0 all.served alone.entries all.entries session some
-      (opens told answers always opened mid now alone.entries all.entries alone.keeps all.keeps) worked behind in
-      record {
-        entries = alone.entries ++ all.entries;
-        keeps = keeps_joined told answers always opened mid now alone.entries all.entries alone.keeps all.keeps;
-        right = whole.right;
-        served = one.0 ∷ all.served;
-        jobs_are = ap₂ (λ (x : Placed) (xs : List Placed). x ∷ xs) (sym one.2) all.jobs_are;
-        outcomes_are = ap₂ (λ (x : PlacedOutcome) (xs : List PlacedOutcome). x ∷ xs) one.3 all.outcomes_are;
-        pass_of = whole.pass_of;
-        workers_are = whole.are;
-      }
+      (opens told answers always opened mid now alone.entries all.entries alone.keeps all.keeps) worked behind in (
+        record {
+          entries = alone.entries ++ all.entries;
+          keeps = keeps_joined told answers always opened mid now alone.entries all.entries alone.keeps all.keeps;
+          right = whole.right;
+          served = one.0 ∷ all.served;
+          jobs_are = ap₂ (λ (x : Placed) (xs : List Placed). x ∷ xs) (sym one.2) all.jobs_are;
+          outcomes_are = ap₂ (λ (x : PlacedOutcome) (xs : List PlacedOutcome). x ∷ xs) one.3 all.outcomes_are;
+          pass_of = whole.pass_of;
+          workers_are = whole.are;
+        },
+        record {
+          first = one.0;
+          others = all.served;
+          es = alone.entries;
+          more = all.entries;
+          served_are = refl;
+          entries_are = refl;
+          alone = worked;
+          opens = opens told answers always opened mid now alone.entries all.entries alone.keeps all.keeps;
+          rest = behind;
+        },
+      )
 
 -- ---- what a result gives
 

@@ -1,8 +1,8 @@
-//! A script's run behind a transaction that runs first and alone.
+//! A script's run after a transaction that runs first and alone.
 #![tactic(auto)]
 
 mod alone;
 mod first;
 
-pub use alone::{AloneRan, run_alone};
+pub use alone::{AloneRan, Setup, run_alone};
 pub use first::run_behind_first;

@@ -6,7 +6,7 @@ use containers::Sequence;
 use ion_values::Text;
 use ledger_core::{BeginFault, Tail};
 use ledger_model::{Job, Outcome, Outcomes, Request, Session};
-use ledger_shared::run_all;
+use ledger_shared::{Crew, run_all};
 use outside::{Failing, FreeGate, JournalStore, MemoryStore, SetClock};
 use ql_types::{IdMask, Place};
 use std::alloc::Global;
@@ -105,7 +105,12 @@ fn are_refused<S: JournalStore + Send + Drop, R: Threads + Wait + Sync>(
     let mut tail = tail;
     let script = script_of(alloc)?;
     let begun = begun_behind(alloc, &mut tail);
-    let ran = run_all(rt, alloc, script.as_slice(), 1, &FreeGate, tail).ok()?;
+    let crew = Crew {
+        rt,
+        gate: &FreeGate,
+        workers: 1,
+    };
+    let ran = run_all(&crew, alloc, script.as_slice(), tail).ok()?;
     let last = Some(u64::MAX);
     Some(begun == last && told_behind(&ran.outcomes) == last && ran.tail.blocks().len() == 1)
 }

@@ -8,7 +8,7 @@ use crate::tails::{MASK, tail_of};
 use containers::Sequence;
 use ledger_core::Tail;
 use ledger_model::{Job, Outcome, Outcomes, Session};
-use ledger_shared::{AllRan, run_all};
+use ledger_shared::{AllRan, Crew, run_all};
 use outside::{FreeGate, JournalStore, SetClock};
 use ql_types::id_parts;
 use std::alloc::Global;
@@ -81,7 +81,12 @@ fn ran<S: JournalStore + Send + Drop, R: Threads + Wait + Sync>(
     statements: &str,
 ) -> Option<AllRan<S, SetClock>> {
     let script = script_of(alloc, statements)?;
-    run_all(rt, alloc, script.as_slice(), 1, &FreeGate, tail).ok()
+    let crew = Crew {
+        rt,
+        gate: &FreeGate,
+        workers: 1,
+    };
+    run_all(&crew, alloc, script.as_slice(), tail).ok()
 }
 
 /// How the statements end, and the settled store behind them.

@@ -1,10 +1,11 @@
 //! Two passes of one ledger: what the one commits the other finds.
 ghost use Rattle.std.specs.Prelude.{◌≡◌, All, IfSome};
 ghost use Rattle.turn_lock.specs.declared.view.Known.{Known};
-ghost use Rattle.turn_lock.specs.Seats.{Rests, known};
+ghost use Rattle.turn_lock.specs.Seats.{known};
 ghost use Rattle.laws_machine.specs.Entries.{Entry, Opening};
-ghost use Rattle.ledger_shared.specs.Behind.{IsRightFor, opening_of};
+ghost use Rattle.ledger_shared.specs.Behind.{opening_of};
 ghost use Rattle.ledger_shared.specs.Known.{MayCommit};
+ghost use Rattle.ledger_shared.specs.Ledgers.{IsPass};
 
 use crate::tails::{memory_store, tail_of};
 use ion_text::read_stream;
@@ -47,10 +48,8 @@ fn commit<S: JournalStore, R: Wait>(
     ledger: &Ledger<S, SetClock>,
     pass: &mut Pass<S, SetClock>,
 ) -> Option<u64>
-    requires { Rests (IsRightFor S.told) ledger.now.turns.table.shared.table_id
-        ledger.now.turns.table.shared.key.value.opened pass.old }
-    ensures { Rests (IsRightFor S.told) ledger.now.turns.table.shared.table_id
-        ledger.now.turns.table.shared.key.value.opened pass.new }
+    requires { IsPass S.told ledger.now pass.old }
+    ensures { IsPass S.told ledger.now pass.new }
 {
     let mut txn = ledger.begin(rt, alloc, pass, PLACE).ok()?;
     let digest = make(alloc, &mut txn)?;
@@ -65,10 +64,8 @@ fn find<S: JournalStore, R: Wait>(
     ledger: &Ledger<S, SetClock>,
     pass: &mut Pass<S, SetClock>,
 ) -> Option<(u64, usize)>
-    requires { Rests (IsRightFor S.told) ledger.now.turns.table.shared.table_id
-        ledger.now.turns.table.shared.key.value.opened pass.old }
-    ensures { Rests (IsRightFor S.told) ledger.now.turns.table.shared.table_id
-        ledger.now.turns.table.shared.key.value.opened pass.new }
+    requires { IsPass S.told ledger.now pass.old }
+    ensures { IsPass S.told ledger.now pass.new }
 {
     let mut txn = ledger.begin(rt, alloc, pass, PLACE).ok()?;
     let answer = txn.execute(alloc, "SELECT * FROM t", &[]).ok()?;
@@ -84,14 +81,10 @@ fn commit_and_meet<S: JournalStore, R: Wait>(
     second: &mut Pass<S, SetClock>,
     order: &str,
 ) -> Option<u64>
-    requires first { Rests (IsRightFor S.told) ledger.now.turns.table.shared.table_id
-        ledger.now.turns.table.shared.key.value.opened first.old }
-    requires second { Rests (IsRightFor S.told) ledger.now.turns.table.shared.table_id
-        ledger.now.turns.table.shared.key.value.opened second.old }
-    ensures first { Rests (IsRightFor S.told) ledger.now.turns.table.shared.table_id
-        ledger.now.turns.table.shared.key.value.opened first.new }
-    ensures second { Rests (IsRightFor S.told) ledger.now.turns.table.shared.table_id
-        ledger.now.turns.table.shared.key.value.opened second.new }
+    requires first { IsPass S.told ledger.now first.old }
+    requires second { IsPass S.told ledger.now second.old }
+    ensures first { IsPass S.told ledger.now first.new }
+    ensures second { IsPass S.told ledger.now second.new }
 {
     if order == "commit, meet" {
         let block = commit(rt, alloc, ledger, first)?;
@@ -125,8 +118,7 @@ fn told<S: JournalStore + Drop, R: Wait>(
     pass: Pass<S, SetClock>,
     order: &str,
 ) -> Option<String>
-    requires { Rests (IsRightFor S.told) ledger.turns.table.shared.table_id
-        ledger.turns.table.shared.key.value.opened pass }
+    requires { IsPass S.told ledger pass }
 {
     let mut first = pass;
     let mut second = ledger.split(&mut first).ok()?;

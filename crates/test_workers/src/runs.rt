@@ -6,7 +6,7 @@ use crate::scripts::job_of;
 use crate::tails::{memory_store, sure_store, tail_of};
 use containers::Sequence;
 use ledger_model::{Outcome, Outcomes, Session};
-use ledger_shared::{AllRan, run_all};
+use ledger_shared::{AllRan, Crew, run_all};
 use outside::{FreeGate, JournalStore, SetClock};
 use std::alloc::Global;
 use std::sync::Wait;
@@ -51,7 +51,7 @@ fn counts<S: JournalStore>(ran: &AllRan<S, SetClock>) -> Option<(u64, u64)> {
     Some((committed(&ran.outcomes)?, ran.tail.blocks().len()))
 }
 
-/// The same where so many workers run the script on an empty store.
+/// How many jobs committed and how many blocks stand after the script's run on an empty store.
 fn ends<S: JournalStore + Send + Drop, R: Threads + Wait + Sync>(
     rt: &R,
     alloc: Global,
@@ -62,7 +62,12 @@ fn ends<S: JournalStore + Send + Drop, R: Threads + Wait + Sync>(
 {
     let script = script_of(alloc)?;
     let tail = tail_of(alloc, store)?;
-    let ran = run_all(rt, alloc, script.as_slice(), workers, &FreeGate, tail).ok()?;
+    let crew = Crew {
+        rt,
+        gate: &FreeGate,
+        workers,
+    };
+    let ran = run_all(&crew, alloc, script.as_slice(), tail).ok()?;
     counts(&ran)
 }
 

@@ -14,7 +14,7 @@ fn asked_of(alloc: Global, statement: &str) -> Option<Asked> {
     Some(Sequence::from_vec(vec![in alloc; request].ok()?))
 }
 
-/// The job of one statement. It is given up where its text begins with `-`.
+/// The job of one statement. It is aborted if its text begins with `-`.
 pub(crate) fn job_of(alloc: Global, told: &str, retries: u32) -> Option<Job> {
     let (statement, abort) = match told.strip_prefix("-") {
         Some(statement) => (statement, true),

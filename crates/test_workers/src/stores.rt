@@ -3,7 +3,7 @@ use outside::{Failing, MemoryStore};
 use std::alloc::Global;
 use test_fixtures::THREE_STATEMENTS;
 
-/// A store of a text, of which the call after so many fails; a failing append leaves so many bytes.
+/// A store of a text. One call fails, after a given number of others; a failing append leaves a given number of bytes.
 fn store_of(alloc: Global, text: &str, passes: u64, kept: u64) -> Option<MemoryStore> {
     let held = text.as_bytes().to_vec(alloc).ok()?;
     let fails = vec![in alloc; Failing { passes, kept }].ok()?;

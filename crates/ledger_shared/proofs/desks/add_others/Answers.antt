@@ -3,7 +3,7 @@ use Rattle.turn_lock.specs.declared.view.Known.{Known}
 use Rattle.turn_lock.specs.History.{AreWhole}
 use Rattle.turn_lock.specs.Rule.{Each}
 use Rattle.laws_machine.specs.Entries.{Entry}
-use Rattle.ledger_shared.specs.Crew.{IsIdle, IsOf, knowns}
+use Rattle.ledger_shared.specs.Desks.{IsIdle, IsOf, knowns}
 use Rattle.ledger_shared.proofs.Setting.{next_idle, next_room, next_whole, whole_first}
 use Rattle.ledger_shared.proofs.desks.add_others.Goals as goal
 
@@ -38,7 +38,7 @@ desks-preserved g c =
       len = omega (arith, inv.len, c.in_ok-add_desk.ensures.len);
       low = omega (arith, c.desks-test.true);
       space = omega (arith, inv.space, c.in_ok-add_desk.ensures.space);
-      room = next_room before after added.0 made.worker added.1 added.2 c.args.workers c.args.script.now c.desks.place
+      room = next_room before after added.0 made.worker added.1 added.2 c.args.deal.now.workers c.args.deal.now.script.now c.desks.place
           (omega (arith, inv.len, c.desks.desks.ok.0)) added.4 inv.room;
     }
 

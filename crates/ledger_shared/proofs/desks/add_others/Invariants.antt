@@ -2,10 +2,10 @@ use Rattle.std.proofs.Common.{◌≡◌, ◌<◌, ◌≤◌, [], ◌∷◌, ◌+
 use Rattle.std.specs.Prelude.{vec_capacity, vec_len}
 use Rattle.turn_lock.specs.History.{AreWhole}
 use Rattle.turn_lock.specs.Rule.{Each}
-use Rattle.ledger_shared.specs.Crew.{HaveRoom, IsIdle, knowns}
+use Rattle.ledger_shared.specs.Desks.{HaveRoom, IsIdle, knowns}
 use Rattle.ledger_shared.proofs.desks.add_others.Given as goal
 
--- so many desks stand there
+-- the desks that were added
 abbrev pub invariant-desks : goal.invariant-desks
 invariant-desks g l =
     record {
@@ -15,7 +15,7 @@ invariant-desks g l =
       idle : Each (IsIdle l.initial.last.table l.initial.last.opened) l.desks.items;
       whole : AreWhole (knowns l.desks.items ++ l.last.known ∷ []);
       len : vec_len l.desks ≡ l.place;
-      low : l.place < l.workers;
-      space : l.workers ≤ vec_capacity l.desks;
-      room : HaveRoom l.workers l.script l.desks.items;
+      low : l.place < l.deal.workers;
+      space : l.deal.workers ≤ vec_capacity l.desks;
+      room : HaveRoom l.deal.workers l.deal.script.now l.desks.items;
     }

@@ -3,7 +3,7 @@ use Rattle.std.specs.Prelude.{reverse}
 use Rattle.turn_lock.specs.Rule.{Each}
 use Rattle.turn_lock.specs.Seats.{Rests, known}
 use Rattle.ledger_shared.specs.Behind.{IsRightFor}
-use Rattle.ledger_shared.specs.Crew.{knowns}
+use Rattle.ledger_shared.specs.Desks.{knowns}
 use Rattle.ledger_shared.proofs.Clearing.{each_done, each_next, emptied, known_done, known_next}
 use Rattle.ledger_shared.proofs.desks.clear.Goals as goal
 

@@ -5,7 +5,7 @@ use Rattle.turn_lock.specs.Rule.{Each}
 use Rattle.turn_lock.specs.Seats.{Rests, known}
 use Rattle.ledger_core.specs.Tails.{TailHeld}
 use Rattle.ledger_shared.specs.Behind.{IsRightFor}
-use Rattle.ledger_shared.specs.Crew.{IsAt, knowns}
+use Rattle.ledger_shared.specs.Desks.{IsAt, knowns}
 use Rattle.ledger_shared.proofs.desks.clear.Given as goal
 
 -- the passes of the last desks are out, the last one first

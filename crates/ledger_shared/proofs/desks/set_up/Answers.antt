@@ -25,6 +25,6 @@ returns-clause-room g c =
     let added = own.ensures.added in
     on_ok c.add_desk-own.result
     (λ room.
-    next_room others.new.desks.items own.new.desks.items added.0 others.new.last added.1 added.2 c.args.workers c.args.script.now (c.args.workers - 1)
+    next_room others.new.desks.items own.new.desks.items added.0 others.new.last added.1 added.2 c.args.deal.now.workers c.args.deal.now.script.now (c.args.deal.now.workers - 1)
     (omega (arith, c.in_ok-others.ensures.all, others.new.desks.ok.0)) room c.in_ok-others.ensures.room)
     added.4

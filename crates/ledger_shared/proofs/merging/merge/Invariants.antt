@@ -2,7 +2,7 @@ use Rattle.std.proofs.Common.{◌≡◌, ℕ, ◌+◌, ◌<◌, ◌≤◌, List,
 use Rattle.std.specs.Prelude.{slice_index_or, vec_capacity, vec_len}
 use Rattle.ledger_model.specs.declared.outcome.PlacedOutcome.{PlacedOutcome}
 use Rattle.ledger_shared.specs.declared.workers.Desk.{Desk}
-use Rattle.ledger_shared.specs.Crew.{AreDealt}
+use Rattle.ledger_shared.specs.Desks.{AreDealt}
 use Rattle.ledger_shared.specs.Sessions.{job_count}
 use Rattle.ledger_shared.proofs.Merged.{Moving}
 use Rattle.ledger_shared.proofs.merging.merge.Given as goal

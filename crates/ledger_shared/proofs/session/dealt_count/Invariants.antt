@@ -7,7 +7,7 @@ use Rattle.ledger_shared.proofs.session.dealt_count.Given as goal
 abbrev pub invariant-sessions : goal.invariant-sessions
 invariant-sessions l =
     record {
-      counted : l.count + length (dealt_jobs l.workers l.rest (all_placed_from (1 + l.at) (drop l.at l.script)))
-          ≡ length (dealt_jobs l.workers l.rest (all_placed l.script));
+      counted : l.count + length (dealt_jobs l.share.workers l.share.rest (all_placed_from (1 + l.at) (drop l.at l.script)))
+          ≡ length (dealt_jobs l.share.workers l.share.rest (all_placed l.script));
       low : l.count ≤ l.at * 4294967296;
     }

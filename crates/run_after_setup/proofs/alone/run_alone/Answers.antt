@@ -2,6 +2,7 @@ use Rattle.std.proofs.Common.{◌∙◌, ap}
 use Rattle.turn_lock.specs.Seats.{Rests, known}
 use Rattle.ledger_model.specs.Script.{Placed}
 use Rattle.ledger_shared.specs.Behind.{IsRightFor}
+use Rattle.ledger_shared.specs.Ledgers.{opened_of, table_of}
 use Rattle.ledger_shared.specs.Told.{all_told}
 use Rattle.ledger_shared.proofs.Chains.{stays}
 use Rattle.run_after_setup.proofs.RanAlone.{closed_alone, in_only, only_of}
@@ -11,9 +12,9 @@ pub close-tail-requires-clause-each : goal.close-tail-requires-clause-each
 close-tail-requires-clause-each g c i d low =
     let told = g.S.JournalStore.told in
     let run = c.run_job-outcome in
-    let shared = c.in-Ok.ledger.turns.table.shared in
-    let one = stays told c.args.job.now c.args.place c.new-worker.result run.new.link run.result run.ensures in
-    in_only (λ table opened pass. Rests (IsRightFor told) table opened pass) c.new-worker.result run.new.link shared.table_id shared.key.value.opened
+    let ledger = c.in-Ok.ledger in
+    let one = stays told c.args.setup.now.job.now c.args.setup.now.place c.new-worker.result run.new.link run.result run.ensures in
+    in_only (λ table opened pass. Rests (IsRightFor told) table opened pass) c.new-worker.result run.new.link (table_of ledger) (opened_of ledger)
     one.table one.opened (ap (λ w. w.table) c.new-worker.ensures) (ap (λ w. w.opened) c.new-worker.ensures) c.into_pass.result c.into_pass.ensures.pass
     c.keep.new.passes.items
     (only_of c.keep.new.passes.items c.reserve.new.self.items c.new-passes.result.items c.into_pass.result c.keep.ensures c.reserve.ensures.items
@@ -23,8 +24,8 @@ pub returns-in-Ok-clause-ran : goal.returns-in-Ok-clause-ran
 returns-in-Ok-clause-ran g c =
     let closed = c.close-tail in
     let run = c.run_job-outcome in
-    let opened = c.in-Ok.ledger.turns.table.shared.key.value.opened in
-    let p : Placed = record { place = c.args.place; job = c.args.job.now } in
+    let opened = opened_of c.in-Ok.ledger in
+    let p : Placed = record { place = c.args.setup.now.place; job = c.args.setup.now.job.now } in
     closed_alone g.S.JournalStore.told g.C.Clock.answers g.C.Clock.always opened c.args.tail closed.result.tail c.in-Ok.ensures.opened
     (all_told closed.result.tail.standing.mask closed.result.entries.items.items) known c.keep.new.passes.items c.into_pass.result
     (only_of c.keep.new.passes.items c.reserve.new.self.items c.new-passes.result.items c.into_pass.result c.keep.ensures c.reserve.ensures.items

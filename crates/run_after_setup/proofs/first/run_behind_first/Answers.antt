@@ -10,13 +10,17 @@ returns-in-Ok-clause-ran g c =
     let answers = g.C.Clock.answers in
     let always = g.C.Clock.always in
     let ran = c.in-Ok.field-0 in
-    let first : Placed = record { place = c.args.place; job = c.args.first.now } in
-    let outcome : PlacedOutcome = record { place = c.args.place; outcome = ran.outcome } in
-    if_ok _ _ c.run_all.result c.run_all.ensures.ran (λ r all. record {
+    let first : Placed = record { place = c.args.setup.now.place; job = c.args.setup.now.job.now } in
+    let outcome : PlacedOutcome = record { place = c.args.setup.now.place; outcome = ran.outcome } in
+    if_ok _ _ c.run_all.result c.run_all.ensures.ran (λ r all.
+    let joined =
+    all_joined told answers always c.args.tail ran.tail r.tail first c.requires.zeroth outcome c.in-Ok.ensures.ran
+    c.args.crew.now.workers (all_placed c.args.script.now) r.outcomes c.requires.some all in
+    record {
       mid = ran.tail;
       begun = record { outcome = outcome; alone = c.in-Ok.ensures.ran };
-      all = all_joined told answers always c.args.tail ran.tail r.tail first c.requires.zeroth outcome c.in-Ok.ensures.ran c.args.workers
-          (all_placed c.args.script.now) r.outcomes c.requires.some all;
+      all = joined.0;
+      in_turn = joined.1;
     })
 
 pub returns-in-Ok-clause-refused : goal.returns-in-Ok-clause-refused
@@ -25,8 +29,8 @@ returns-in-Ok-clause-refused g c =
     let answers = g.C.Clock.answers in
     let always = g.C.Clock.always in
     let ran = c.in-Ok.field-0 in
-    let first : Placed = record { place = c.args.place; job = c.args.first.now } in
-    let outcome : PlacedOutcome = record { place = c.args.place; outcome = ran.outcome } in
+    let first : Placed = record { place = c.args.setup.now.place; job = c.args.setup.now.job.now } in
+    let outcome : PlacedOutcome = record { place = c.args.setup.now.place; outcome = ran.outcome } in
     if_err _ _ c.run_all.result c.run_all.ensures.refused (λ e none. inl (record {
       outcome = outcome;
       alone = first_stays told answers always c.args.tail ran.tail e.tail first c.requires.zeroth outcome c.in-Ok.ensures.ran none;

@@ -4,6 +4,7 @@ use Rattle.turn_lock.specs.History.{AreWhole, OwnedOnce}
 use Rattle.turn_lock.specs.Rule.{Each}
 use Rattle.turn_lock.specs.Seats.{known, seen}
 use Rattle.ledger_shared.specs.Behind.{IsRightFor}
+use Rattle.ledger_shared.specs.Ledgers.{opened_of}
 use Rattle.ledger_shared.proofs.Closing.{for_entries, keeps_still}
 use Rattle.ledger_shared.proofs.ledger.Ledger.close.Goals as goal
 
@@ -11,13 +12,13 @@ pub returns-clause-keeps : goal.returns-clause-keeps
 returns-clause-keeps g c =
     let parts = c.into_parts-parts in
     keeps_still g.S.JournalStore.told c.close-shared.result parts.result.0 parts.result.1.items.items parts.ensures.tail parts.ensures.entries
-    g.C.Clock.answers g.C.Clock.always c.args.self.turns.table.shared.key.value.opened c.close-shared.ensures.opening parts.ensures.keeps
+    g.C.Clock.answers g.C.Clock.always (opened_of c.args.self) c.close-shared.ensures.opening parts.ensures.keeps
 
 pub returns-clause-right : goal.returns-clause-right
 returns-clause-right g c =
     let parts = c.into_parts-parts in
     for_entries g.S.JournalStore.told c.close-shared.result parts.result.0 parts.result.1.items.items parts.ensures.tail parts.ensures.entries
-    (λ es. IsRightFor g.S.JournalStore.told c.args.self.turns.table.shared.key.value.opened es) c.close-shared.ensures.right
+    (λ es. IsRightFor g.S.JournalStore.told (opened_of c.args.self) es) c.close-shared.ensures.right
 
 pub returns-clause-seen : goal.returns-clause-seen
 returns-clause-seen g c =

@@ -2,6 +2,7 @@ use Rattle.std.proofs.Common.{subst, sym}
 use Rattle.turn_lock.specs.Seats.{known}
 use Rattle.ledger_shared.specs.Behind.{opening_of}
 use Rattle.ledger_shared.specs.Calls.{Commits, Extends, IsOpen}
+use Rattle.ledger_shared.specs.Ledgers.{opened_of}
 use Rattle.ledger_shared.proofs.Passes.{called, commit_opens, commit_puts}
 use Rattle.ledger_shared.proofs.ledger.Ledger.commit_with.Goals as goal
 
@@ -9,7 +10,7 @@ pub commit-result-requires : goal.commit-result-requires
 commit-result-requires g c =
     let told = g.S.JournalStore.told in
     let took = c.take-shared in
-    let opened = c.args.self.now.turns.table.shared.key.value.opened in
+    let opened = opened_of c.args.self.now in
     subst (λ x. IsOpen (opening_of told x) took.result.entries c.args.txn) (sym took.ensures.opening)
     (commit_opens (opening_of told opened) (known c.args.pass.now) (known took.new.pass) c.args.txn c.requires.pass.part c.requires.opens took.ensures.known
     took.ensures.longer took.result.entries took.ensures.entries took.ensures.uses)
@@ -19,7 +20,7 @@ put_back-requires-clause-joins g c =
     let told = g.S.JournalStore.told in
     let took = c.take-shared in
     let call = c.commit-result in
-    let opened = c.args.self.now.turns.table.shared.key.value.opened in
+    let opened = opened_of c.args.self.now in
     commit_puts (opening_of told opened) (known c.args.pass.now) (known took.new.pass) c.args.txn c.requires.pass.part c.requires.opens took.ensures.known
     took.ensures.longer took.result.entries call.new.self.entries c.args.sent call.result took.ensures.entries
     (subst (λ x. Extends took.result.entries call.new.self.entries (Commits (opening_of told x) took.result.entries c.args.txn c.args.sent call.result)) took.ensures.opening call.ensures.commits)
@@ -29,7 +30,7 @@ returns-clause-commits g c =
     let told = g.S.JournalStore.told in
     let took = c.take-shared in
     let call = c.commit-result in
-    let o = opening_of told c.args.self.now.turns.table.shared.key.value.opened in
+    let o = opening_of told (opened_of c.args.self.now) in
     called (known c.args.pass.now) (known took.new.pass) (known c.put_back.new.pass) took.result.entries call.new.self.entries
     (λ front added. Commits o front c.args.txn c.args.sent call.result added) took.ensures.known took.ensures.longer took.ensures.entries
     (subst (λ x. Extends took.result.entries call.new.self.entries (Commits (opening_of told x) took.result.entries c.args.txn c.args.sent call.result)) took.ensures.opening call.ensures.commits)

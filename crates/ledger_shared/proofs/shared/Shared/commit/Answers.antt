@@ -22,7 +22,7 @@ try_commit-requires g c =
 
 pub sealed_entry-entry-requires : goal.sealed_entry-entry-requires
 sealed_entry-entry-requires g c =
-    let r = c.in-Ok.ensures.ends in (
+    let r = c.in-Ok.ensures.commits.ends in (
       r.block,
       made_there c.self.inside.tail.standing c.try_commit.new.self.standing c.args.txn c.args.sent _ c.in-Ok.receipt c.blocks-in-Ok.result.now.list r
           c.blocks-in-Ok.ensures.blocks,
@@ -33,27 +33,27 @@ invariant_of-self-in-Ok g c =
     let told = g.S.JournalStore.told in
     let first = c.self.inside in
     let k = subst (λ (s : SharedHeld _ _). IsOpen (opening_of told s.opened) s.entries c.args.txn) (sym c.self.view_is) c.requires in
-    let r = c.in-Ok.ensures.ends in
+    let r = c.in-Ok.ensures.commits.ends in
     let e = c.sealed_entry-entry.result in
     let there =
     made_there first.tail.standing c.try_commit.new.self.standing c.args.txn c.args.sent _ c.in-Ok.receipt c.blocks-in-Ok.result.now.list r c.blocks-in-Ok.ensures.blocks in
     seal_keeps told g.C.Clock.answers g.C.Clock.always first.opened.value first.tail c.try_commit.new.self first.entries.items.items
-    c.add.new.self.items.items c.self.invariant c.args.txn k c.tx-tx.result c.tx-tx.ensures c.args.sent c.try_commit.ensures.asked c.try_commit.ensures.always
+    c.add.new.self.items.items c.self.invariant c.args.txn k c.tx-tx.result c.tx-tx.ensures c.args.sent c.try_commit.ensures.commits.asked c.try_commit.ensures.commits.always_is
     c.in-Ok.receipt r e (c.add.ensures ∙ ap (λ (l : List kept.Entry). l ++ e ∷ []) c.make_room.ensures.items)
-    (c.sealed_entry-entry.ensures first.tail.standing.mask r.block there) c.in-Ok.ensures.fine c.in-Ok.ensures.holds c.in-Ok.ensures.synced
+    (c.sealed_entry-entry.ensures first.tail.standing.mask r.block there) c.in-Ok.ensures.commits.fine c.in-Ok.ensures.commits.holds c.in-Ok.ensures.commits.synced
 
 pub returns-in-Ok-clause-commits : goal.returns-in-Ok-clause-commits
 returns-in-Ok-clause-commits g c =
     let told = g.S.JournalStore.told in
     let first = c.self.inside in
     let k = subst (λ (s : SharedHeld _ _). IsOpen (opening_of told s.opened) s.entries c.args.txn) (sym c.self.view_is) c.requires in
-    let r = c.in-Ok.ensures.ends in
+    let r = c.in-Ok.ensures.commits.ends in
     let e = c.sealed_entry-entry.result in
     let there =
     made_there first.tail.standing c.try_commit.new.self.standing c.args.txn c.args.sent _ c.in-Ok.receipt c.blocks-in-Ok.result.now.list r c.blocks-in-Ok.ensures.blocks in
     rw (← c.self.view_is)
     (seal_adds told g.C.Clock.answers g.C.Clock.always first.opened.value first.tail c.try_commit.new.self first.entries.items.items
-    c.add.new.self.items.items c.self.invariant c.args.txn k c.tx-tx.result c.tx-tx.ensures c.args.sent c.try_commit.ensures.asked c.try_commit.ensures.always
+    c.add.new.self.items.items c.self.invariant c.args.txn k c.tx-tx.result c.tx-tx.ensures c.args.sent c.try_commit.ensures.commits.asked c.try_commit.ensures.commits.always_is
     c.in-Ok.receipt r e (c.add.ensures ∙ ap (λ (l : List kept.Entry). l ++ e ∷ []) c.make_room.ensures.items)
     (c.sealed_entry-entry.ensures first.tail.standing.mask r.block there))
 
@@ -64,8 +64,8 @@ invariant_of-self-in-Some g c =
     let k = subst (λ (s : SharedHeld _ _). IsOpen (opening_of told s.opened) s.entries c.args.txn) (sym c.self.view_is) c.requires in
     let e = c.in-Some.entry in
     refuse_keeps told g.C.Clock.answers g.C.Clock.always first.opened.value first.tail c.try_commit.new.self first.entries.items.items
-    c.add-in-Some.new.self.items.items c.self.invariant c.args.txn k c.tx-tx.result c.tx-tx.ensures c.args.sent c.try_commit.ensures.asked c.try_commit.ensures.always
-    c.in-Err.field-0.fault (option_map (λ b. b.value) c.in-Err.field-0.tried) c.in-Err.ensures.ends c.in-Err.ensures.tried c.in-Err.ensures.fault c.in-Err.ensures.left c.in-Err.ensures.marked
+    c.add-in-Some.new.self.items.items c.self.invariant c.args.txn k c.tx-tx.result c.tx-tx.ensures c.args.sent c.try_commit.ensures.commits.asked c.try_commit.ensures.commits.always_is
+    c.in-Err.field-0.fault (option_map (λ b. b.value) c.in-Err.field-0.tried) c.in-Err.ensures.commits.ends c.in-Err.ensures.tried c.in-Err.ensures.commits.fault c.in-Err.ensures.left c.in-Err.ensures.commits.marked
     e (c.add-in-Some.ensures ∙ ap (λ (l : List kept.Entry). l ++ e ∷ []) c.make_room.ensures.items) (c.in-Some.ensures first.tail.standing.mask)
 
 pub returns-in-Some-clause-commits : goal.returns-in-Some-clause-commits
@@ -79,8 +79,8 @@ returns-in-Some-clause-commits g c =
     subst (λ (s : SharedHeld _ _). Extends s.entries (all_told now c.add-in-Some.new.self.items.items) (λ a. Commits (opening_of told s.opened) s.entries c.args.txn c.args.sent (Err f) a))
     c.self.view_is
     (refuse_adds told g.C.Clock.answers g.C.Clock.always first.opened.value first.tail c.try_commit.new.self first.entries.items.items
-    c.add-in-Some.new.self.items.items c.self.invariant c.args.txn k c.tx-tx.result c.tx-tx.ensures c.args.sent c.try_commit.ensures.asked c.try_commit.ensures.always
-    c.in-Err.field-0.fault (option_map (λ b. b.value) c.in-Err.field-0.tried) c.in-Err.ensures.ends c.in-Err.ensures.tried c.in-Err.ensures.fault c.in-Err.ensures.left c.in-Err.ensures.marked
+    c.add-in-Some.new.self.items.items c.self.invariant c.args.txn k c.tx-tx.result c.tx-tx.ensures c.args.sent c.try_commit.ensures.commits.asked c.try_commit.ensures.commits.always_is
+    c.in-Err.field-0.fault (option_map (λ b. b.value) c.in-Err.field-0.tried) c.in-Err.ensures.commits.ends c.in-Err.ensures.tried c.in-Err.ensures.commits.fault c.in-Err.ensures.left c.in-Err.ensures.commits.marked
     e (c.add-in-Some.ensures ∙ ap (λ (l : List kept.Entry). l ++ e ∷ []) c.make_room.ensures.items) (c.in-Some.ensures first.tail.standing.mask))
 
 pub invariant_of-self-in-None : goal.invariant_of-self-in-None
@@ -89,8 +89,8 @@ invariant_of-self-in-None g c =
     let first = c.self.inside in
     let k = subst (λ (s : SharedHeld _ _). IsOpen (opening_of told s.opened) s.entries c.args.txn) (sym c.self.view_is) c.requires in
     refuse_keeps_none told g.C.Clock.answers g.C.Clock.always first.opened.value first.tail c.try_commit.new.self first.entries.items.items
-    c.make_room.new.self.items.items c.self.invariant c.args.txn k c.tx-tx.result c.tx-tx.ensures c.args.sent c.try_commit.ensures.asked c.try_commit.ensures.always
-    c.in-Err.field-0.fault (option_map (λ b. b.value) c.in-Err.field-0.tried) c.in-Err.ensures.ends c.in-Err.ensures.tried c.in-Err.ensures.fault c.in-Err.ensures.left c.in-Err.ensures.marked
+    c.make_room.new.self.items.items c.self.invariant c.args.txn k c.tx-tx.result c.tx-tx.ensures c.args.sent c.try_commit.ensures.commits.asked c.try_commit.ensures.commits.always_is
+    c.in-Err.field-0.fault (option_map (λ b. b.value) c.in-Err.field-0.tried) c.in-Err.ensures.commits.ends c.in-Err.ensures.tried c.in-Err.ensures.commits.fault c.in-Err.ensures.left c.in-Err.ensures.commits.marked
     c.make_room.ensures.items (c.in-None.ensures first.tail.standing.mask)
 
 pub returns-in-None-clause-commits : goal.returns-in-None-clause-commits
@@ -103,8 +103,8 @@ returns-in-None-clause-commits g c =
     subst (λ (s : SharedHeld _ _). Extends s.entries (all_told now c.make_room.new.self.items.items) (λ a. Commits (opening_of told s.opened) s.entries c.args.txn c.args.sent (Err f) a))
     c.self.view_is
     (refuse_adds_none told g.C.Clock.answers g.C.Clock.always first.opened.value first.tail c.try_commit.new.self first.entries.items.items
-    c.make_room.new.self.items.items c.self.invariant c.args.txn k c.tx-tx.result c.tx-tx.ensures c.args.sent c.try_commit.ensures.asked c.try_commit.ensures.always
-    c.in-Err.field-0.fault (option_map (λ b. b.value) c.in-Err.field-0.tried) c.in-Err.ensures.ends c.in-Err.ensures.tried c.in-Err.ensures.fault c.in-Err.ensures.left c.in-Err.ensures.marked
+    c.make_room.new.self.items.items c.self.invariant c.args.txn k c.tx-tx.result c.tx-tx.ensures c.args.sent c.try_commit.ensures.commits.asked c.try_commit.ensures.commits.always_is
+    c.in-Err.field-0.fault (option_map (λ b. b.value) c.in-Err.field-0.tried) c.in-Err.ensures.commits.ends c.in-Err.ensures.tried c.in-Err.ensures.commits.fault c.in-Err.ensures.left c.in-Err.ensures.commits.marked
     c.make_room.ensures.items (c.in-None.ensures first.tail.standing.mask))
 
 pub invariant_of-self : goal.invariant_of-self

@@ -13,8 +13,8 @@ invariant-sessions g l =
       table : l.self.table ≡ l.initial.self.table;
       opened : l.self.opened ≡ l.initial.self.opened;
       serves : (all more : List Placed) (first : Course)
-          → HasServed o all (dealt_jobs l.workers l.rest (all_placed l.script) ++ more) first (course l.initial.outcomes.items l.initial.self.known)
-          → HasServed o all (dealt_jobs l.workers l.rest (all_placed_from (1 + l.at) (drop l.at l.script)) ++ more) first
+          → HasServed o all (dealt_jobs l.share.workers l.share.rest (all_placed l.script) ++ more) first (course l.initial.outcomes.items l.initial.self.known)
+          → HasServed o all (dealt_jobs l.share.workers l.share.rest (all_placed_from (1 + l.at) (drop l.at l.script)) ++ more) first
           (course l.outcomes.items l.self.known);
-      room : vec_len l.outcomes + length (dealt_jobs l.workers l.rest (all_placed_from (1 + l.at) (drop l.at l.script))) ≤ vec_capacity l.outcomes;
+      room : vec_len l.outcomes + length (dealt_jobs l.share.workers l.share.rest (all_placed_from (1 + l.at) (drop l.at l.script))) ≤ vec_capacity l.outcomes;
     }

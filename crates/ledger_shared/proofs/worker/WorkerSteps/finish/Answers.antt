@@ -3,6 +3,7 @@ use Rattle.turn_lock.specs.Seats.{known}
 use Rattle.ledger_shared.specs.Behind.{opening_of}
 use Rattle.ledger_shared.specs.Known.{MayCommit}
 use Rattle.ledger_shared.specs.Workers.{Ends, IsDone, WorkerHeld}
+use Rattle.ledger_shared.specs.Ledgers.{opened_of}
 use Rattle.ledger_shared.proofs.Attempts.{finishes}
 use Rattle.ledger_shared.proofs.worker.WorkerSteps.finish.Goals as goal
 
@@ -14,7 +15,7 @@ commit_with-result-requires-clause-opens g c =
 pub returns-clause-ends : goal.returns-clause-ends
 returns-clause-ends g c first begun base since place =
     let told = g.S.JournalStore.told in
-    let o = opening_of told c.self.inside.ledger.now.turns.table.shared.key.value.opened in
+    let o = opening_of told (opened_of c.self.inside.ledger.now) in
     let k = known c.self.inside.pass in
     let now = known c.commit_with-result.new.pass in
     let done = subst (λ (w : WorkerHeld _ _). IsDone (opening_of told w.opened) c.args.job.now c.args.place c.args.txn w.known) (sym c.self.view_is) c.requires.done in
