@@ -10,9 +10,9 @@ use Rattle.proof_issue.specs.declared.NoSuch.TheVariants as none_such
 use Rattle.proof_verify.specs.declared.ProofFault.TheVariants as fault
 use Rattle.cli_model.specs.Lines.{words_line, misspelt, input_line, no_such_line, not_empty_line, damaged_line, faults_line, proof_fault_line}
 use Rattle.cli_model.specs.Journals.{HasNone, tip_in}
-use Rattle.cli_model.specs.Journals as asks
+use Rattle.cli_model.specs.declared.Question.TheVariants as asks
 use Rattle.cli_model.specs.Outputs.{verified_text, counts_text}
-use Rattle.cli_model.specs.Top.{number_of, bad_words, bad_input, damaged, not_accepted}
+use Rattle.cli_model.specs.Claims.{number_of, bad_words, bad_input, damaged, not_accepted}
 
 -- the line begins with the status
 row_words : (number_of bad_words ≡ 1) × (words_line ≡ codes "{status:1}\n")
@@ -34,18 +34,18 @@ unfolding digits
 row_no_revision = refl
 
 -- an empty journal has no digest: its default tip is 0, which is no block's
-row_empty : HasNone (asks.digest None) [] (none_such.Block 0 0)
+row_empty : HasNone (asks.Digest None) [] (none_such.Block 0 0)
 row_empty = refl
 
 row_tip_of_three : (a b c : Block) → tip_in None (a ∷ b ∷ c ∷ []) ≡ 2
 row_tip_of_three a b c = refl
 
-row_three : (a b c : Block) → HasNone (asks.digest (Some 3)) (a ∷ b ∷ c ∷ []) (none_such.Block 3 3)
+row_three : (a b c : Block) → HasNone (asks.Digest (Some 3)) (a ∷ b ∷ c ∷ []) (none_such.Block 3 3)
 row_three a b c = refl
 
 -- the tip is judged before the block, and the block before the index
-row_order : (a b c : Block) → HasNone (asks.proof 4 9 (Some 3)) (a ∷ b ∷ c ∷ []) (none_such.Block 3 3)
-    × HasNone (asks.proof 2 9 (Some 1)) (a ∷ b ∷ c ∷ []) (none_such.PastTip 2 1)
+row_order : (a b c : Block) → HasNone (asks.Proof 4 9 (Some 3)) (a ∷ b ∷ c ∷ []) (none_such.Block 3 3)
+    × HasNone (asks.Proof 2 9 (Some 1)) (a ∷ b ∷ c ∷ []) (none_such.PastTip 2 1)
 row_order a b c = (refl, refl)
 
 -- a workload on a journal of two blocks

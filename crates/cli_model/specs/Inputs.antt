@@ -28,6 +28,10 @@ pub record IsTooLong (source : Span SourceTold) : Type 0 where
 abbrev pub IsIdle : Span SourceTold → Type 0
 IsIdle source = source.after ≡ source.before
 
+-- the source didn't fail
+abbrev pub IsFine : Span SourceTold → Type 0
+IsFine source = source.after.faults ≡ source.before.faults
+
 -- it failed
 abbrev pub SourceFailed : Span SourceTold → Type 0
 SourceFailed source = source.before.faults < source.after.faults

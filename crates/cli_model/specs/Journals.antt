@@ -1,53 +1,22 @@
--- What the commands tell of a journal that they read: its digest, the proof of a revision, and how much it holds (QLDB
--- Developer Guide, "Data verification in Amazon QLDB", for digests).
-use Rattle.std.specs.Prelude.{◌≡◌, ◌<◌, ◌-◌, ℕ, true, List, length, Option, Some, None, IfSome, slice_get}
+-- The commands `digest`, `prove` and `audit`, which ask something of a journal: its digest, the proof of a revision,
+-- and how much it holds (QLDB Developer Guide, "Data verification in Amazon QLDB", for digests).
+use Rattle.std.specs.Prelude.{◌≡◌, ◌-◌, ◌⊎◌, ℕ, List, length, Option, Some, None, slice_get}
 use Rattle.ledger_model.specs.declared.block.Block.{Block}
 use Rattle.ledger_model.specs.declared.block.Revision.{Revision}
-use Rattle.ledger_model.specs.declared.damage.Damage.{Damage}
-use Rattle.ledger_model.specs.Damages.{Undamaged}
-use Rattle.ledger_model.specs.Recovered.{IsDamaged}
-use Rattle.outside.specs.Told.{StoreTold, held}
 use Rattle.proof_model.specs.declared.Digest.{Digest}
 use Rattle.proof_model.specs.declared.Proof.{Proof}
 use Rattle.proof_model.specs.Issued.{IsDigest, proof_for}
 use Rattle.proof_model.specs.Verified.{Verified}
 use Rattle.proof_issue.specs.declared.NoSuch.{NoSuch}
 use Rattle.proof_issue.specs.Refusals.{past_end, refusal}
-use Rattle.laws_history.specs.Calls.{Span}
-use Rattle.laws_history.specs.Stores.{HasJournal}
+use Rattle.cli_model.specs.declared.Question.{Question}
+use Rattle.cli_model.specs.declared.Question.TheVariants as asks
+use Rattle.cli_model.specs.Calls.{Outside}
+use Rattle.cli_model.specs.Claims.{Claim, Status, DamagedLine, StoreLine, bad_input, damaged, store_failed, tells_none}
+use Rattle.cli_model.specs.Inputs.{IsIdle}
+use Rattle.cli_model.specs.Lines.{no_such_line}
 use Rattle.cli_model.specs.Outputs.{digest_text, bundle_text, counts_text}
-
--- ---- the store
-
--- The store is the one that was given, which the first of these says. So it tells what it told.
-pub record IsUncalled (same : Type 0) (store : Span StoreTold) : Type 0 where
-  pub is : same
-  pub told : store.after ≡ store.before
-
--- its content is as before
-abbrev pub IsUnchanged : Span StoreTold → Type 0
-IsUnchanged store = store.after.content ≡ store.before.content
-
--- and it didn't fail
-pub record IsOnlyRead (store : Span StoreTold) : Type 0 where
-  pub content : IsUnchanged store
-  pub faults : store.after.faults ≡ store.before.faults
-
--- it failed, in its last call too
-pub record HasFailed (store : Span StoreTold) : Type 0 where
-  pub rose : store.before.faults < store.after.faults
-  pub last : store.after.last_failed ≡ true
-
--- the journal that it holds was read, and has these undamaged blocks
-pub record Reads (store : Span StoreTold) (blocks : List Block) : Type 0 where
-  pub found : HasJournal blocks (held store.before)
-  pub undamaged : Undamaged blocks
-  pub only_read : IsOnlyRead store
-
--- the journal that it holds was read, and this line of it fails this check first
-pub record ReadsDamage (store : Span StoreTold) (sequence : ℕ) (kind : Damage) : Type 0 where
-  pub damaged : IfSome (held store.before) (λ bytes. IsDamaged bytes sequence kind)
-  pub only_read : IsOnlyRead store
+use Rattle.cli_model.specs.Stores.{IsUnchanged, Reads}
 
 -- ---- digests
 
@@ -80,21 +49,48 @@ pub record PublishesProof (sequence index tip : ℕ) (blocks : List Block) (text
   pub accepted : Verified digest revision proof
   pub text_is : text ≡ bundle_text digest revision proof
 
--- ---- what a command asks of a journal
+-- ---- questions
 
-pub data Question : Type 0 where
-  digest : Option ℕ → Question
-  proof : ℕ → ℕ → Option ℕ → Question
-  counts : Question
-
--- this text answers it
+-- this text answers the question
 abbrev pub Answers : Question → List Block → List ℕ → Type 0
-Answers (digest tip) blocks text = PublishesDigest (tip_in tip blocks) blocks text
-Answers (proof sequence index tip) blocks text = PublishesProof sequence index (tip_in tip blocks) blocks text
-Answers counts blocks text = text ≡ counts_text blocks
+Answers (asks.Digest tip) blocks text = PublishesDigest (tip_in tip blocks) blocks text
+Answers (asks.Proof sequence index tip) blocks text = PublishesProof sequence index (tip_in tip blocks) blocks text
+Answers asks.Counts blocks text = text ≡ counts_text blocks
 
 -- there is no such digest or proof
 abbrev pub HasNone : Question → List Block → NoSuch → Type 0
-HasNone (digest tip) blocks why = past_end blocks (tip_in tip blocks) ≡ Some why
-HasNone (proof sequence index tip) blocks why = refusal blocks sequence index (tip_in tip blocks) ≡ Some why
-HasNone counts blocks why = ⊥
+HasNone (asks.Digest tip) blocks why = past_end blocks (tip_in tip blocks) ≡ Some why
+HasNone (asks.Proof sequence index tip) blocks why = refusal blocks sequence index (tip_in tip blocks) ≡ Some why
+HasNone asks.Counts blocks why = ⊥
+
+-- ---- the claim
+
+-- the journal was read, and the text answers the question
+pub record JournalGives (question : Question) (x : Outside) (text : List ℕ) : Type 0 where
+  pub blocks : List Block
+  pub reads : Reads x.store blocks
+  pub answers : Answers question blocks text
+
+-- of the journal that was read there is no such digest or proof
+pub record NoSuchLine (question : Question) (x : Outside) (line : List ℕ) : Type 0 where
+  pub blocks : List Block
+  pub reads : Reads x.store blocks
+  pub why : NoSuch
+  pub none : HasNone question blocks why
+  pub line_is : line ≡ no_such_line why
+
+-- At 2 there is no such digest or proof, at 3 the journal is damaged, and at 5 the store failed when it was read.
+abbrev pub JournalRefuses : Question → Outside → Status → List ℕ → Type 0
+JournalRefuses question x status line =
+    ((status ≡ bad_input) × NoSuchLine question x line)
+    ⊎ ((status ≡ damaged) × DamagedLine x line)
+    ⊎ ((status ≡ store_failed) × StoreLine x line)
+
+-- The store's content stays as it is, and the source isn't read.
+abbrev pub asks_journal : Question → Claim
+asks_journal question = record {
+  gives = JournalGives question;
+  refuses = λ same x status line. JournalRefuses question x status line;
+  keeps = λ same x. IsUnchanged x.store × IsIdle x.source;
+  tells = tells_none;
+}

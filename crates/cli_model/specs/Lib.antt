@@ -1,5 +1,6 @@
 pub mod Bundles
 pub mod Calls
+pub mod Claims
 pub mod Clocks
 pub mod Inputs
 pub mod Journals
@@ -7,4 +8,6 @@ pub mod Lines
 pub mod Making
 pub mod Outputs
 pub mod Runs
+pub mod Stores
 pub mod Top
+pub mod Written

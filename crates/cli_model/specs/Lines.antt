@@ -21,7 +21,7 @@ use Rattle.proof_verify.specs.declared.ProofFault.TheVariants as fault
 abbrev pub words_line : List ℕ
 words_line = codes "{status:1}" ++ 10 ∷ []
 
--- where memory was wanted
+-- if memory runs out
 abbrev pub memory_line : List ℕ
 memory_line = codes "{status:8}" ++ 10 ∷ []
 
@@ -89,7 +89,7 @@ no_such_line refused = fault_line (no_such_text refused)
 
 -- ---- that the journal isn't empty, with the status 2
 
--- the journal of so many blocks
+-- of a journal with this number of blocks
 abbrev pub not_empty_line : ℕ → List ℕ
 not_empty_line blocks = fault_line (codes "kind:JournalNotEmpty,blocks:" ++ decimal blocks)
 
@@ -111,7 +111,7 @@ damaged_line sequence kind =
 
 -- ---- failures
 
--- of a source, with the status 4, or of a store, with the status 5, that has failed so often
+-- of a source, with the status 4, or of a store, with the status 5, with the number of its failures
 abbrev pub faults_line : List ℕ → ℕ → List ℕ
 faults_line status faults = codes "{status:" ++ status ++ codes ",faults:" ++ decimal faults ++ codes "}" ++ 10 ∷ []
 

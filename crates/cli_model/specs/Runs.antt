@@ -1,7 +1,8 @@
--- The run of jobs on a store's journal: its record, and what it leaves in the store; and the run of a script, with its
--- report.
+-- The command `run`: the run of jobs on a store's journal, its record, and what it leaves in the store; and the run of
+-- a script, with its report.
 use Rattle.std.specs.Prelude.{◌≡◌, ◌⊎◌, ℕ, List, Option}
 use Rattle.std.specs.List.{AllByRecursion}
+use Rattle.ledger_model.specs.declared.block.Block.{Block}
 use Rattle.ledger_model.specs.declared.script.Job.{Job}
 use Rattle.ledger_model.specs.Script.{Placed, all_placed}
 use Rattle.ledger_model.specs.Report.{report}
@@ -12,9 +13,12 @@ use Rattle.laws_history.specs.Records.{RunRecord, Times, FitsBlocks, made}
 use Rattle.laws_history.specs.Stores.{HasJournal, Holding, IsSynced, HoldingWithRest}
 use Rattle.laws_history.specs.Alone.{RunsInOrder}
 use Rattle.laws_history.specs.Claims.{Fits, IsOfOwnDigest}
+use Rattle.laws_history.specs.Runs.{WasRun}
 use Rattle.cli_model.specs.Calls.{Outside}
+use Rattle.cli_model.specs.Claims.{Claim, Status, BadInputLine, DamagedLine, SourceLine, StoreLine, bad_input, damaged, source_failed, store_failed}
 use Rattle.cli_model.specs.Clocks.{Answers, given_by, AreTimes, GaveFirst}
-use Rattle.cli_model.specs.Inputs.{HasScript}
+use Rattle.cli_model.specs.Inputs.{HasScript, IsNoScript, SpellsScript}
+use Rattle.cli_model.specs.Stores.{IsUncalled}
 
 -- what the words and the clock give a run: the mask of the ids, where they tell it, and the times of the blocks
 pub record Terms : Type 0 where
@@ -27,7 +31,7 @@ pub record AreTerms (o : RunOptions) (clock : Span Answers) (terms : Terms) : Ty
   pub answered : GaveFirst o.ids clock
   pub times : AreTimes o.time clock terms.times
 
--- the record is that of a run of these jobs on these terms by so many workers on the store's journal
+-- the record is that of a run of these jobs on these terms by this number of workers on the store's journal
 pub record IsOfRun (terms : Terms) (workers : ℕ) (jobs : List Placed) (store : Span StoreTold) (t : RunRecord)
     : Type 0 where
   pub found : HasJournal t.before (held store.before)
@@ -38,11 +42,12 @@ pub record IsOfRun (terms : Terms) (workers : ℕ) (jobs : List Placed) (store :
   pub opened : t.opened ≡ store.before.faults
   pub closed : t.closed ≡ store.after.faults
 
--- The jobs were run, by one worker alone in their order, and the store holds the journal that is left, synced where it
--- was synced.
+-- The jobs were run by the workers, by one worker alone in their order, and the store holds the journal that is left,
+-- synced where it was synced.
 pub record IsDone (terms : Terms) (workers : ℕ) (jobs : List Placed) (store : Span StoreTold) (t : RunRecord)
     : Type 0 where
   pub of_run : IsOfRun terms workers jobs store t
+  pub run : WasRun t
   pub fits : Fits t
   pub in_order : t.workers ≡ 1 → RunsInOrder t
   pub holding : Holding t.after (held store.after)
@@ -64,10 +69,23 @@ pub record IsReportOf (terms : Terms) (workers : ℕ) (jobs : List Placed) (stor
   pub done : IsDone terms workers jobs store told
   pub text_is : text ≡ report told.after told.outcomes
 
+-- The store holds the journal of such a run or of a part of it, which began with these blocks.
+pub record HoldsRunAfter (before : List Block) (terms : Terms) (workers : ℕ) (jobs : List Placed)
+    (store : Span StoreTold) : Type 0 where
+  pub told : RunRecord
+  pub before_is : told.before ≡ before
+  pub left : IsLeft terms workers jobs store told
+
 -- the store holds the journal of such a run or of a part of it
 pub record HoldsRun (terms : Terms) (workers : ℕ) (jobs : List Placed) (store : Span StoreTold) : Type 0 where
   pub told : RunRecord
   pub left : IsLeft terms workers jobs store told
+
+-- The jobs were run on these terms, and the store has failed as often as the outcomes of that run say.
+pub record TellsRun (terms : Terms) (workers : ℕ) (jobs : List Placed) (store : Span StoreTold) : Type 0 where
+  pub told : RunRecord
+  pub of_run : IsOfRun terms workers jobs store told
+  pub fits : Fits told
 
 -- ---- by the words
 
@@ -90,3 +108,30 @@ pub record HoldsAsked (o : RunOptions) (x : Outside) : Type 0 where
 -- what a run leaves in its store, also where it was stopped: what it held, or the journal of the run or a part of it
 abbrev pub LeavesRun : RunOptions → Outside → Type 0
 LeavesRun o x = (held x.store.after ≡ held x.store.before) ⊎ HoldsAsked o x
+
+-- such a run's outcomes say how often the store has failed
+pub record TellsAsked (o : RunOptions) (x : Outside) : Type 0 where
+  pub script : List (List Job)
+  pub has : HasScript x.source script
+  pub terms : Terms
+  pub are : AreTerms o x.clock terms
+  pub tells : TellsRun terms o.workers (all_placed script) x.store
+
+-- ---- the claim
+
+-- At 2 the input is refused, and at 4 the source failed, before the store is called. At 3 the input is a script, and
+-- the journal is damaged. At 5 it is one, and the store failed when the journal was read or was to be cut at the end.
+abbrev pub RunRefuses : Type 0 → Outside → Status → List ℕ → Type 0
+RunRefuses same x status line =
+    ((status ≡ bad_input) × BadInputLine (λ cause. IsNoScript cause x.source) line × IsUncalled same x.store)
+    ⊎ ((status ≡ damaged) × SpellsScript x.source × DamagedLine x line)
+    ⊎ ((status ≡ source_failed) × SourceLine x line × IsUncalled same x.store)
+    ⊎ ((status ≡ store_failed) × SpellsScript x.source × StoreLine x line)
+
+abbrev pub runs : RunOptions → Claim
+runs o = record {
+  gives = Reports o;
+  refuses = RunRefuses;
+  keeps = λ same x. LeavesRun o x;
+  tells = TellsAsked o;
+}

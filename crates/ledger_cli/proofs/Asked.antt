@@ -1,145 +1,156 @@
 -- What comes of a run, from its script to the end.
-use Rattle.std.proofs.Common.{◌≡◌, ◌∙◌, ℕ, ℤ, List, false, refl, inl, inr, subst, ◌⊎◌, Option, Some, None, Result, Ok, Err}
-use Rattle.std.specs.Prelude.{IfOk, IfErr, IfSome, OnErr, is_none, ◌||◌}
+use Rattle.std.proofs.Common.{◌≡◌, ◌∙◌, ℕ, ℤ, List, false, refl, ap, inl, inr, sym, subst, ◌⊎◌, Option, Some, None, Result, Ok, Err}
+use Rattle.std.specs.Prelude.{IfOk, IfErr, IfSome, is_none, ◌||◌}
 use Rattle.ion_time.specs.Millis.{BeginsAt, nearest}
 use Rattle.ion_values.specs.declared.time.TimeParts.{TimeParts}
 use Rattle.ledger_model.specs.declared.script.Job.{Job}
 use Rattle.ledger_model.specs.Script.{Placed, all_placed}
-use Rattle.outside.specs.Told.{StoreTold, held}
+use Rattle.outside.specs.Told.{StoreTold}
 use Rattle.cli_args.specs.declared.Command.TheVariants as command
 use Rattle.cli_args.specs.declared.IdSource.{IdSource}
 use Rattle.cli_args.specs.declared.IdSource.TheVariants as ids
 use Rattle.cli_args.specs.declared.RunOptions.{RunOptions}
-use Rattle.cli_model.specs.Top.{is_first_answer}
 use Rattle.laws_history.specs.Calls.{Span, span}
-use Rattle.laws_history.specs.Records.{one_time}
+use Rattle.laws_history.specs.Records.{Times, one_time}
 use Rattle.cli_model.specs.Calls.{Outside}
-use Rattle.cli_model.specs.Clocks.{Answers, GaveFirst, given_by, times_between}
-use Rattle.cli_model.specs.Inputs.{HasScript}
-use Rattle.cli_model.specs.Journals.{IsUncalled}
-use Rattle.cli_model.specs.Runs.{Terms, AreTerms, IsReportOf, HoldsRun, LeavesRun}
-use Rattle.ledger_cli.specs.declared.stop.Stop.{Stop}
-use Rattle.ledger_cli.specs.declared.stop.Stop.TheVariants as stop
-use Rattle.ledger_cli.specs.Clocks.{AreCovered, ClockTold, Extends, IsAsked, IsSoOnTerms}
-use Rattle.ledger_cli.specs.Ends.{Works}
-use Rattle.ledger_cli.specs.Inputs.{IsFine, IsReadStop}
+use Rattle.cli_model.specs.Clocks.{Answers, AreTimes, GaveFirst, given_by, times_between}
+use Rattle.cli_model.specs.Inputs.{HasScript, IsFine}
+use Rattle.cli_model.specs.Runs.{Terms, AreTerms, IsReportOf, LeavesRun}
+use Rattle.cli_model.specs.Stores.{IsUncalled}
+use Rattle.cli_model.specs.Top.{TellsStore, is_first_answer}
+use Rattle.ledger_cli.specs.declared.command_fault.CommandFault.{CommandFault}
+use Rattle.ledger_cli.specs.declared.command_fault.CommandFault.TheVariants as stop
+use Rattle.ledger_cli.specs.Clocks.{AreCovered, ClockTold, Extends, IsAsked, IsOnTerms}
+use Rattle.ledger_cli.specs.Ends.{IsTold, Works}
+use Rattle.ledger_cli.specs.Inputs.{IsReadStop}
+use Rattle.ledger_cli.specs.Runs.{IsEnded, LeavesJobs, TellsJobs}
 use Rattle.ledger_cli.specs.Stops.{IsLoadStop}
 use Rattle.ledger_cli.proofs.Clocks.{between_covers, one_covers}
-use Rattle.cli_model.proofs.Holding.{reported_holds}
+use Rattle.cli_model.proofs.Holding.{done_tells, reported_holds}
 
 -- ---- the terms
 
--- the terms that the words and the clock tell, on which it is so
-record OnTerms (o : RunOptions) (clock : Span Answers) (Is : Terms → Type 0) : Type 0 where
-  terms : Terms
-  are : AreTerms o clock terms
-  is : Is terms
+-- on the times that the words or the clock tell, if the mask is this one wherever it is told
+module _ (o : RunOptions) (first last : Answers) (mask : ℕ) (given : IfSome (given_by o.ids (span first last)) (λ given. given ≡ mask))
+    (answered : GaveFirst o.ids (span first last)) (Is : Terms → Type 0) where
+  abbrev terms_of : Times → Terms
+  terms_of times = record { given = given_by o.ids (span first last); times = times }
 
--- with a clock of which this much was told before the run
-module _ (o : RunOptions) (first between last : Answers) (mask : ℕ) (extends : Extends first between)
-    (given : IfSome (given_by o.ids (span first last)) (λ given. given ≡ mask)) (answered : GaveFirst o.ids (span first last)) where
-  on_terms : (Is : Terms → Type 0) → IsSoOnTerms mask o.time between last Is → OnTerms o (span first last) Is
-  on_terms Is so =
-      let told = so first (given_by o.ids (span first last)) extends given in
-      record {
-        terms = record { given = given_by o.ids (span first last); times = told.0 };
-        are = record { given = refl; answered = answered; times = told.1 };
-        is = told.2;
-      }
+  on_times : (times : Times) → AreTimes o.time (span first last) times → Is (terms_of times) → IsOnTerms o (span first last) Is
+  on_times times are so = record {
+    terms = terms_of times;
+    are = record { given = refl; answered = answered; times = are };
+    is = so;
+  }
 
--- what the clock always gives, or what it answered
-pub so_at : (mask : ℕ) (ms : ℤ) (own : TimeParts) (before now : Answers) (a b : ClockTold) (Is : Terms → Type 0) → BeginsAt (nearest ms) own
-    → a.always ≡ Some ms → ((terms : Terms) → AreCovered mask a b terms → Is terms) → IsSoOnTerms mask (Some ms) before now Is
-so_at mask ms own before now a b Is begins always so first given extends told = (
-  one_time own,
-  (own, begins, refl),
-  so (record { given = given; times = one_time own }) (record { given = told; times = one_covers a b ms own always begins }),
-)
+-- what the clock always gives
+pub on_fixed : (o : RunOptions) (first last : Answers) (mask : ℕ) → Extends first last
+    → IfSome (given_by o.ids (span first last)) (λ given. given ≡ mask) → GaveFirst o.ids (span first last)
+    → (raw ms : ℤ) → o.time ≡ Some ms → raw ≡ ms → (own : TimeParts) (a b : ClockTold) (Is : Terms → Type 0) → BeginsAt (nearest raw) own
+    → a.always ≡ Some raw → ((terms : Terms) → AreCovered mask a b terms → Is terms) → IsOnTerms o (span first last) Is
+on_fixed o first last mask extends given answered raw ms is same own a b Is begins always so =
+    let begins_at = subst (λ (z : ℤ). BeginsAt (nearest z) own) same begins in
+    let told = subst (λ (t : Option ℤ). AreTimes t (span first last) (one_time own)) (sym is) (own, begins_at, refl) in
+    on_times o first last mask given answered Is (one_time own) told
+    (so (record { given = given_by o.ids (span first last); times = one_time own })
+    (record { given = given; times = one_covers a b raw own always begins }))
 
--- The same where the time is known by another spelling.
-pub so_at_same : (mask : ℕ) (raw ms : ℤ) (same : raw ≡ ms) (own : TimeParts) (before now : Answers) (a b : ClockTold) (Is : Terms → Type 0)
-    → BeginsAt (nearest raw) own → a.always ≡ Some raw → ((terms : Terms) → AreCovered mask a b terms → Is terms)
-    → IsSoOnTerms mask (Some ms) before now Is
-so_at_same mask raw ms same own before now a b Is begins always so =
-    subst (λ (z : ℤ). IsSoOnTerms mask (Some z) before now Is) same (so_at mask raw own before now a b Is begins always so)
-
-pub so_by_clock : (mask : ℕ) (a b : ClockTold) (Is : Terms → Type 0) → Extends a.answers b.answers
-    → ((terms : Terms) → AreCovered mask a b terms → Is terms) → IsSoOnTerms mask None a.answers b.answers Is
-so_by_clock mask a b Is goes so first given extends told = (
-  times_between first b.answers,
-  refl,
-  so (record { given = given; times = times_between first b.answers })
-      (record { given = told; times = between_covers first a b extends goes }),
-)
-
--- what the store held, or the journal of a run on these terms or of a part of it
-abbrev pub Leaves : ℕ → List Placed → Span StoreTold → Terms → Type 0
-Leaves workers jobs store terms = (held store.after ≡ held store.before) ⊎ HoldsRun terms workers jobs store
+-- what it answered
+pub on_clock : (o : RunOptions) (first : Answers) (mask : ℕ) (a b : ClockTold) → Extends first a.answers → Extends a.answers b.answers
+    → IfSome (given_by o.ids (span first b.answers)) (λ given. given ≡ mask) → GaveFirst o.ids (span first b.answers)
+    → o.time ≡ None → (Is : Terms → Type 0) → ((terms : Terms) → AreCovered mask a b terms → Is terms) → IsOnTerms o (span first b.answers) Is
+on_clock o first mask a b extends goes given answered is Is so =
+    let times = times_between first b.answers in
+    on_times o first b.answers mask given answered Is times
+    (subst (λ (t : Option ℤ). AreTimes t (span first b.answers) times) (sym is) refl)
+    (so (record { given = given_by o.ids (span first b.answers); times = times })
+    (record { given = given; times = between_covers first a b extends goes }))
 
 -- where there is a text, and where there is none
 pub done_so : {A E : Type 0} (P Q : A → Type 0) (r : Result A E) → ((x : A) → P x → Q x) → IfOk r P → IfOk r Q
 done_so P Q (Ok x) f h = f x h
 done_so P Q (Err e) f h = tt
 
-pub left_as : {A E : Type 0} (P Q : Type 0) (r : Result A E) → (P → Q) → OnErr r P → OnErr r Q
-left_as P Q (Ok x) f h = tt
-left_as P Q (Err e) f h = f h
+pub ended_so : {A E : Type 0} (P Q : E → Type 0) (r : Result A E) → ((e : E) → P e → Q e) → IfErr r P → IfErr r Q
+ended_so P Q (Ok x) f h = tt
+ended_so P Q (Err e) f h = f e h
 
 -- ---- a script that was run
 
-module _ (same : Type 0) (o : RunOptions) (x : Outside) (script : List (List Job)) (has : HasScript x.source script) (fine : IsFine x.source)
-    (mask : ℕ) (between : Answers) (extends : Extends x.clock.before between)
-    (given : IfSome (given_by o.ids x.clock) (λ given. given ≡ mask)) (answered : GaveFirst o.ids x.clock) where
-  loads : (why : Stop) → IsLoadStop why x.store → Works same (Some (command.Run o)) (Err why) x
-  loads (stop.BadInput cause) h = absurd h
-  loads (stop.NoSuch why) h = absurd h
-  loads (stop.Damaged sequence kind) h =
-      ((record { script = script; has = has }, record { sequence = sequence; kind = kind; reads = h; line_is = refl }), fine)
-  loads stop.SourceFailed h = absurd h
-  loads stop.StoreFailed h = ((record { script = script; has = has }, record { failed = h; line_is = refl }), fine)
-  loads (stop.NotEmpty blocks) h = absurd h
-  loads (stop.NotAccepted fault) h = absurd h
-  loads stop.OutOfMemory h = fine
+module _ (same : Type 0) (o : RunOptions) (x : Outside) (script : List (List Job)) (has : HasScript x.source script) (fine : IsFine x.source) where
+  abbrev Reported : List ℕ → Terms → Type 0
+  Reported text terms = IsReportOf terms o.workers (all_placed script) x.store text
 
-  on : (Is : Terms → Type 0) → IsSoOnTerms mask o.time between x.clock.after Is → OnTerms o x.clock Is
-  on Is so = on_terms o x.clock.before between x.clock.after mask extends given answered Is so
+  abbrev Ended : CommandFault → Terms → Type 0
+  Ended why terms = IsEnded why o.workers (all_placed script) x.store terms
 
-  pub works_run : (came : Result (List ℕ) Stop)
-      → IfOk came (λ text. IsSoOnTerms mask o.time between x.clock.after (λ terms. IsReportOf terms o.workers (all_placed script) x.store text))
-      → IfErr came (λ why. IsLoadStop why x.store) → Works same (Some (command.Run o)) came x
-  works_run (Ok text) done stops =
-      let told = on (λ terms. IsReportOf terms o.workers (all_placed script) x.store text) done in
-      (record { script = script; has = has; terms = told.terms; are = told.are; reported = told.is }, fine)
-  works_run (Err why) done stops = loads why stops
+  tells_so : (terms : Terms) → AreTerms o x.clock terms → TellsJobs o.workers (all_placed script) x.store terms
+      → TellsStore (Some (command.Run o)) x
+  tells_so terms are (inl fine) = inl fine
+  tells_so terms are (inr tells) = inr (record { script = script; has = has; terms = terms; are = are; tells = tells })
 
-  left_so : (terms : Terms) → AreTerms o x.clock terms → Leaves o.workers (all_placed script) x.store terms → LeavesRun o x
+  ends_so : (why : CommandFault) → IsLoadStop why x.store → IsOnTerms o x.clock (Ended why) → Works same (Some (command.Run o)) (Err why) x
+  ends_so stop.BadWords h on = absurd h
+  ends_so (stop.BadInput cause) h on = absurd h
+  ends_so (stop.NoSuch why) h on = absurd h
+  ends_so (stop.Damaged sequence kind) h on = (
+    inr (inl (refl, record { script = script; has = has }, record { sequence = sequence; kind = kind; reads = h; line_is = refl })),
+    record { source = fine; store = inl h.only_read.faults },
+  )
+  ends_so stop.SourceFailed h on = absurd h
+  ends_so stop.StoreFailed h on =
+      (inr (inr (inr (refl, record { script = script; has = has }, record { failed = h; line_is = refl }))), fine)
+  ends_so (stop.NotEmpty blocks) h on = absurd h
+  ends_so (stop.NotAccepted fault) h on = absurd h
+  ends_so stop.OutOfMemory h on = record { source = fine; store = tells_so on.terms on.are (on.is.tells refl) }
+
+  pub works_run : (came : Result (List ℕ) CommandFault) → IfOk came (λ text. IsOnTerms o x.clock (Reported text))
+      → IfErr came (λ why. IsOnTerms o x.clock (Ended why)) → IfErr came (λ why. IsLoadStop why x.store)
+      → Works same (Some (command.Run o)) came x
+  works_run (Ok text) done ended stops = (
+    record { script = script; has = has; terms = done.terms; are = done.are; reported = done.is },
+    record {
+      source = fine;
+      store = tells_so done.terms done.are
+          (inr (done_tells done.terms o.workers (all_placed script) x.store done.is.told done.is.done));
+    },
+  )
+  works_run (Err why) done ended stops = ends_so why stops ended
+
+  left_so : (terms : Terms) → AreTerms o x.clock terms → LeavesJobs o.workers (all_placed script) x.store terms → LeavesRun o x
   left_so terms are (inl is) = inl is
   left_so terms are (inr run) = inr (record { script = script; has = has; terms = terms; are = are; holds = run })
 
-  pub keeps_run : (came : Result (List ℕ) Stop)
-      → IfOk came (λ text. IsSoOnTerms mask o.time between x.clock.after (λ terms. IsReportOf terms o.workers (all_placed script) x.store text))
-      → OnErr came (IsSoOnTerms mask o.time between x.clock.after (λ terms. Leaves o.workers (all_placed script) x.store terms)) → LeavesRun o x
-  keeps_run (Ok text) done left =
-      let told = on (λ terms. IsReportOf terms o.workers (all_placed script) x.store text) done in
-      left_so told.terms told.are (inr (reported_holds told.terms o.workers (all_placed script) x.store text told.is))
-  keeps_run (Err why) done left =
-      let told = on (λ terms. Leaves o.workers (all_placed script) x.store terms) left in
-      left_so told.terms told.are told.is
+  pub keeps_run : (came : Result (List ℕ) CommandFault) → IfOk came (λ text. IsOnTerms o x.clock (Reported text))
+      → IfErr came (λ why. IsOnTerms o x.clock (Ended why)) → LeavesRun o x
+  keeps_run (Ok text) done ended =
+      left_so done.terms done.are (inr (reported_holds done.terms o.workers (all_placed script) x.store text done.is))
+  keeps_run (Err why) done ended = left_so ended.terms ended.are ended.is.left
 
 -- ---- no script
 
-pub works_unread : (same : Type 0) (o : RunOptions) (x : Outside) (why : Stop) → IsUncalled same x.store → IsReadStop why x.source
+unfailed : (same : Type 0) (x : Outside) → IsUncalled same x.store → x.store.after.faults ≡ x.store.before.faults
+unfailed same x un = ap (λ (t : StoreTold). t.faults) un.told
+
+pub works_unread : (same : Type 0) (o : RunOptions) (x : Outside) (why : CommandFault) → IsUncalled same x.store → IsReadStop why x.source
     → Works same (Some (command.Run o)) (Err why) x
-works_unread same o x (stop.BadInput cause) un h = ((record { cause = _; is = h.0; line_is = refl }, un), h.1)
+works_unread same o x stop.BadWords un h = absurd h
+works_unread same o x (stop.BadInput cause) un h =
+    (inl (refl, record { cause = _; is = h.0; line_is = refl }, un), record { source = h.1; store = inl (unfailed same x un) })
 works_unread same o x (stop.NoSuch why) un h = absurd h
 works_unread same o x (stop.Damaged sequence kind) un h = absurd h
-works_unread same o x stop.SourceFailed un h = (record { failed = h; line_is = refl }, un)
+works_unread same o x stop.SourceFailed un h =
+    (inr (inr (inl (refl, record { failed = h; line_is = refl }, un))), inl (unfailed same x un))
 works_unread same o x stop.StoreFailed un h = absurd h
 works_unread same o x (stop.NotEmpty blocks) un h = absurd h
 works_unread same o x (stop.NotAccepted fault) un h = absurd h
-works_unread same o x stop.OutOfMemory un h = h
+works_unread same o x stop.OutOfMemory un h = record { source = h; store = inl (unfailed same x un) }
 
 -- ---- the clock
+
+pub not_none : (time : Option ℤ) → time ≡ None → is_none time ≡ false → ⊥
+not_none None is f = cc
+not_none (Some ms) is f = cc
 
 -- where the words give the time and the ids, the clock isn't asked
 pub unasked : {C : Type 0} (time : Option ℤ) (source : IdSource) (a b c : C) → IsAsked source a b → (is_none time ≡ false → c ≡ b)

@@ -1,27 +1,27 @@
 -- What is so where a command ends, by its exit status.
-use Rattle.std.proofs.Common.{◌≡◌, ℕ, List, [], length, take_all, arith, ap, sym, refl, subst, inl, inr, ◌⊎◌, Option, Some, None, Result, Ok, Err}
+use Rattle.std.proofs.Common.{◌≡◌, ◌∙◌, ℕ, List, [], length, arith, ap, sym, refl, subst, inl, inr, ◌⊎◌, Option, Some, None, Result, Ok, Err}
 use Rattle.std.specs.Prelude.{codes, option_map}
 use Rattle.std.specs.Io.KnownBytes.{Consumes}
 use Rattle.outside.specs.Store.{Content}
 use Rattle.outside.specs.Told.{SourceTold, SinkTold, StoreTold, held}
 use Rattle.cli_args.specs.declared.Command.{Command}
 use Rattle.cli_args.specs.declared.Command.TheVariants as command
-use Rattle.laws_history.specs.Calls.{Span, span}
-use Rattle.laws_history.specs.Streams.{TakesFew, Writes, WritesPart, BreaksOff, WritesLine}
-use Rattle.cli_model.specs.Calls.{Outside, Call}
-use Rattle.cli_model.specs.Inputs.{IsIdle}
-use Rattle.cli_model.specs.Journals.{IsUncalled}
-use Rattle.cli_model.specs.Lines.{words_line, faults_line, memory_line}
 use Rattle.cli_args.specs.declared.RunOptions.{RunOptions}
+use Rattle.laws_history.specs.Calls.{Span, span}
+use Rattle.laws_history.specs.Streams.{TakesFew}
+use Rattle.cli_model.specs.Calls.{Outside, Call}
+use Rattle.cli_model.specs.Claims as top
+use Rattle.cli_model.specs.Inputs.{IsFine, IsIdle}
+use Rattle.cli_model.specs.Lines.{faults_line, memory_line}
 use Rattle.cli_model.specs.Runs.{LeavesRun}
-use Rattle.cli_model.specs.Top.{Gives, Refuses, Keeps, Ends, HidesNone, Does, asked_by}
-use Rattle.cli_model.specs.Top as top
+use Rattle.cli_model.specs.Stores.{IsUncalled}
+use Rattle.cli_model.specs.Top.{Gives, Refuses, Keeps, Ends, RunsOut, TellsStore, WritesLast, Does, asked_by}
+use Rattle.cli_model.specs.Written.{WritesLine, RunsOutIn}
 use Rattle.ledger_cli.specs.declared.ends.Status.{Status}
 use Rattle.ledger_cli.specs.declared.ends.Status.TheVariants as status
-use Rattle.ledger_cli.specs.declared.stop.Stop.{Stop}
-use Rattle.ledger_cli.specs.declared.stop.Stop.TheVariants as stop
-use Rattle.ledger_cli.specs.Ends.{EndsBy, IsLine, IsOwnLine, IsWanted, IsOutputEnd, Works, status_of}
-use Rattle.ledger_cli.specs.Inputs.{IsFine}
+use Rattle.ledger_cli.specs.declared.command_fault.CommandFault.{CommandFault}
+use Rattle.ledger_cli.specs.declared.command_fault.CommandFault.TheVariants as stop
+use Rattle.ledger_cli.specs.Ends.{EndsBy, IsLine, IsOwnLine, IsOutputEnd, IsTold, Works, WritesMemoryLine, status_of}
 
 -- ---- the store and the source
 
@@ -57,101 +57,102 @@ module _ (same : Type 0) (what : Option Command) (x : Outside) (sink : Span Sink
   abbrev EndsSo : Status → Type 0
   EndsSo s = Ends same what x sink (status_of s)
 
-  -- where memory was wanted
-  want_ends : (s : Status) → s ≡ status.OutOfMemory → HidesNone x sink → EndsSo s
-  want_ends s is hides = subst (λ (t : Status). EndsSo t) (sym is) hides
+  -- if memory ran out
+  runs_out : (s : Status) → s ≡ status.OutOfMemory → RunsOut same what x sink → EndsSo s
+  runs_out s is out = subst (λ (t : Status). EndsSo t) (sym is) out
+
+  -- no failure is hidden
+  told_out : IsTold what x → WritesLast same what x sink → RunsOut same what x sink
+  told_out told last = record { last = last; of_source = inl told.source; of_store = inl told.store }
+
+  last_line : WritesMemoryLine sink → WritesLast same what x sink
+  last_line (inl line) = inr (inr (inl line))
+  last_line (inr out) = inr (inr (inr out))
 
   -- by its output
-  output_ends : (s : Status) (text : List ℕ) → Gives what x text → IsFine x.source → IsOutputEnd s sink text → EndsSo s
-  output_ends s text given read end =
-      elim end.known [
-        | inl is ↦ subst (λ (t : Status). EndsSo t) (sym is) (record { text = text; given = given; written = end.done is })
-        | inr other ↦
-            elim other [
-              | inl is ↦
-                  subst (λ (t : Status). EndsSo t) (sym is) (record { text = text; given = given; written = end.part }, end.failed is)
-              | inr is ↦ want_ends s is (record { of_source = inl read; of_sink = inl (end.wanted is) })
-            ]
-      ]
+  output_ends : (s : Status) (text : List ℕ) → Gives what x text → IsTold what x → IsOutputEnd s sink text → EndsSo s
+  output_ends s text given told (inl all) =
+      subst (λ (t : Status). EndsSo t) (sym all.0) (record { text = text; given = given; written = all.1 }, told.source)
+  output_ends s text given told (inr (inl fails)) =
+      subst (λ (t : Status). EndsSo t) (sym fails.0) (record { text = text; given = given; written = fails.1 }, told.source)
+  output_ends s text given told (inr (inr out)) =
+      runs_out s out.0 (told_out told (inl (record { text = text; given = given; written = out.1 })))
 
-  -- by an error line, unless memory is wanted
-  line_ends : (s t : Status) (text : List ℕ) → IsLine s t sink text → (WritesLine sink text → EndsSo t) → IsFine x.source → EndsSo s
-  line_ends s t text either ends read =
-      elim either [
-        | inl written ↦ subst (λ (y : Status). EndsSo y) (sym written.0) (ends written.1)
-        | inr want ↦ want_ends s want.0 (record { of_source = inl read; of_sink = want.1 })
-      ]
+  module _ (s t : Status) (text : List ℕ) (cause : Refuses same what x (status_of t) text) where
+    -- the sink had no memory for the line
+    broken : RunsOutIn sink text → WritesLast same what x sink
+    broken out = inr (inl (status_of t, record { line = text; cause = cause; written = out }))
 
-  -- by one that takes no memory but the sink's
-  pub own_line_ends : (s t : Status) (text : List ℕ) → IsOwnLine s t sink text → (WritesLine sink text → EndsSo t)
-      → IsFine x.source ⊎ (text ≡ faults_line (codes "4") x.source.after.faults) → EndsSo s
-  own_line_ends s t text either ends read =
-      elim either [
-        | inl written ↦ subst (λ (y : Status). EndsSo y) (sym written.0) (ends written.1)
-        | inr want ↦
-            want_ends s want.0
-            (record {
-              of_source = elim read [
-                | inl fine ↦ inl fine
-                | inr is ↦ inr (subst (λ (l : List ℕ). BreaksOff sink l) is want.2)
-              ];
-              of_sink = inl want.1;
-            })
-      ]
+    -- by an error line that takes no memory but the sink's
+    own_line_ends : IsOwnLine s t sink text → (WritesLine sink text → EndsSo t) → (RunsOutIn sink text → RunsOut same what x sink) → EndsSo s
+    own_line_ends (inl line) ends out = subst (λ (y : Status). EndsSo y) (sym line.0) (ends line.1)
+    own_line_ends (inr part) ends out = runs_out s part.0 (out part.1)
 
-  pub by_work : (came : Result (List ℕ) Stop) (s : Status) → Works same what came x
+    -- by one that takes memory, too
+    line_ends : IsLine s t sink text → IsTold what x → (WritesLine sink text → EndsSo t) → EndsSo s
+    line_ends (inl own) told ends = own_line_ends own ends (λ out. told_out told (broken out))
+    line_ends (inr want) told ends = runs_out s want.0 (told_out told (last_line want.1))
+
+  pub by_work : (came : Result (List ℕ) CommandFault) (s : Status) → Works same what came x
       → EndsBy came s x.source.after.faults x.store.after.faults sink → EndsSo s
   by_work (Ok text) s works end = output_ends s text works.0 works.1 end
+  by_work (Err stop.BadWords) s works end =
+      own_line_ends s status.BadWords _ works.0 end (λ line. (record { line = _; cause = works.0; written = line }, works.1.source))
+      (λ out. told_out works.1 (broken s status.BadWords _ works.0 out))
   by_work (Err (stop.BadInput cause)) s works end =
-      line_ends s status.BadInput _ end (λ line. record { line = _; cause = works.0; written = line }) works.1
+      line_ends s status.BadInput _ works.0 end works.1 (λ line. (record { line = _; cause = works.0; written = line }, works.1.source))
   by_work (Err (stop.NoSuch why)) s works end =
-      line_ends s status.BadInput _ end (λ line. record { line = _; cause = works.0; written = line }) works.1
+      line_ends s status.BadInput _ works.0 end works.1 (λ line. (record { line = _; cause = works.0; written = line }, works.1.source))
   by_work (Err (stop.Damaged sequence kind)) s works end =
-      line_ends s status.Damaged _ end (λ line. record { line = _; cause = works.0; written = line }) works.1
+      line_ends s status.Damaged _ works.0 end works.1 (λ line. (record { line = _; cause = works.0; written = line }, works.1.source))
   by_work (Err stop.SourceFailed) s works end =
-      own_line_ends s status.SourceFailed _ end (λ line. record { line = _; cause = works; written = line }) (inr refl)
+      own_line_ends s status.SourceFailed _ works.0 end (λ line. record { line = _; cause = works.0; written = line })
+      (λ out. record { last = broken s status.SourceFailed _ works.0 out; of_source = inr out; of_store = inl works.1 })
   by_work (Err stop.StoreFailed) s works end =
-      own_line_ends s status.StoreFailed _ end (λ line. record { line = _; cause = works.0; written = line }) (inl works.1)
+      own_line_ends s status.StoreFailed _ works.0 end (λ line. (record { line = _; cause = works.0; written = line }, works.1))
+      (λ out. record { last = broken s status.StoreFailed _ works.0 out; of_source = inl works.1; of_store = inr out })
   by_work (Err (stop.NotEmpty blocks)) s works end =
-      line_ends s status.BadInput _ end (λ line. record { line = _; cause = works.0; written = line }) works.1
+      line_ends s status.BadInput _ works.0 end works.1 (λ line. (record { line = _; cause = works.0; written = line }, works.1.source))
   by_work (Err (stop.NotAccepted fault)) s works end =
-      line_ends s status.NotAccepted _ end (λ line. record { line = _; cause = works.0; written = line }) works.1
-  by_work (Err stop.OutOfMemory) s works end = want_ends s end.0 (record { of_source = inl works; of_sink = end.1 })
+      line_ends s status.NotAccepted _ works.0 end works.1 (λ line. (record { line = _; cause = works.0; written = line }, works.1.source))
+  by_work (Err stop.OutOfMemory) s works end = runs_out s end.0 (told_out works (last_line end.1))
 
-  -- where memory was wanted for the words
-  pub wanted_ends : (s : Status) → s ≡ status.OutOfMemory → IsWanted sink → IsIdle x.source → EndsSo s
-  wanted_ends s is want idle = want_ends s is (record { of_source = inl (ap (λ (t : SourceTold). t.faults) idle); of_sink = want })
+-- ---- words that ask for nothing
 
--- words that ask for nothing
-pub refused_ends : (same : Type 0) (x : Outside) (sink : Span SinkTold) (s : Status) → IsOwnLine s status.BadWords sink words_line → IsIdle x.source
-    → Ends same None x sink (status_of s)
-refused_ends same x sink s line idle =
-    own_line_ends same None x sink s status.BadWords words_line line (λ written. record { line = words_line; cause = refl; written = written })
-    (inl (ap (λ (t : SourceTold). t.faults) idle))
+-- neither the source nor the store failed
+pub idle_told : (same : Type 0) (what : Option Command) (x : Outside) → IsUncalled same x.store → IsIdle x.source → IsTold what x
+idle_told same what x un idle = record {
+  source = ap (λ (t : SourceTold). t.faults) idle;
+  store = inl (ap (λ (t : StoreTold). t.faults) un.told);
+}
+
+pub wanted_works : (same : Type 0) (what : Option Command) (x : Outside) → IsUncalled same x.store → IsIdle x.source
+    → Works same what (Err stop.OutOfMemory) x
+wanted_works same what x un idle = idle_told same what x un idle
+
+pub refused_works : (same : Type 0) (what : Option Command) (x : Outside) → what ≡ None → IsUncalled same x.store → IsIdle x.source
+    → Works same what (Err stop.BadWords) x
+refused_works same what x is un idle =
+    subst (λ (w : Option Command). Works same w (Err stop.BadWords) x) (sym is) ((refl, refl), idle_told same None x un idle)
+
+pub refused_keeps : (same : Type 0) (what : Option Command) (x : Outside) → what ≡ None → IsUncalled same x.store → IsIdle x.source
+    → Keeps same what x
+refused_keeps same what x is un idle = subst (λ (w : Option Command). Keeps same w x) (sym is) (un, idle)
 
 -- ---- the error lines
 
--- the whole of a text is a part of it
-whole_part : (sink : Span SinkTold) (text : List ℕ) → Writes sink text → WritesPart sink text
-whole_part sink text all = (length text, subst (λ (t : List ℕ). Writes sink t) (sym (take_all (length text) text (omega arith))) all)
+-- the line that says that memory ran out
+pub memory_line_of : (s : Status) (sink : Span SinkTold) → IsOwnLine s status.OutOfMemory sink memory_line → WritesMemoryLine sink
+memory_line_of s sink (inl line) = inl line.1
+memory_line_of s sink (inr out) = inr out.1
 
-part_of_line : (sink : Span SinkTold) → WritesLine sink memory_line → IsWanted sink
-part_of_line sink (inl all) = inr (whole_part sink memory_line all)
-part_of_line sink (inr part) = inr part.1
-
--- the line that says that memory was wanted
-pub wanted_line : (s : Status) (sink : Span SinkTold) → IsOwnLine s status.OutOfMemory sink memory_line → IsWanted sink
-wanted_line s sink (inl written) = part_of_line sink written.1
-wanted_line s sink (inr want) = inl want.1
+pub own_memory : (s : Status) (sink : Span SinkTold) → IsOwnLine s status.OutOfMemory sink memory_line → s ≡ status.OutOfMemory
+own_memory s sink (inl line) = line.0
+own_memory s sink (inr out) = out.0
 
 -- a line that was made
 pub made_line : (s own : Status) (sink : Span SinkTold) (made text : List ℕ) → made ≡ text → IsOwnLine s own sink made → IsLine s own sink text
-made_line s own sink made text is (inl written) = inl (written.0, subst (λ (t : List ℕ). WritesLine sink t) is written.1)
-made_line s own sink made text is (inr want) = inr (want.0, inl want.1)
-
--- where there was no memory for it
-pub unmade_line : (s own : Status) (sink : Span SinkTold) (text : List ℕ) → s ≡ status.OutOfMemory → IsWanted sink → IsLine s own sink text
-unmade_line s own sink text is want = inr (is, want)
+made_line s own sink made text is line = inl (subst (λ (t : List ℕ). IsOwnLine s own sink t) is line)
 
 -- the same line
 pub same_line : (s own : Status) (sink : Span SinkTold) (made text : List ℕ) → made ≡ text → IsOwnLine s own sink made → IsOwnLine s own sink text
@@ -159,12 +160,13 @@ same_line s own sink made text is line = subst (λ (t : List ℕ). IsOwnLine s o
 
 -- ---- the whole call
 
-pub does_so : (same : Type 0) (call : Call) (what : Option Command) (s : Status) → asked_by call ≡ what → Ends same what call.told call.sink (status_of s)
-    → Keeps same what call.told → TakesFew call.told.source → Does same call (top.number_of (status_of s))
-does_so same call what s is ends keeps few = record {
+pub does_so : (same : Type 0) (call : Call) (s : Status) (n : ℕ) → n ≡ top.number_of (status_of s)
+    → Ends same (asked_by call) call.told call.sink (status_of s) → Keeps same (asked_by call) call.told → TakesFew call.told.source
+    → Does same call n
+does_so same call s n is ends keeps few = record {
   status = status_of s;
-  number_is = refl;
-  ends = subst (λ (x : Option Command). Ends same x call.told call.sink (status_of s)) (sym is) ends;
-  keeps = subst (λ (x : Option Command). Keeps same x call.told) (sym is) keeps;
+  number_is = is;
+  ends = ends;
+  keeps = keeps;
   few = few;
 }

@@ -12,7 +12,7 @@ use Rattle.ledger_model.specs.Recovered.{has_no_line_feed}
 use Rattle.outside.specs.Told.{StoreTold}
 use Rattle.laws_history.specs.Stores.{HoldsBehind, HasJournal, Holding, HoldingWithRest, IsSynced}
 use Rattle.laws_history.proofs.Stored.{all-HoldingWithRest, journal-HoldingWithRest, part_of_line}
-use Rattle.ledger_core.specs.Loads.{IsLoaded}
+use Rattle.journal_reader.specs.Loads.{IsLoaded}
 use Rattle.ledger_shared.specs.Rests.{HoldsRest}
 
 pub loaded_journal : (held : Option (List ℕ)) (blocks : List Block) (marked : Bool) → IsLoaded held blocks marked → HasJournal blocks held

@@ -1,6 +1,6 @@
 -- The run on a journal that was loaded, from its outcomes to what is told of the whole.
-use Rattle.std.proofs.Common.{◌≡◌, ℕ, ℤ, ◌<◌, ◌≤◌, true, List, [], ◌∷◌, ◌++◌, length, take, take_all, drop, refl, sym, ap, subst, arith, Option, Result, Ok, Err, ◌⊎◌, inl, inr, Contains}
-use Rattle.std.specs.Prelude.{IfOk, IfErr, IfSome, OnErr}
+use Rattle.std.proofs.Common.{◌≡◌, ◌∙◌, ℕ, ℤ, ◌<◌, ◌≤◌, true, List, [], ◌∷◌, ◌++◌, length, take, take_all, drop, refl, sym, ap, subst, arith, Option, Result, Ok, Err, ◌⊎◌, inl, inr, Contains}
+use Rattle.std.specs.Prelude.{IfOk, IfErr, IfSome}
 use Rattle.std.specs.List.{AllByRecursion}
 use Rattle.std.proofs.lemmas.List.{drop_all}
 use Rattle.ion_values.specs.declared.value.Value.{Value}
@@ -21,28 +21,30 @@ use Rattle.laws_history.specs.Records.{RunRecord, FitsBlocks, HaveTimes, InSessi
 use Rattle.laws_history.specs.Stores.{HasJournal, HoldingWithRest, IsSynced}
 use Rattle.laws_history.proofs.BlocksFit.{FitsBlocks-same}
 use Rattle.laws_history.proofs.Stored.{all-HoldingWithRest}
-use Rattle.cli_model.specs.Runs.{Terms, IsDone, IsOfRun, IsReportOf, HoldsRun}
-use Rattle.cli_model.proofs.Holding.{done_leaves}
+use Rattle.cli_model.specs.Runs.{Terms, IsDone, IsOfRun, IsReportOf, HoldsRunAfter, TellsRun}
+use Rattle.cli_model.specs.Stores.{IsUnfailed}
+use Rattle.cli_model.proofs.Holding.{done_leaves, done_tells}
 use Rattle.laws_history.specs.Alone.{RunsInOrder}
 use Rattle.laws_history.specs.Claims.{Fits, IsOfOwnDigest}
+use Rattle.laws_history.specs.Runs.{WasRun}
 use Rattle.laws_history.specs.Tried.{tried_in}
 use Rattle.ledger_core.specs.Faults.{IsSettleFault}
-use Rattle.ledger_core.specs.Loads.{IsCause}
+use Rattle.journal_reader.specs.Loads.{IsCause}
 use Rattle.ledger_core.specs.Tails.{MayBeCut, TailHeld}
 use Rattle.ledger_core.specs.declared.keeping.SettleFault.{SettleFault}
 use Rattle.ledger_core.specs.declared.keeping.SettleFault.TheVariants as settle
-use Rattle.ledger_core.specs.declared.reload.LoadCause.{LoadCause}
-use Rattle.ledger_core.specs.declared.reload.LoadCause.TheVariants as load
+use Rattle.journal_reader.specs.declared.cause.LoadCause.{LoadCause}
+use Rattle.journal_reader.specs.declared.cause.LoadCause.TheVariants as load
 use Rattle.ledger_shared.specs.Behind.{Keeps}
 use Rattle.ledger_shared.specs.Ran.{AllHaveRun}
-use Rattle.ledger_cli.specs.declared.stop.Stop.{Stop}
-use Rattle.ledger_cli.specs.declared.stop.Stop.TheVariants as stop
+use Rattle.ledger_cli.specs.declared.command_fault.CommandFault.{CommandFault}
+use Rattle.ledger_cli.specs.declared.command_fault.CommandFault.TheVariants as stop
 use Rattle.ledger_cli.specs.Clocks.{AreCovered, ClockTold, Covers, GoesOn, clock_told}
-use Rattle.ledger_cli.specs.Runs.{Comes, HasLoaded, HasSettled, HasStopped, IsSettled, Reports, Settles}
+use Rattle.ledger_cli.specs.Runs.{Comes, HasLoaded, HasSettled, HasStopped, IsEnded, IsSettled, Reports, Settles, TellsJobs}
 use Rattle.ledger_cli.specs.Stops.{IsLoadStop, IsTailStop, load_stop, settle_stop}
 use Rattle.ledger_cli.proofs.Ending.{same_held}
 use Rattle.ledger_cli.proofs.Leaving.{cut_by, left_by, loaded_journal}
-use Rattle.ledger_cli.proofs.Running.{clock_goes, later_faults, masked, record_of, run_fits, run_in_order, run_record, tried_fits}
+use Rattle.ledger_cli.proofs.Running.{clock_goes, is_run, later_faults, masked, record_of, run_fits, run_in_order, run_record, tried_fits}
 
 -- ---- a journal that was not loaded
 
@@ -52,16 +54,28 @@ unloaded_cause (load.Damaged sequence kind) before after same h = record { damag
 unloaded_cause (load.StoreFault count) before after same h = record { rose = omega (arith, h.rose, h.count_is); last = h.last }
 unloaded_cause load.OutOfMemory before after same h = tt
 
-pub unloaded_done : {A : Type 0} (P : A → Type 0) (r : Result A Stop) (why : Stop) → r ≡ Err why → IfOk r P
-unloaded_done {A} P r why is = subst (λ (x : Result A Stop). IfOk x P) (sym is) tt
+pub unloaded_done : {A : Type 0} (P : A → Type 0) (r : Result A CommandFault) (why : CommandFault) → r ≡ Err why → IfOk r P
+unloaded_done {A} P r why is = subst (λ (x : Result A CommandFault). IfOk x P) (sym is) tt
 
-pub unloaded_left : {A : Type 0} (Q : Type 0) (r : Result A Stop) (why : Stop) → r ≡ Err why → Q → OnErr r Q
-unloaded_left {A} Q r why is h = subst (λ (x : Result A Stop). OnErr x Q) (sym is) h
+unloaded_tells : (workers : ℕ) (jobs : List Placed) (terms : Terms) (cause : LoadCause) (before after : StoreTold) → IsCause cause before after
+    → load_stop cause ≡ stop.OutOfMemory → TellsJobs workers jobs (span before after) terms
+unloaded_tells workers jobs terms (load.Damaged sequence kind) before after h e = inl h.1
+unloaded_tells workers jobs terms (load.StoreFault count) before after h e = let bad : ⊥ = cc e in absurd bad
+unloaded_tells workers jobs terms load.OutOfMemory before after h e = inl h
 
-pub unloaded_stop : {A : Type 0} (r : Result A Stop) (cause : LoadCause) (before after : StoreTold) → r ≡ Err (load_stop cause)
+pub unloaded_ended : (Q : Terms → Type 0) (workers : ℕ) (jobs : List Placed) (r : Result (List ℕ) CommandFault) (cause : LoadCause) (before after : StoreTold)
+    → r ≡ Err (load_stop cause) → after.content ≡ before.content → IsCause cause before after
+    → IfErr r (λ why. (terms : Terms) → Q terms → IsEnded why workers jobs (span before after) terms)
+unloaded_ended Q workers jobs r cause before after is same h =
+    subst
+    (λ (x : Result (List ℕ) CommandFault). IfErr x (λ why. (terms : Terms) → Q terms → IsEnded why workers jobs (span before after) terms))
+    (sym is)
+    (λ terms q. record { left = inl (same_held before after same); tells = unloaded_tells workers jobs terms cause before after h })
+
+pub unloaded_stop : {A : Type 0} (r : Result A CommandFault) (cause : LoadCause) (before after : StoreTold) → r ≡ Err (load_stop cause)
     → after.content ≡ before.content → IsCause cause before after → IfErr r (λ why. IsLoadStop why (span before after))
 unloaded_stop {A} r cause before after is same h =
-    subst (λ (x : Result A Stop). IfErr x (λ why. IsLoadStop why (span before after))) (sym is) (unloaded_cause cause before after same h)
+    subst (λ (x : Result A CommandFault). IfErr x (λ why. IsLoadStop why (span before after))) (sym is) (unloaded_cause cause before after same h)
 
 -- ---- a journal that was loaded
 
@@ -70,8 +84,9 @@ synced_content before after same is =
     subst (λ (c : Option Content). IfSome c (λ content. content.synced ≡ length content.bytes)) (sym same) is
 
 -- a failure after a later time is one after an earlier time
-later_stop : (why : Stop) (before ran after : StoreTold) → before.faults ≤ ran.faults → IsTailStop why (span ran after)
+later_stop : (why : CommandFault) (before ran after : StoreTold) → before.faults ≤ ran.faults → IsTailStop why (span ran after)
     → IsLoadStop why (span before after)
+later_stop stop.BadWords before ran after low h = absurd h
 later_stop (stop.BadInput cause) before ran after low h = absurd h
 later_stop (stop.NoSuch why) before ran after low h = absurd h
 later_stop (stop.Damaged sequence kind) before ran after low h = absurd h
@@ -83,7 +98,7 @@ later_stop stop.OutOfMemory before ran after low h = tt
 
 pub settle_stops : (why : SettleFault) (ran now : StoreTold) → IsSettleFault why ran now → IsTailStop (settle_stop why) (span ran now)
 settle_stops (settle.StoreFault count) ran now h = record { rose = omega (arith, h.rose, h.count_is); last = h.last }
-settle_stops settle.OutOfMemory ran now h = tt
+settle_stops settle.OutOfMemory ran now h = h
 
 module _ {S C : Type 0} (told : S → StoreTold) (answers : C → Option (List ℤ)) (always : C → Option ℤ) (given : ℕ) (before : StoreTold)
     (opened : TailHeld S C) (has : HasLoaded told given before opened) (workers : ℕ) (some : 0 < workers) (jobs : List Placed) (in_order : InOrder jobs) where
@@ -119,9 +134,10 @@ module _ {S C : Type 0} (told : S → StoreTold) (answers : C → Option (List �
     -- the store holds these blocks and a rest
     leaves : (after : StoreTold) (blocks : List Block) (outcomes : List PlacedOutcome) (closed : ℕ) → FitsBlocks (run_of blocks outcomes closed)
         → AllByRecursion (IsOfOwnDigest jobs) (drop (length opened.standing.blocks) blocks) → HoldingWithRest blocks (held after)
-        → HoldsRun terms workers jobs (span before after)
+        → HoldsRunAfter opened.standing.blocks terms workers jobs (span before after)
     leaves after blocks outcomes closed fits digests holding = record {
       told = run_of blocks outcomes after.faults;
+      before_is = refl;
       left = record {
         of_run = of_run after blocks outcomes;
         fits = FitsBlocks-same (run_of blocks outcomes closed) outcomes after.faults fits;
@@ -147,18 +163,22 @@ module _ {S C : Type 0} (told : S → StoreTold) (answers : C → Option (List �
     }
 
     none_holds : (now : TailHeld S C) → now.standing.blocks ≡ opened.standing.blocks
-        → HoldingWithRest now.standing.blocks (held (told now.store)) → HoldsRun terms workers jobs (span before (told now.store))
+        → HoldingWithRest now.standing.blocks (held (told now.store)) → HoldsRunAfter opened.standing.blocks terms workers jobs (span before (told now.store))
     none_holds now same holds =
         leaves (told now.store) opened.standing.blocks [] before.faults none_fits
         (subst (λ (bs : List Block). AllByRecursion (IsOfOwnDigest jobs) bs) (sym none_made) tt)
         (subst (λ (bs : List Block). HoldingWithRest bs (held (told now.store))) same holds)
 
     none_left : (law : (v : Value) → has_no_line_feed (value_text v) ≡ true) (now : TailHeld S C) → Keeps told answers always opened now []
-        → HoldsRun terms workers jobs (span before (told now.store))
+        → HoldsRunAfter opened.standing.blocks terms workers jobs (span before (told now.store))
     none_left law now keeps =
         left_by (held (told opened.store)) (held (told now.store)) opened.standing.blocks now.standing.blocks [] journal keeps.rest law
-        (HoldsRun terms workers jobs (span before (told now.store))) (none_holds now keeps.behind.blocks)
+        (HoldsRunAfter opened.standing.blocks terms workers jobs (span before (told now.store))) (none_holds now keeps.behind.blocks)
         (λ b among sound holds. absurd (omega (arith, among.1)))
+
+    -- so it has not failed
+    none_tells : (now : TailHeld S C) → Keeps told answers always opened now [] → IsUnfailed (span before (told now.store))
+    none_tells now keeps = sym keeps.behind.counts ∙ has.faults
 
     -- ---- all jobs were run
 
@@ -172,6 +192,22 @@ module _ {S C : Type 0} (told : S → StoreTold) (answers : C → Option (List �
 
       ordered : workers ≡ 1 → RunsInOrder (run_of ran.standing.blocks outcomes failed)
       ordered = run_in_order told answers always given before opened has workers some jobs in_order terms masks ran outcomes all covered
+
+      -- the store has failed as often as their outcomes say, if it didn't fail since
+      ran_tells : (now : TailHeld S C) → (told now.store).faults ≡ failed → TellsRun terms workers jobs (span before (told now.store))
+      ran_tells now same = record {
+        told = run_of ran.standing.blocks outcomes (told now.store).faults;
+        of_run = of_run (told now.store) ran.standing.blocks outcomes;
+        fits = subst (λ (n : ℕ). Fits (run_of ran.standing.blocks outcomes n)) (sym same) fits;
+      }
+
+      was_run : WasRun (run_of ran.standing.blocks outcomes failed)
+      was_run = record {
+        served = all.served;
+        entries = all.entries;
+        pass_of = all.pass_of;
+        by = is_run told answers always given before opened has workers some jobs in_order terms masks ran outcomes all covered;
+      }
 
       -- and settled
       module _ (now : TailHeld S C) (settled : IsSettled told ran now) where
@@ -187,6 +223,7 @@ module _ {S C : Type 0} (told : S → StoreTold) (answers : C → Option (List �
         is_done : IsDone terms workers jobs (span before (told now.store)) (run_of now.standing.blocks outcomes (told now.store).faults)
         is_done = record {
           of_run = of_run (told now.store) now.standing.blocks outcomes;
+          run = as_settled WasRun was_run;
           fits = as_settled Fits fits;
           in_order = λ one. as_settled RunsInOrder (ordered one);
           holding = settled.holds;
@@ -195,20 +232,20 @@ module _ {S C : Type 0} (told : S → StoreTold) (answers : C → Option (List �
 
       -- or not
       module _ (law : (v : Value) → has_no_line_feed (value_text v) ≡ true) (now : TailHeld S C) where
-        own_left : HoldingWithRest ran.standing.blocks (held (told now.store)) → HoldsRun terms workers jobs (span before (told now.store))
+        own_left : HoldingWithRest ran.standing.blocks (held (told now.store)) → HoldsRunAfter opened.standing.blocks terms workers jobs (span before (told now.store))
         own_left holds = leaves (told now.store) ran.standing.blocks outcomes failed fits.blocks fits.digests holds
 
         more_left : (b : Block) → Contains (tried_in all.entries) b → Undamaged (ran.standing.blocks ++ b ∷ [])
-            → HoldingWithRest (ran.standing.blocks ++ b ∷ []) (held (told now.store)) → HoldsRun terms workers jobs (span before (told now.store))
+            → HoldingWithRest (ran.standing.blocks ++ b ∷ []) (held (told now.store)) → HoldsRunAfter opened.standing.blocks terms workers jobs (span before (told now.store))
         more_left b among sound holds =
             let more = tried_fits told answers always given before opened has workers some jobs in_order terms masks ran outcomes all covered b among sound in
             leaves (told now.store) (ran.standing.blocks ++ b ∷ []) outcomes failed more.0 more.1 holds
 
         cut_left : MayBeCut (held (told ran.store)) (held (told now.store)) (length (journal_bytes ran.standing.blocks))
-            → HoldsRun terms workers jobs (span before (told now.store))
+            → HoldsRunAfter opened.standing.blocks terms workers jobs (span before (told now.store))
         cut_left (inl same) =
             left_by (held (told opened.store)) (held (told ran.store)) opened.standing.blocks ran.standing.blocks (tried_in all.entries) journal
-            all.keeps.rest law (HoldsRun terms workers jobs (span before (told now.store)))
+            all.keeps.rest law (HoldsRunAfter opened.standing.blocks terms workers jobs (span before (told now.store)))
             (λ holds. own_left (subst (λ (x : Option (List ℕ)). HoldingWithRest ran.standing.blocks x) (sym same) holds))
             (λ b among sound holds.
             more_left b among sound (subst (λ (x : Option (List ℕ)). HoldingWithRest (ran.standing.blocks ++ b ∷ []) x) (sym same) holds))
@@ -237,7 +274,7 @@ module _ {S C : Type 0} (told : S → StoreTold) (answers : C → Option (List �
   settled_done terms outcomes now is h =
       is_done terms is.given h.ran outcomes h.all (covered_then h.ran now terms h.settled.clock is) now h.settled
 
-  pub done_by : (now : TailHeld S C) (came : Result (List PlacedOutcome) Stop) (r : Result (List ℕ) Stop)
+  pub done_by : (now : TailHeld S C) (came : Result (List PlacedOutcome) CommandFault) (r : Result (List ℕ) CommandFault)
       → Settles told answers always workers jobs opened came now → Reports now.standing.blocks came r
       → IfOk r (λ text. (terms : Terms) → IsToldBy now terms → IsReportOf terms workers jobs (span before (told now.store)) text)
   done_by now (Ok outcomes) (Ok text) h reports = λ terms is. record {
@@ -250,47 +287,66 @@ module _ {S C : Type 0} (told : S → StoreTold) (answers : C → Option (List �
   done_by now (Err why) (Err other) h reports = tt
 
   module _ (law : (v : Value) → has_no_line_feed (value_text v) ≡ true) where
-    pub stopped_left : (now : TailHeld S C) (why : Stop) (terms : Terms) → IsToldBy now terms
+    pub stopped_left : (now : TailHeld S C) (why : CommandFault) (terms : Terms) → IsToldBy now terms
         → HasStopped told answers always workers jobs opened why now ⊎ ((why ≡ stop.OutOfMemory) × Keeps told answers always opened now [])
-        → HoldsRun terms workers jobs (span before (told now.store))
+        → HoldsRunAfter opened.standing.blocks terms workers jobs (span before (told now.store))
     stopped_left now why terms is (inl h) =
         cut_left terms is.given h.ran h.outcomes h.all (covered_then h.ran now terms h.stopped.clock is) law now h.stopped.cut
     stopped_left now why terms is (inr h) = none_left terms is.given law now h.1
 
-    pub left_at : (now : TailHeld S C) (came : Result (List PlacedOutcome) Stop) (r : Result (List ℕ) Stop)
-        → Settles told answers always workers jobs opened came now → Reports now.standing.blocks came r
-        → OnErr r ((terms : Terms) → IsToldBy now terms → HoldsRun terms workers jobs (span before (told now.store)))
-    left_at now (Ok outcomes) (Ok text) h reports = tt
-    left_at now (Ok outcomes) (Err why) h reports = λ terms is. record {
-      told = settled_record terms outcomes now;
-      left = done_leaves terms workers jobs (span before (told now.store)) (settled_record terms outcomes now) (settled_done terms outcomes now is h);
-    }
-    left_at now (Err why) (Ok text) h reports = tt
-    left_at now (Err why) (Err other) h reports = λ terms is. stopped_left now why terms is h
+    pub stopped_tells : (now : TailHeld S C) (why : CommandFault) (terms : Terms) → IsToldBy now terms
+        → HasStopped told answers always workers jobs opened why now ⊎ ((why ≡ stop.OutOfMemory) × Keeps told answers always opened now [])
+        → why ≡ stop.OutOfMemory → TellsJobs workers jobs (span before (told now.store)) terms
+    stopped_tells now why terms is (inl h) e =
+        inr (ran_tells terms is.given h.ran h.outcomes h.all (covered_then h.ran now terms h.stopped.clock is) now
+        (subst (λ (x : CommandFault). IsTailStop x (span (told h.ran.store) (told now.store))) e h.stopped.stop))
+    stopped_tells now why terms is (inr h) e = inl (none_tells terms is.given now h.1)
 
-  pub stopped_by : (now : TailHeld S C) (why : Stop)
+    stopped_ends : (now : TailHeld S C) (why : CommandFault) (terms : Terms) → IsToldBy now terms
+        → HasStopped told answers always workers jobs opened why now ⊎ ((why ≡ stop.OutOfMemory) × Keeps told answers always opened now [])
+        → IsEnded why workers jobs (span before (told now.store)) terms
+    stopped_ends now why terms is h =
+        let left = stopped_left now why terms is h in
+        record { left = inr (record { told = left.told; left = left.left }); tells = stopped_tells now why terms is h }
+
+    pub ended_at : (now : TailHeld S C) (came : Result (List PlacedOutcome) CommandFault) (r : Result (List ℕ) CommandFault)
+        → Settles told answers always workers jobs opened came now → Reports now.standing.blocks came r
+        → IfErr r (λ why. (terms : Terms) → IsToldBy now terms → IsEnded why workers jobs (span before (told now.store)) terms)
+    ended_at now (Ok outcomes) (Ok text) h reports = tt
+    ended_at now (Ok outcomes) (Err why) h reports = λ terms is.
+        let t = settled_record terms outcomes now in
+        let done = settled_done terms outcomes now is h in
+        record {
+          left = inr (record { told = t; left = done_leaves terms workers jobs (span before (told now.store)) t done });
+          tells = λ e. inr (done_tells terms workers jobs (span before (told now.store)) t done);
+        }
+    ended_at now (Err why) (Ok text) h reports = tt
+    ended_at now (Err why) (Err other) h reports = λ terms is.
+        subst (λ (x : CommandFault). IsEnded x workers jobs (span before (told now.store)) terms) (sym reports) (stopped_ends now why terms is h)
+
+  pub stopped_by : (now : TailHeld S C) (why : CommandFault)
       → HasStopped told answers always workers jobs opened why now ⊎ ((why ≡ stop.OutOfMemory) × Keeps told answers always opened now [])
       → IsLoadStop why (span before (told now.store))
   stopped_by now why (inl h) =
       let low = later_faults told answers always opened h.ran h.all.entries h.all.keeps in
       let same = has.faults in
       later_stop why before (told h.ran.store) (told now.store) (omega (arith, low, same)) h.stopped.stop
-  stopped_by now why (inr h) = subst (λ (x : Stop). IsLoadStop x (span before (told now.store))) (sym h.0) tt
+  stopped_by now why (inr h) = subst (λ (x : CommandFault). IsLoadStop x (span before (told now.store))) (sym h.0) tt
 
-  pub stop_at : (now : TailHeld S C) (came : Result (List PlacedOutcome) Stop) (r : Result (List ℕ) Stop)
+  pub stop_at : (now : TailHeld S C) (came : Result (List PlacedOutcome) CommandFault) (r : Result (List ℕ) CommandFault)
       → Settles told answers always workers jobs opened came now → Reports now.standing.blocks came r
       → IfErr r (λ why. IsLoadStop why (span before (told now.store)))
   stop_at now (Ok outcomes) (Ok text) h reports = tt
-  stop_at now (Ok outcomes) (Err why) h reports = subst (λ (x : Stop). IsLoadStop x (span before (told now.store))) (sym reports) tt
+  stop_at now (Ok outcomes) (Err why) h reports = subst (λ (x : CommandFault). IsLoadStop x (span before (told now.store))) (sym reports) tt
   stop_at now (Err why) (Ok text) h reports = tt
   stop_at now (Err why) (Err other) h reports =
-      subst (λ (x : Stop). IsLoadStop x (span before (told now.store))) (sym reports) (stopped_by now why h)
+      subst (λ (x : CommandFault). IsLoadStop x (span before (told now.store))) (sym reports) (stopped_by now why h)
 
 -- ---- from the run to its cut
 
 module _ {S C : Type 0} (told : S → StoreTold) (answers : C → Option (List ℤ)) (always : C → Option ℤ) (workers : ℕ) (jobs : List Placed)
     (opened ran : TailHeld S C) (outcomes : List PlacedOutcome) (all : AllHaveRun told answers always workers jobs opened ran outcomes) where
-  pub settles_by : (now : TailHeld S C) (came : Result (List PlacedOutcome) Stop) → Comes told ran outcomes came now
+  pub settles_by : (now : TailHeld S C) (came : Result (List PlacedOutcome) CommandFault) → Comes told ran outcomes came now
       → Settles told answers always workers jobs opened came now
   settles_by now (Ok kept) h = record {
     ran = ran;
@@ -306,13 +362,13 @@ module _ {S C : Type 0} (told : S → StoreTold) (answers : C → Option (List �
   abbrev Goes : C → Type 0
   Goes c = GoesOn (clock_told answers always opened.clock) (clock_told answers always c)
 
-  goes_stopped : (why : Stop)
+  goes_stopped : (why : CommandFault)
       → HasStopped told answers always workers jobs opened why now ⊎ ((why ≡ stop.OutOfMemory) × Keeps told answers always opened now [])
       → Goes now.clock
   goes_stopped why (inl h) =
       subst Goes (sym h.stopped.clock) (clock_goes told answers always opened h.ran h.all.entries h.all.keeps)
   goes_stopped why (inr h) = clock_goes told answers always opened now [] h.1
 
-  pub goes_at : (came : Result (List PlacedOutcome) Stop) → Settles told answers always workers jobs opened came now → Goes now.clock
+  pub goes_at : (came : Result (List PlacedOutcome) CommandFault) → Settles told answers always workers jobs opened came now → Goes now.clock
   goes_at (Ok outcomes) h = subst Goes (sym h.settled.clock) (clock_goes told answers always opened h.ran h.all.entries h.all.keeps)
   goes_at (Err why) h = goes_stopped why h

@@ -26,35 +26,35 @@ use Rattle.laws_history.specs.Calls.{Span, span}
 use Rattle.laws_history.specs.Records.{RunRecord, IsOfSomeJob, made, untold, InOrder, IsBehind}
 use Rattle.laws_history.proofs.Places.{InOrder-all_placed}
 use Rattle.cli_model.proofs.First.{comes_first}
-use Rattle.cli_model.proofs.Holding.{done_leaves, summarized_holds}
-use Rattle.cli_model.specs.Making.{IsSummaryOf, LeavesWorkload, made_jobs, made_terms}
+use Rattle.cli_model.proofs.Holding.{done_leaves, done_tells, summarized_holds}
+use Rattle.cli_model.specs.Making.{IsSummaryOf, TellsWorkload, made_jobs, made_terms}
 use Rattle.cli_model.specs.Calls.{Outside}
-use Rattle.cli_model.specs.Inputs.{IsIdle}
+use Rattle.cli_model.specs.Inputs.{IsFine, IsIdle}
 use Rattle.cli_model.specs.Lines.{not_empty_line}
 use Rattle.cli_model.specs.Top.{Keeps}
-use Rattle.cli_model.specs.Runs.{Terms, HoldsRun}
+use Rattle.cli_model.specs.Runs.{Terms, HoldsRunAfter}
+use Rattle.cli_model.specs.Stores.{IsUnfailed}
 use Rattle.laws_history.specs.Claims.{IsOfOwnDigest}
 use Rattle.laws_history.proofs.Fitting.{contains_stands}
 use Rattle.laws_history.proofs.Lists.{stands_all, stands_contains}
-use Rattle.ledger_core.specs.Loads.{IsCause}
+use Rattle.journal_reader.specs.Loads.{IsCause}
 use Rattle.ledger_core.specs.Tails.{TailHeld}
-use Rattle.ledger_core.specs.declared.reload.LoadCause.{LoadCause}
-use Rattle.ledger_core.specs.declared.reload.LoadCause.TheVariants as load
+use Rattle.journal_reader.specs.declared.cause.LoadCause.{LoadCause}
+use Rattle.journal_reader.specs.declared.cause.LoadCause.TheVariants as load
 use Rattle.run_after_setup.specs.FirstRuns.{HasBegun, HaveAllRun}
 use Rattle.ledger_shared.specs.Sessions.{AreNumbered}
 use Rattle.ledger_cli.specs.declared.make.Workload.{Workload}
-use Rattle.ledger_cli.specs.declared.stop.Stop.{Stop}
-use Rattle.ledger_cli.specs.declared.stop.Stop.TheVariants as stop
+use Rattle.ledger_cli.specs.declared.command_fault.CommandFault.{CommandFault}
+use Rattle.ledger_cli.specs.declared.command_fault.CommandFault.TheVariants as stop
 use Rattle.ledger_cli.specs.Clocks.{AreCovered, GoesOn, clock_told}
 use Rattle.ledger_cli.specs.Ends.{Works}
-use Rattle.ledger_cli.specs.Inputs.{IsFine}
-use Rattle.ledger_cli.specs.Making.{HasMade, IsMakeStop, IsWorkload, Makes, MakesAll, SumsUp, at_first}
-use Rattle.ledger_cli.specs.Runs.{Comes, HasLoaded, HasStopped}
+use Rattle.ledger_cli.specs.Making.{HasMade, IsMakeStop, IsUnmade, IsWorkload, Makes, MakesAll, SumsUp, at_first}
+use Rattle.ledger_cli.specs.Runs.{Comes, HasLoaded, HasStopped, TellsJobs}
 use Rattle.ledger_cli.specs.Stops.{IsLoadStop, load_stop}
 use Rattle.ledger_cli.proofs.Clocks.{between_covers, extends_same}
 use Rattle.ledger_cli.proofs.Ending.{same_held}
 use Rattle.ledger_cli.proofs.Leaving.{loaded_journal}
-use Rattle.ledger_cli.proofs.Loaded.{goes_at, settled_done, settled_record, stopped_by, stopped_left, unloaded_cause}
+use Rattle.ledger_cli.proofs.Loaded.{goes_at, settled_done, settled_record, stopped_by, stopped_left, stopped_tells, unloaded_cause}
 use Rattle.ledger_cli.proofs.Running.{clock_goes, run_fits}
 
 -- ---- the jobs
@@ -111,14 +111,15 @@ module _ (o : MakeOptions) where
   all_own [] = tt
   all_own (b ∷ bs) = (own_digest b, all_own bs)
 
-  wider_run : (terms : Terms) (store : Span StoreTold) → HoldsRun terms 1 (at_first made_first ∷ []) store
-      → HoldsRun terms o.workers (made_jobs o) store
-  wider_run terms store h =
+  wider_run : (before : List Block) (terms : Terms) (store : Span StoreTold) → HoldsRunAfter before terms 1 (at_first made_first ∷ []) store
+      → HoldsRunAfter before terms o.workers (made_jobs o) store
+  wider_run before terms store h =
       let t : RunRecord = record h.told { workers = o.workers; jobs = made_jobs o } in
       let of = h.left.of_run in
       let fits = h.left.fits in
       record {
         told = t;
+        before_is = h.before_is;
         left = record {
           of_run = record {
             found = of.found;
@@ -160,7 +161,7 @@ module _ {S C : Type 0} (told : S → StoreTold) (answers : C → Option (List �
     (first : Placed) (jobs : List Placed) (opened ran : TailHeld S C) (outcomes : List PlacedOutcome)
     (h : HaveAllRun told answers always workers first jobs opened outcomes ran) where
   -- what was run is settled or not
-  pub makes_all : (came : Result (List PlacedOutcome) Stop) (now : TailHeld S C) → Comes told ran outcomes came now
+  pub makes_all : (came : Result (List PlacedOutcome) CommandFault) (now : TailHeld S C) → Comes told ran outcomes came now
       → MakesAll told answers always workers first jobs opened came now
   makes_all (Ok kept) now comes =
       subst (λ (os : List PlacedOutcome). HasMade told answers always workers first jobs opened os now) (sym comes.0) (record {
@@ -219,67 +220,102 @@ module _ {S C : Type 0} (told : S → StoreTold) (answers : C → Option (List �
       }
 
   abbrev Left : Type 0
-  Left = HoldsRun terms o.workers (made_jobs o) store
+  Left = HoldsRunAfter [] terms o.workers (made_jobs o) store
 
-  wanted : (why : Stop) → why ≡ stop.OutOfMemory → IsMakeStop why store
-  wanted why is = subst (λ (x : Stop). IsMakeStop x store) (sym is) tt
+  -- it began on the empty journal
+  from_empty : HoldsRunAfter opened.standing.blocks terms o.workers (made_jobs o) store → Left
+  from_empty h = subst (λ (bs : List Block). HoldsRunAfter bs terms o.workers (made_jobs o) store) empty h
 
-  -- the first job alone, as a run that was stopped behind it
+  wanted : (why : CommandFault) → why ≡ stop.OutOfMemory → IsMakeStop why store
+  wanted why is = subst (λ (x : CommandFault). IsMakeStop x store) (sym is) tt
+
+  abbrev Told : Type 0
+  Told = IsUnfailed store ⊎ TellsWorkload o store clock
+
+  told_whole : TellsJobs o.workers (made_jobs o) store terms → Told
+  told_whole (inl fine) = inl fine
+  told_whole (inr tells) = inr (inl tells)
+
+  told_first : TellsJobs 1 (first_job ∷ []) store terms → Told
+  told_first (inl fine) = inl fine
+  told_first (inr tells) = inr (inr tells)
+
+  -- the first job alone, as a run that was stopped after it
   begun_stopped : HasBegun told answers always first_job opened now
       → HasStopped told answers always 1 (first_job ∷ []) opened stop.OutOfMemory now
   begun_stopped h = record {
     ran = now;
     outcomes = h.outcome ∷ [];
     all = h.alone;
-    stopped = record { clock = refl; cut = inl refl; stop = tt };
+    stopped = record { clock = refl; cut = inl refl; stop = refl };
   }
+
+  begun_goes : HasBegun told answers always first_job opened now → Goes
+  begun_goes h = clock_goes told answers always opened now h.alone.entries h.alone.keeps
 
   begun_left : HasBegun told answers always first_job opened now → Left
   begun_left h =
-      let goes = clock_goes told answers always opened now h.alone.entries h.alone.keeps in
-      wider_run o terms store
+      from_empty
+      (wider_run o opened.standing.blocks terms store
       (stopped_left told answers always (mask_of o.seed) before opened has 1 (omega arith) (first_job ∷ []) first_in_order law now
-      stop.OutOfMemory terms (covered goes) (inl (begun_stopped h)))
+      stop.OutOfMemory terms (covered (begun_goes h)) (inl (begun_stopped h))))
 
-  stopped : (why : Stop) → HasStopped told answers always o.workers (made_jobs o) opened why now
+  begun_tells : HasBegun told answers always first_job opened now → Told
+  begun_tells h =
+      told_first
+      (stopped_tells told answers always (mask_of o.seed) before opened has 1 (omega arith) (first_job ∷ []) first_in_order law now
+      stop.OutOfMemory terms (covered (begun_goes h)) (inl (begun_stopped h)) refl)
+
+  as_make : (why : CommandFault) → IsLoadStop why store → IsMakeStop why store
+  as_make stop.BadWords h = h
+  as_make (stop.NotEmpty count) h = absurd h
+  as_make (stop.BadInput cause) h = h
+  as_make (stop.NoSuch none) h = h
+  as_make (stop.Damaged sequence kind) h = h
+  as_make stop.SourceFailed h = h
+  as_make stop.StoreFailed h = h
+  as_make (stop.NotAccepted fault) h = h
+  as_make stop.OutOfMemory h = h
+
+  stopped : (why : CommandFault) → HasStopped told answers always o.workers (made_jobs o) opened why now
       ⊎ ((why ≡ stop.OutOfMemory) × (HasBegun told answers always first_job opened now ⊎ (now ≡ opened)))
-      → LeavesWorkload o store clock × IsMakeStop why store
+      → IsUnmade o why store clock
   stopped why (inl h) =
-      let goes = goes_at told answers always o.workers (made_jobs o) opened now (Err why) (inl h) in (
-        inr (stopped_left told answers always (mask_of o.seed) before opened has o.workers some (made_jobs o) (in_order o) law now why terms
-            (covered goes) (inl h)),
-        as_make why (stopped_by told answers always (mask_of o.seed) before opened has o.workers some (made_jobs o) (in_order o) now why (inl h)),
-      )
-    where
-      as_make : (why : Stop) → IsLoadStop why store → IsMakeStop why store
-      as_make (stop.NotEmpty count) h = absurd h
-      as_make (stop.BadInput cause) h = h
-      as_make (stop.NoSuch none) h = h
-      as_make (stop.Damaged sequence kind) h = h
-      as_make stop.SourceFailed h = h
-      as_make stop.StoreFailed h = h
-      as_make (stop.NotAccepted fault) h = h
-      as_make stop.OutOfMemory h = h
-  stopped why (inr (is, inl h)) = (inr (begun_left h), wanted why is)
-  stopped why (inr (is, inr same)) = (
-    inl (ap (λ (t : TailHeld S C). held (told t.store)) same ∙ same_held before (told opened.store) has.content),
-    wanted why is,
-  )
+      let goes = goes_at told answers always o.workers (made_jobs o) opened now (Err why) (inl h) in
+      record {
+        left = inr (from_empty (stopped_left told answers always (mask_of o.seed) before opened has o.workers some (made_jobs o) (in_order o) law now
+            why terms (covered goes) (inl h)));
+        is = as_make why (stopped_by told answers always (mask_of o.seed) before opened has o.workers some (made_jobs o) (in_order o) now why (inl h));
+        tells = λ e. told_whole (stopped_tells told answers always (mask_of o.seed) before opened has o.workers some (made_jobs o) (in_order o) law
+            now why terms (covered goes) (inl h) e);
+      }
+  stopped why (inr (is, inl h)) = record { left = inr (begun_left h); is = wanted why is; tells = λ e. begun_tells h }
+  stopped why (inr (is, inr same)) = record {
+    left = inl (ap (λ (t : TailHeld S C). held (told t.store)) same ∙ same_held before (told opened.store) has.content);
+    is = wanted why is;
+    tells = λ e. inl (ap (λ (t : TailHeld S C). (told t.store).faults) same ∙ has.faults);
+  }
 
-  made_so : (came : Result (List PlacedOutcome) Stop) (r : Result (List ℕ) Stop)
+  made_so : (came : Result (List PlacedOutcome) CommandFault) (r : Result (List ℕ) CommandFault)
       → MakesAll told answers always o.workers first_job (rest_of o) opened came now → SumsUp now.standing.blocks came r
       → Makes o r store clock
   made_so (Ok outcomes) (Ok text) h sums = summed outcomes text sums h
   made_so (Ok outcomes) (Err why) h sums =
       let one = summed outcomes (summary_text (summary now.standing.blocks)) refl h in
-      (inr (record { told = one.told; left = done_leaves terms o.workers (made_jobs o) store one.told one.done }), wanted why sums)
+      record {
+        left = inr (record {
+          told = one.told;
+          before_is = one.empty;
+          left = done_leaves terms o.workers (made_jobs o) store one.told one.done;
+        });
+        is = wanted why sums;
+        tells = λ e. inr (inl (done_tells terms o.workers (made_jobs o) store one.told one.done));
+      }
   made_so (Err why) (Ok text) h sums = absurd sums
-  made_so (Err why) (Err other) h sums =
-      let left = stopped why h in
-      (left.0, subst (λ (x : Stop). IsMakeStop x store) (sym sums) left.1)
+  made_so (Err why) (Err other) h sums = subst (λ (x : CommandFault). IsUnmade o x store clock) (sym sums) (stopped why h)
 
   -- with the transactions of the workload
-  pub makes_so : (w : Workload) → IsWorkload o w → (came : Result (List PlacedOutcome) Stop) (r : Result (List ℕ) Stop)
+  pub makes_so : (w : Workload) → IsWorkload o w → (came : Result (List PlacedOutcome) CommandFault) (r : Result (List ℕ) CommandFault)
       → MakesAll told answers always o.workers (at_first w.first) (all_placed w.sessions) opened came now
       → SumsUp now.standing.blocks came r → Makes o r store clock
   makes_so w of came r h sums =
@@ -301,9 +337,9 @@ is_some (suc n) h = omega arith
 pub has_blocks : {S C : Type 0} (told : S → StoreTold) (o : MakeOptions) (given : ℕ) (before : StoreTold) (opened : TailHeld S C)
     (clock : Span (Option (List ℤ))) (n : ℕ) → HasLoaded told given before opened → n ≡ length opened.standing.blocks → (n ≡ 0 → ⊥)
     → Makes o (Err (stop.NotEmpty n)) (span before (told opened.store)) clock
-has_blocks told o given before opened _ n has long some = (
-  inl (same_held before (told opened.store) has.content),
-  record {
+has_blocks told o given before opened _ n has long some = record {
+  left = inl (same_held before (told opened.store) has.content);
+  is = record {
     blocks = opened.standing.blocks;
     reads = record {
       found = loaded_journal (held before) opened.standing.blocks opened.marked has.journal;
@@ -312,44 +348,62 @@ has_blocks told o given before opened _ n has long some = (
     };
     some = subst (λ (m : ℕ). 0 < m) long (is_some n some);
     count_is = long;
-  },
-)
+  };
+  tells = λ e. inl has.faults;
+}
 
 -- it was not loaded
 unloaded_by : (o : MakeOptions) (cause : LoadCause) (before after : StoreTold) (clock : Span (Option (List ℤ))) → after.content ≡ before.content
-    → IsLoadStop (load_stop cause) (span before after) → Makes o (Err (load_stop cause)) (span before after) clock
-unloaded_by o (load.Damaged sequence kind) before after _ same h = (inl (same_held before after same), h)
-unloaded_by o (load.StoreFault count) before after _ same h = (inl (same_held before after same), h)
-unloaded_by o load.OutOfMemory before after _ same h = (inl (same_held before after same), h)
+    → IsCause cause before after → IsLoadStop (load_stop cause) (span before after) → Makes o (Err (load_stop cause)) (span before after) clock
+unloaded_by o (load.Damaged sequence kind) before after _ same is h =
+    record { left = inl (same_held before after same); is = h; tells = λ e. inl is.1 }
+unloaded_by o (load.StoreFault count) before after _ same is h =
+    record { left = inl (same_held before after same); is = h; tells = λ e. let bad : ⊥ = cc e in absurd bad }
+unloaded_by o load.OutOfMemory before after _ same is h = record { left = inl (same_held before after same); is = h; tells = λ e. inl is }
 
 pub unloaded_makes : (o : MakeOptions) (cause : LoadCause) (before after : StoreTold) (clock : Span (Option (List ℤ)))
-    (came : Result (List ℕ) Stop) → came ≡ Err (load_stop cause) → after.content ≡ before.content → IsCause cause before after
+    (came : Result (List ℕ) CommandFault) → came ≡ Err (load_stop cause) → after.content ≡ before.content → IsCause cause before after
     → Makes o came (span before after) clock
 unloaded_makes o cause before after clock came is same h =
-    subst (λ (r : Result (List ℕ) Stop). Makes o r (span before after) clock) (sym is)
-    (unloaded_by o cause before after clock same (unloaded_cause cause before after same h))
+    subst (λ (r : Result (List ℕ) CommandFault). Makes o r (span before after) clock) (sym is)
+    (unloaded_by o cause before after clock same h (unloaded_cause cause before after same h))
+
+-- there was no memory for the transactions
+pub unbegun : (o : MakeOptions) (told : StoreTold) (clock : Span (Option (List ℤ))) → Makes o (Err stop.OutOfMemory) (span told told) clock
+unbegun o told clock = record { left = inl refl; is = tt; tells = λ e. inl refl }
 
 -- ---- the command
 
-works_none : (same : Type 0) (o : MakeOptions) (x : Outside) (why : Stop) → IsFine x.source → IsMakeStop why x.store
-    → Works same (Some (command.Make o)) (Err why) x
-works_none same o x (stop.BadInput cause) fine h = absurd h
-works_none same o x (stop.NoSuch none) fine h = absurd h
-works_none same o x (stop.Damaged sequence kind) fine h =
-    (record { sequence = sequence; kind = kind; reads = h; line_is = refl }, fine)
-works_none same o x stop.SourceFailed fine h = absurd h
-works_none same o x stop.StoreFailed fine h = (record { failed = h; line_is = refl }, fine)
-works_none same o x (stop.NotEmpty blocks) fine h =
-    (record { blocks = h.blocks; reads = h.reads; some = h.some; line_is = ap not_empty_line h.count_is }, fine)
-works_none same o x (stop.NotAccepted fault) fine h = absurd h
-works_none same o x stop.OutOfMemory fine h = fine
+works_none : (same : Type 0) (o : MakeOptions) (x : Outside) (why : CommandFault) → IsFine x.source → IsUnmade o why x.store x.clock
+    → IsMakeStop why x.store → Works same (Some (command.Make o)) (Err why) x
+works_none same o x stop.BadWords fine un h = absurd h
+works_none same o x (stop.BadInput cause) fine un h = absurd h
+works_none same o x (stop.NoSuch none) fine un h = absurd h
+works_none same o x (stop.Damaged sequence kind) fine un h = (
+  inr (inl (refl, record { sequence = sequence; kind = kind; reads = h; line_is = refl })),
+  record { source = fine; store = inl h.only_read.faults },
+)
+works_none same o x stop.SourceFailed fine un h = absurd h
+works_none same o x stop.StoreFailed fine un h = (inr (inr (refl, record { failed = h; line_is = refl })), fine)
+works_none same o x (stop.NotEmpty blocks) fine un h = (
+  inl (refl, record { blocks = h.blocks; reads = h.reads; some = h.some; line_is = ap not_empty_line h.count_is }),
+  record { source = fine; store = inl h.reads.only_read.faults },
+)
+works_none same o x (stop.NotAccepted fault) fine un h = absurd h
+works_none same o x stop.OutOfMemory fine un h = record { source = fine; store = un.tells refl }
 
-pub works_made : (same : Type 0) (o : MakeOptions) (x : Outside) (came : Result (List ℕ) Stop) → IsIdle x.source
+pub works_made : (same : Type 0) (o : MakeOptions) (x : Outside) (came : Result (List ℕ) CommandFault) → IsIdle x.source
     → Makes o came x.store x.clock → Works same (Some (command.Make o)) came x
-works_made same o x (Ok text) idle h = (h, ap (λ (t : SourceTold). t.faults) idle)
-works_made same o x (Err why) idle h = works_none same o x why (ap (λ (t : SourceTold). t.faults) idle) h.1
+works_made same o x (Ok text) idle h = (
+  h,
+  record {
+    source = ap (λ (t : SourceTold). t.faults) idle;
+    store = inr (inl (done_tells (made_terms o x.clock) o.workers (made_jobs o) x.store h.told h.done));
+  },
+)
+works_made same o x (Err why) idle h = works_none same o x why (ap (λ (t : SourceTold). t.faults) idle) h h.is
 
-pub keeps_made : (same : Type 0) (o : MakeOptions) (x : Outside) (came : Result (List ℕ) Stop) → IsIdle x.source
+pub keeps_made : (same : Type 0) (o : MakeOptions) (x : Outside) (came : Result (List ℕ) CommandFault) → IsIdle x.source
     → Makes o came x.store x.clock → Keeps same (Some (command.Make o)) x
 keeps_made same o x (Ok text) idle h = (inr (summarized_holds o x.store x.clock text h), idle)
-keeps_made same o x (Err why) idle h = (h.0, idle)
+keeps_made same o x (Err why) idle h = (h.left, idle)

@@ -20,9 +20,10 @@ use Rattle.outside.specs.Told.{SourceTold}
 use Rattle.laws_history.specs.Calls.{Span}
 use Rattle.laws_history.specs.Streams.{Taken, WasRead}
 use Rattle.ledger_cli.specs.declared.lines.BadInput.TheVariants as cause
-use Rattle.ledger_cli.specs.declared.stop.Stop.{Stop}
-use Rattle.ledger_cli.specs.declared.stop.Stop.TheVariants as stop
-use Rattle.ledger_cli.specs.Inputs.{IsFine, IsReadStop, IsUnread, ReadsScript}
+use Rattle.ledger_cli.specs.declared.command_fault.CommandFault.{CommandFault}
+use Rattle.ledger_cli.specs.declared.command_fault.CommandFault.TheVariants as stop
+use Rattle.cli_model.specs.Inputs.{IsFine}
+use Rattle.ledger_cli.specs.Inputs.{IsReadStop, IsUnread, ReadsScript}
 use Rattle.ledger_shared.specs.Sessions.{AreNumbered}
 use Rattle.ledger_cli.specs.Judgements.{JudgesTo}
 
@@ -142,11 +143,12 @@ is_long input is =
     ]
 
 -- an input that is judged so gives the script, or the cause why not
-pub reads_input : (source : Span SourceTold) (input : List ℕ) (r : Result (List (List Job)) Stop) → WasRead source input
+pub reads_input : (source : Span SourceTold) (input : List ℕ) (r : Result (List (List Job)) CommandFault) → WasRead source input
     → IsFine source
     → JudgesTo r (judged input) → IfOk r AreNumbered → ReadsScript r source
 reads_input source input (Ok script) read fine is runs =
     (record { input = input; read = read; judged_is = is }, runs, fine)
+reads_input source input (Err stop.BadWords) read fine is runs = absurd is
 reads_input source input (Err (stop.BadInput cause.TooLong)) read fine is runs =
     (record { input = input; taken = read.taken; long = is_long input is }, fine)
 reads_input source input (Err (stop.BadInput (cause.Faulty fault))) read fine is runs =
@@ -162,9 +164,10 @@ reads_input source input (Err (stop.NotAccepted fault)) read fine is runs = absu
 reads_input source input (Err stop.OutOfMemory) read fine is runs = fine
 
 -- an input that wasn't read
-pub unread_input : (source : Span SourceTold) (why : Stop) → IsUnread why source
+pub unread_input : (source : Span SourceTold) (why : CommandFault) → IsUnread why source
     → (why ≡ stop.BadInput cause.TooLong → (input : List ℕ) × Taken source input × (16777216 < length input))
     → IsReadStop why source
+unread_input source stop.BadWords is long = absurd is
 unread_input source (stop.BadInput cause.TooLong) is long =
     let (input, taken, more) = long refl in
     (record { input = input; taken = taken; long = more }, is.1)

@@ -1,11 +1,11 @@
 -- What comes of an input that is to be a bundle, from the source to the end.
-use Rattle.std.proofs.Common.{◌≡◌, ◌≤◌, ◌<◌, ℕ, List, length, refl, Some, inl, inr, Result, Ok, Err}
+use Rattle.std.proofs.Common.{◌≡◌, ◌≤◌, ◌<◌, ℕ, List, length, refl, ap, Some, inl, inr, Result, Ok, Err}
 use Rattle.ion_values.specs.declared.value.Value.{Value}
 use Rattle.ledger_model.specs.declared.block.Revision.{Revision}
-use Rattle.outside.specs.Told.{SourceTold}
+use Rattle.outside.specs.Told.{SourceTold, StoreTold}
 use Rattle.proof_model.specs.declared.Digest.{Digest}
 use Rattle.proof_model.specs.declared.Proof.{Proof}
-use Rattle.proof_verify.specs.Bundles.{IsBundle, IsUnreadable}
+use Rattle.proof_verify.specs.Bundles.{AreWithin, IsBundle, IsUnreadable}
 use Rattle.proof_verify.specs.Faults.{fault_of, IsRefused}
 use Rattle.proof_verify.specs.declared.ProofFault.{ProofFault}
 use Rattle.proof_verify.specs.declared.ProofFault.TheVariants as fault
@@ -14,14 +14,14 @@ use Rattle.laws_history.specs.Calls.{Span}
 use Rattle.laws_history.specs.Streams.{Taken, WasRead}
 use Rattle.cli_model.specs.Bundles.{IsNotAccepted}
 use Rattle.cli_model.specs.Calls.{Outside}
-use Rattle.cli_model.specs.Inputs.{longest}
+use Rattle.cli_model.specs.Inputs.{IsFine, longest}
 use Rattle.ledger_cli.specs.declared.lines.BadInput.{BadInput}
 use Rattle.ledger_cli.specs.declared.lines.BadInput.TheVariants as cause
-use Rattle.ledger_cli.specs.declared.stop.Stop.{Stop}
-use Rattle.ledger_cli.specs.declared.stop.Stop.TheVariants as stop
+use Rattle.ledger_cli.specs.declared.command_fault.CommandFault.{CommandFault}
+use Rattle.ledger_cli.specs.declared.command_fault.CommandFault.TheVariants as stop
 use Rattle.ledger_cli.specs.Bundles.{Decides, IsFaulty, IsUnproved, ReadsValues, Verifies}
-use Rattle.ledger_cli.specs.Ends.{Works}
-use Rattle.ledger_cli.specs.Inputs.{IsFine, IsUnread}
+use Rattle.ledger_cli.specs.Ends.{IsTold, Works}
+use Rattle.ledger_cli.specs.Inputs.{IsUnread}
 use Rattle.ledger_cli.specs.Stops.{proof_stop}
 
 -- ---- the verdict on values
@@ -37,9 +37,9 @@ unreadable_so values (fault.HashFieldDiffers stated computed) h = absurd h
 unreadable_so values (fault.RootDiffers computed published) h = absurd h
 unreadable_so values fault.OutOfMemory h = tt
 
-module _ (values : List Value) (d : Digest) (r : Revision) (p : Proof) (bundle : IsBundle values d r p) where
+module _ (values : List Value) (d : Digest) (r : Revision) (p : Proof) (bundle : IsBundle values d r p) (within : AreWithin d p) where
   fails : (e : ProofFault) → fault_of d r p ≡ Some e → IsNotAccepted values e
-  fails e first = inr (record { digest = d; revision = r; proof = p; bundle = bundle; first = first })
+  fails e first = inr (record { digest = d; revision = r; proof = p; bundle = bundle; within = within; first = first })
 
   pub refused_so : (e : ProofFault) → IsRefused (fault_of d r p) e → IsUnproved values e
   refused_so (fault.Malformed name) h = absurd h
@@ -67,9 +67,10 @@ unproved_decides values fault.OutOfMemory h = tt
 -- ---- the input
 
 -- it wasn't read
-pub unread_verifies : (source : Span SourceTold) (why : Stop) → IsUnread why source
+pub unread_verifies : (source : Span SourceTold) (why : CommandFault) → IsUnread why source
     → (why ≡ stop.BadInput cause.TooLong → (input : List ℕ) × Taken source input × (longest < length input))
     → Verifies (Err why) source
+unread_verifies source stop.BadWords h long = absurd h
 unread_verifies source (stop.BadInput cause.TooLong) h long =
     let taken = long refl in
     (record { input = taken.0; taken = taken.1; long = taken.2 }, h.1)
@@ -91,7 +92,8 @@ module _ (source : Span SourceTold) (input : List ℕ) (read : WasRead source in
   faulty_verifies (cause.Misspelt fault) h = absurd h
 
   -- it is no text of values
-  pub no_values_verifies : (why : Stop) → ReadsValues (Err why) input → Verifies (Err why) source
+  pub no_values_verifies : (why : CommandFault) → ReadsValues (Err why) input → Verifies (Err why) source
+  no_values_verifies stop.BadWords h = absurd h
   no_values_verifies (stop.BadInput why) h = faulty_verifies why h
   no_values_verifies (stop.NoSuch why) h = absurd h
   no_values_verifies (stop.Damaged sequence kind) h = absurd h
@@ -103,7 +105,7 @@ module _ (source : Span SourceTold) (input : List ℕ) (read : WasRead source in
 
   module _ (values : List Value) (reads : ReadsValues (Ok values) input) where
     -- it is one
-    pub values_verify : (came : Result (List ℕ) Stop) → Decides came values → Verifies came source
+    pub values_verify : (came : Result (List ℕ) CommandFault) → Decides came values → Verifies came source
     values_verify (Ok text) h = (
       record {
         values = values;
@@ -113,6 +115,7 @@ module _ (source : Span SourceTold) (input : List ℕ) (read : WasRead source in
       },
       fine,
     )
+    values_verify (Err stop.BadWords) h = absurd h
     values_verify (Err (stop.BadInput why)) h = absurd h
     values_verify (Err (stop.NoSuch why)) h = absurd h
     values_verify (Err (stop.Damaged sequence kind)) h = absurd h
@@ -131,16 +134,26 @@ module _ (source : Span SourceTold) (input : List ℕ) (read : WasRead source in
 
 -- ---- the command
 
-pub works_verify : (same : Type 0) (x : Outside) (came : Result (List ℕ) Stop) → Verifies came x.source
+verified_told : (x : Outside) → x.store.after ≡ x.store.before → IsFine x.source → IsTold (Some command.Verify) x
+verified_told x un fine = record { source = fine; store = inl (ap (λ (t : StoreTold). t.faults) un) }
+
+pub works_verify : (same : Type 0) (x : Outside) (came : Result (List ℕ) CommandFault) → x.store.after ≡ x.store.before → Verifies came x.source
     → Works same (Some command.Verify) came x
-works_verify same x (Ok text) h =
-    (record { values = h.0.values; has = h.0.has; accepted = h.0.accepted; text_is = h.0.text_is }, h.1)
-works_verify same x (Err (stop.BadInput why)) h = (record { cause = _; is = h.0; line_is = refl }, h.1)
-works_verify same x (Err (stop.NoSuch why)) h = absurd h
-works_verify same x (Err (stop.Damaged sequence kind)) h = absurd h
-works_verify same x (Err stop.SourceFailed) h = record { failed = h; line_is = refl }
-works_verify same x (Err stop.StoreFailed) h = absurd h
-works_verify same x (Err (stop.NotEmpty blocks)) h = absurd h
-works_verify same x (Err (stop.NotAccepted why)) h =
-    (record { values = h.0.values; has = h.0.has; why = why; is = h.0.is; line_is = refl }, h.1)
-works_verify same x (Err stop.OutOfMemory) h = h
+works_verify same x (Ok text) un h = (
+  record { values = h.0.values; has = h.0.has; accepted = h.0.accepted; text_is = h.0.text_is },
+  verified_told x un h.1,
+)
+works_verify same x (Err stop.BadWords) un h = absurd h
+works_verify same x (Err (stop.BadInput why)) un h =
+    (inl (refl, record { cause = _; is = h.0; line_is = refl }), verified_told x un h.1)
+works_verify same x (Err (stop.NoSuch why)) un h = absurd h
+works_verify same x (Err (stop.Damaged sequence kind)) un h = absurd h
+works_verify same x (Err stop.SourceFailed) un h =
+    (inr (inl (refl, record { failed = h; line_is = refl })), inl (ap (λ (t : StoreTold). t.faults) un))
+works_verify same x (Err stop.StoreFailed) un h = absurd h
+works_verify same x (Err (stop.NotEmpty blocks)) un h = absurd h
+works_verify same x (Err (stop.NotAccepted why)) un h = (
+  inr (inr (refl, record { values = h.0.values; has = h.0.has; why = why; is = h.0.is; line_is = refl })),
+  verified_told x un h.1,
+)
+works_verify same x (Err stop.OutOfMemory) un h = verified_told x un h

@@ -4,10 +4,11 @@ use Rattle.ion_time.specs.Millis.{BeginsAt, nearest}
 use Rattle.ion_values.specs.declared.time.TimeParts.{TimeParts}
 use Rattle.cli_args.specs.declared.IdSource.{IdSource}
 use Rattle.cli_args.specs.declared.IdSource.TheVariants as ids
-use Rattle.laws_history.specs.Calls.{span}
+use Rattle.cli_args.specs.declared.RunOptions.{RunOptions}
+use Rattle.laws_history.specs.Calls.{Span}
 use Rattle.laws_history.specs.Records.{Times, IsTimeIn}
-use Rattle.cli_model.specs.Clocks.{Answers, AreTimes}
-use Rattle.cli_model.specs.Runs.{Terms}
+use Rattle.cli_model.specs.Clocks.{Answers}
+use Rattle.cli_model.specs.Runs.{AreTerms, Terms}
 
 -- the answers that a clock has given, and the one answer that it always gives, where it has one
 pub record ClockTold : Type 0 where
@@ -53,9 +54,8 @@ pub record AreCovered (mask : ℕ) (before now : ClockTold) (terms : Terms) : Ty
   pub given : IfSome terms.given (λ given. given ≡ mask)
   pub times : Covers before now terms.times
 
--- It is so with the times that the words or the clock tell, and with any mask that is told, where it is this one. What
--- the clock had answered before counts too.
-abbrev pub IsSoOnTerms : ℕ → Option ℤ → Answers → Answers → (Terms → Type 0) → Type 0
-IsSoOnTerms mask time before now Is =
-    (first : Answers) (given : Option ℕ) → Extends first before → IfSome given (λ g. g ≡ mask)
-    → (times : Times) × AreTimes time (span first now) times × Is (record { given = given; times = times })
+-- it is so on the terms that the words and the clock give
+pub record IsOnTerms (o : RunOptions) (clock : Span Answers) (Is : Terms → Type 0) : Type 0 where
+  pub terms : Terms
+  pub are : AreTerms o clock terms
+  pub is : Is terms

@@ -6,8 +6,8 @@ use Rattle.cli_model.specs.Lines.{BadInput}
 use Rattle.cli_model.specs.Lines as bad
 use Rattle.ledger_cli.specs.declared.lines.BadInput as held
 use Rattle.ledger_cli.specs.declared.lines.BadInput.TheVariants as cause
-use Rattle.ledger_cli.specs.declared.stop.Stop.{Stop}
-use Rattle.ledger_cli.specs.declared.stop.Stop.TheVariants as stop
+use Rattle.ledger_cli.specs.declared.command_fault.CommandFault.{CommandFault}
+use Rattle.ledger_cli.specs.declared.command_fault.CommandFault.TheVariants as stop
 
 abbrev pub judged_of : held.BadInput → Judged
 judged_of cause.TooLong = too_long
@@ -19,9 +19,10 @@ cause_of cause.TooLong = bad.too_long
 cause_of (cause.Faulty fault) = bad.faulty fault
 cause_of (cause.Misspelt fault) = bad.misspelt fault
 
--- what an input is judged is told by its script, or by why it is refused; nothing is said where memory was wanted
-abbrev pub JudgesTo : Result (List (List Job)) Stop → Judged → Type 0
+-- what an input is judged is told by its script, or by why it is refused; nothing is said if memory ran out
+abbrev pub JudgesTo : Result (List (List Job)) CommandFault → Judged → Type 0
 JudgesTo (Ok script) judgement = judgement ≡ scripted script
+JudgesTo (Err stop.BadWords) judgement = ⊥
 JudgesTo (Err (stop.BadInput cause)) judgement = judgement ≡ judged_of cause
 JudgesTo (Err (stop.NoSuch why)) judgement = ⊥
 JudgesTo (Err (stop.Damaged sequence kind)) judgement = ⊥

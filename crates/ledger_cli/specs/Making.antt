@@ -10,15 +10,15 @@ use Rattle.outside.specs.Told.{StoreTold}
 use Rattle.cli_args.specs.declared.MakeOptions.{MakeOptions}
 use Rattle.laws_history.specs.Calls.{Span}
 use Rattle.cli_model.specs.Clocks.{Answers}
-use Rattle.cli_model.specs.Journals.{Reads}
-use Rattle.cli_model.specs.Making.{IsSummaryOf, LeavesWorkload}
+use Rattle.cli_model.specs.Making.{IsSummaryOf, LeavesWorkload, TellsWorkload}
+use Rattle.cli_model.specs.Stores.{IsUnfailed, Reads}
 use Rattle.ledger_core.specs.Tails.{TailHeld}
 use Rattle.run_after_setup.specs.FirstRuns.{HasBegun}
 use Rattle.ledger_cli.specs.Runs.{HasSettled, HasStopped}
 use Rattle.ledger_cli.specs.Stops.{IsLoadStop}
 use Rattle.ledger_cli.specs.declared.make.Workload.{Workload}
-use Rattle.ledger_cli.specs.declared.stop.Stop.{Stop}
-use Rattle.ledger_cli.specs.declared.stop.Stop.TheVariants as stop
+use Rattle.ledger_cli.specs.declared.command_fault.CommandFault.{CommandFault}
+use Rattle.ledger_cli.specs.declared.command_fault.CommandFault.TheVariants as stop
 
 -- the transactions are those of the options
 pub record IsWorkload (o : MakeOptions) (w : Workload) : Type 0 where
@@ -39,15 +39,15 @@ module _ {S C : Type 0} (told : S → StoreTold) (answers : C → Option (List �
     pub begun : HasBegun told answers always first opened mid
     pub settled : HasSettled told answers always workers (first ∷ jobs) opened (begun.outcome ∷ outcomes) now
 
-  -- or that wasn't settled; or memory was wanted behind the first job, or before it
-  abbrev pub MakesAll : Result (List PlacedOutcome) Stop → TailHeld S C → Type 0
+  -- or that wasn't settled; or memory ran out after the first job, or before it
+  abbrev pub MakesAll : Result (List PlacedOutcome) CommandFault → TailHeld S C → Type 0
   MakesAll (Ok outcomes) now = HasMade outcomes now
   MakesAll (Err why) now =
       HasStopped told answers always workers (first ∷ jobs) opened why now
       ⊎ ((why ≡ stop.OutOfMemory) × (HasBegun told answers always first opened now ⊎ (now ≡ opened)))
 
--- the text is the summary of the blocks, if all was settled, or memory was wanted
-abbrev pub SumsUp : List Block → Result (List PlacedOutcome) Stop → Result (List ℕ) Stop → Type 0
+-- the text is the summary of the blocks, if all was settled, or memory ran out
+abbrev pub SumsUp : List Block → Result (List PlacedOutcome) CommandFault → Result (List ℕ) CommandFault → Type 0
 SumsUp blocks (Ok outcomes) (Ok text) = text ≡ summary_text (summary blocks)
 SumsUp blocks (Ok outcomes) (Err why) = why ≡ stop.OutOfMemory
 SumsUp blocks (Err why) (Ok text) = ⊥
@@ -55,19 +55,26 @@ SumsUp blocks (Err why) (Err other) = other ≡ why
 
 -- ---- the whole
 
--- the journal that was read has so many blocks already
+-- the journal that was read has this number of blocks already
 pub record HasBlocks (count : ℕ) (store : Span StoreTold) : Type 0 where
   pub blocks : List Block
   pub reads : Reads store blocks
   pub some : 0 < length blocks
   pub count_is : count ≡ length blocks
 
-abbrev pub IsMakeStop : Stop → Span StoreTold → Type 0
+abbrev pub IsMakeStop : CommandFault → Span StoreTold → Type 0
 IsMakeStop (stop.NotEmpty count) store = HasBlocks count store
 IsMakeStop why store = IsLoadStop why store
 
--- The text is the summary of the workload's run; or there is none for this cause, and the store holds what it held, or
--- the journal of the run or a part of it.
-abbrev pub Makes : MakeOptions → Result (List ℕ) Stop → Span StoreTold → Span Answers → Type 0
+-- There is no summary for this cause, and the store holds what it held, or the journal of the run or a part of it. If
+-- memory ran out, no failure of the store is hidden.
+pub record IsUnmade (o : MakeOptions) (why : CommandFault) (store : Span StoreTold) (clock : Span Answers)
+    : Type 0 where
+  pub left : LeavesWorkload o store clock
+  pub is : IsMakeStop why store
+  pub tells : why ≡ stop.OutOfMemory → IsUnfailed store ⊎ TellsWorkload o store clock
+
+-- the text is the summary of the workload's run, or there is none
+abbrev pub Makes : MakeOptions → Result (List ℕ) CommandFault → Span StoreTold → Span Answers → Type 0
 Makes o (Ok text) store clock = IsSummaryOf o store clock text
-Makes o (Err why) store clock = LeavesWorkload o store clock × IsMakeStop why store
+Makes o (Err why) store clock = IsUnmade o why store clock

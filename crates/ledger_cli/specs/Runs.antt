@@ -7,16 +7,18 @@ use Rattle.ledger_model.specs.Report.{report}
 use Rattle.ledger_model.specs.Script.{Placed}
 use Rattle.outside.specs.Told.{StoreTold, held}
 use Rattle.laws_history.specs.Standings.{IsStanding}
-use Rattle.laws_history.specs.Calls.{span}
+use Rattle.laws_history.specs.Calls.{Span, span}
 use Rattle.laws_history.specs.Records.{greatest, mask_of}
 use Rattle.laws_history.specs.Stores.{Holding, IsSynced}
-use Rattle.ledger_core.specs.Loads.{IsLoaded}
+use Rattle.journal_reader.specs.Loads.{IsLoaded}
+use Rattle.cli_model.specs.Runs.{Terms, HoldsRun, TellsRun}
+use Rattle.cli_model.specs.Stores.{IsUnfailed}
 use Rattle.ledger_core.specs.Tails.{MayBeCut, TailHeld}
 use Rattle.ledger_shared.specs.Behind.{IsKept, Keeps}
 use Rattle.ledger_shared.specs.Ran.{AllHaveRun}
 use Rattle.ledger_cli.specs.Stops.{IsTailStop}
-use Rattle.ledger_cli.specs.declared.stop.Stop.{Stop}
-use Rattle.ledger_cli.specs.declared.stop.Stop.TheVariants as stop
+use Rattle.ledger_cli.specs.declared.command_fault.CommandFault.{CommandFault}
+use Rattle.ledger_cli.specs.declared.command_fault.CommandFault.TheVariants as stop
 
 module _ {S C : Type 0} (told : S → StoreTold) where
   -- ---- the begin
@@ -40,14 +42,15 @@ module _ {S C : Type 0} (told : S → StoreTold) where
     pub fine : (told now.store).faults ≡ (told ran.store).faults
     pub synced : IsKept told ran → IsSynced (told now.store)
 
-  -- the store failed or memory was wanted, and the bytes are as they were or cut to the lines of the blocks
-  pub record IsUnsettled (ran now : TailHeld S C) (why : Stop) : Type 0 where
+  -- the store failed or memory ran out, and the bytes are as they were or cut to the lines of the blocks
+  pub record IsUnsettled (ran now : TailHeld S C) (why : CommandFault) : Type 0 where
     pub clock : now.clock ≡ ran.clock
     pub cut : MayBeCut (held (told ran.store)) (held (told now.store)) (length (journal_bytes ran.standing.blocks))
     pub stop : IsTailStop why (span (told ran.store) (told now.store))
 
   -- what there was is given with the settled tail
-  abbrev pub Comes : TailHeld S C → List PlacedOutcome → Result (List PlacedOutcome) Stop → TailHeld S C → Type 0
+  abbrev pub Comes :
+      TailHeld S C → List PlacedOutcome → Result (List PlacedOutcome) CommandFault → TailHeld S C → Type 0
   Comes ran outcomes (Ok kept) now = (kept ≡ outcomes) × IsSettled ran now
   Comes ran outcomes (Err why) now = IsUnsettled ran now why
 
@@ -62,20 +65,36 @@ module _ {S C : Type 0} (told : S → StoreTold) (answers : C → Option (List �
     pub settled : IsSettled told ran now
 
   -- they were run, and it wasn't
-  pub record HasStopped (why : Stop) (now : TailHeld S C) : Type 0 where
+  pub record HasStopped (why : CommandFault) (now : TailHeld S C) : Type 0 where
     pub ran : TailHeld S C
     pub outcomes : List PlacedOutcome
     pub all : AllHaveRun told answers always workers jobs opened ran outcomes
     pub stopped : IsUnsettled told ran now why
 
-  -- or memory was wanted, and none was run
-  abbrev pub Settles : Result (List PlacedOutcome) Stop → TailHeld S C → Type 0
+  -- or memory ran out, and none was run
+  abbrev pub Settles : Result (List PlacedOutcome) CommandFault → TailHeld S C → Type 0
   Settles (Ok outcomes) now = HasSettled outcomes now
   Settles (Err why) now = HasStopped why now ⊎ ((why ≡ stop.OutOfMemory) × Keeps told answers always opened now [])
 
--- the text is the report of the outcomes, if there are some, or memory was wanted
-abbrev pub Reports : List Block → Result (List PlacedOutcome) Stop → Result (List ℕ) Stop → Type 0
+-- the text is the report of the outcomes, if there are some, or memory ran out
+abbrev pub Reports : List Block → Result (List PlacedOutcome) CommandFault → Result (List ℕ) CommandFault → Type 0
 Reports blocks (Ok outcomes) (Ok text) = text ≡ report blocks outcomes
 Reports blocks (Ok outcomes) (Err why) = why ≡ stop.OutOfMemory
 Reports blocks (Err why) (Ok text) = ⊥
 Reports blocks (Err why) (Err other) = other ≡ why
+
+-- ---- what is told of the whole
+
+-- the store holds what it held, or the journal of a run of the jobs or of a part of it
+abbrev pub LeavesJobs : ℕ → List Placed → Span StoreTold → Terms → Type 0
+LeavesJobs workers jobs store terms = (held store.after ≡ held store.before) ⊎ HoldsRun terms workers jobs store
+
+-- the store didn't fail, or as often as the outcomes of such a run say
+abbrev pub TellsJobs : ℕ → List Placed → Span StoreTold → Terms → Type 0
+TellsJobs workers jobs store terms = IsUnfailed store ⊎ TellsRun terms workers jobs store
+
+-- the run has no report for this reason; if memory ran out, no failure of the store is hidden
+pub record IsEnded (why : CommandFault) (workers : ℕ) (jobs : List Placed) (store : Span StoreTold) (terms : Terms)
+    : Type 0 where
+  pub left : LeavesJobs workers jobs store terms
+  pub tells : why ≡ stop.OutOfMemory → TellsJobs workers jobs store terms

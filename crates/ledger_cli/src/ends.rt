@@ -1,16 +1,15 @@
 //! How a command ends: with its output or an error line, and an exit status.
-ghost use Rattle.std.specs.Prelude.{◌≡◌, ◌<◌, ◌⊎◌, Err};
+ghost use Rattle.std.specs.Prelude.{◌≡◌, Err};
 ghost use Rattle.laws_history.specs.Calls.{span};
-ghost use Rattle.laws_history.specs.Streams.{Writes, WritesPart};
+ghost use Rattle.cli_model.specs.Claims as top;
 ghost use Rattle.cli_model.specs.Lines.{damaged_line, input_line, no_such_line, not_empty_line, proof_fault_line};
-ghost use Rattle.cli_model.specs.Top as top;
-ghost use Rattle.ledger_cli.specs.Ends.{EndsBy, IsLine, IsOwnLine, IsWanted, count_line, status_of};
+ghost use Rattle.ledger_cli.specs.Ends.{EndsBy, IsLine, IsOutputEnd, IsOwnLine, WritesMemoryLine, count_line, status_of};
 ghost use Rattle.ledger_cli.specs.Judgements.{cause_of};
 
+use crate::command_fault::CommandFault;
 use crate::faults::proof_fault_line;
 use crate::lines::{BadInput, damaged_line, input_line, no_such_line, not_empty_line};
 use crate::output::{write_all, write_count};
-use crate::stop::Stop;
 use ion_values::Text;
 use ledger_model::Damage;
 use outside::{JournalStore, OutFault, Sink, Source};
@@ -39,27 +38,27 @@ pub fn number_of(status: Status) -> u8
     status as u8
 }
 
-/// Ends with the output, or with the error line of what the command was stopped by.
+/// Ends with the output, or with the error line of why there is none.
 pub fn end<So: Source, Si: Sink, St: JournalStore>(
     alloc: Global,
-    came: Result<Text, Stop>,
+    value: Result<Text, CommandFault>,
     source: &So,
     sink: &mut Si,
     store: &St,
 ) -> Status
-    ensures { EndsBy came result (So.told source.now).faults (St.told store.now).faults
+    ensures { EndsBy value result (So.told source.now).faults (St.told store.now).faults
         (span (Si.told sink.old) (Si.told sink.new)) }
 {
-    match came {
+    match value {
         Ok(text) => end_by_output(sink, text),
         Err(stop) => end_by_stop(alloc, stop, source, sink, store),
     }
 }
 
-/// Ends with the error line of what the command was stopped by.
+/// Ends with the error line of why there is no output.
 fn end_by_stop<So: Source, Si: Sink, St: JournalStore>(
     alloc: Global,
-    stop: Stop,
+    stop: CommandFault,
     source: &So,
     sink: &mut Si,
     store: &St,
@@ -68,12 +67,13 @@ fn end_by_stop<So: Source, Si: Sink, St: JournalStore>(
         (span (Si.told sink.old) (Si.told sink.new)) }
 {
     match stop {
-        Stop::BadInput(cause) => end_by_input(alloc, sink, cause),
-        Stop::NoSuch(refused) => end_by_none(alloc, sink, refused),
-        Stop::NotEmpty { blocks } => end_by_blocks(alloc, sink, blocks),
-        Stop::NotAccepted(fault) => end_by_fault(alloc, sink, &fault),
-        Stop::Damaged { sequence, kind } => end_by_damage(alloc, sink, sequence, kind),
-        Stop::SourceFailed => {
+        CommandFault::BadWords => end_by_line(sink, "{status:1}\n", Status::BadWords),
+        CommandFault::BadInput(cause) => end_by_input(alloc, sink, cause),
+        CommandFault::NoSuch(refused) => end_by_none(alloc, sink, refused),
+        CommandFault::NotEmpty { blocks } => end_by_blocks(alloc, sink, blocks),
+        CommandFault::NotAccepted(fault) => end_by_fault(alloc, sink, &fault),
+        CommandFault::Damaged { sequence, kind } => end_by_damage(alloc, sink, sequence, kind),
+        CommandFault::SourceFailed => {
             end_by_count(
                 sink,
                 "{status:4,faults:",
@@ -81,7 +81,7 @@ fn end_by_stop<So: Source, Si: Sink, St: JournalStore>(
                 Status::SourceFailed,
             )
         }
-        Stop::StoreFailed => {
+        CommandFault::StoreFailed => {
             end_by_count(
                 sink,
                 "{status:5,faults:",
@@ -89,17 +89,13 @@ fn end_by_stop<So: Source, Si: Sink, St: JournalStore>(
                 Status::StoreFailed,
             )
         }
-        Stop::OutOfMemory => end_by_want(sink),
+        CommandFault::OutOfMemory => end_without_memory(sink),
     }
 }
 
 /// Ends with the output.
 fn end_by_output<Si: Sink>(sink: &mut Si, text: Text) -> Status
-    ensures known { (result ≡ Status.Done) ⊎ (result ≡ Status.SinkFailed) ⊎ (result ≡ Status.OutOfMemory) }
-    ensures done { result ≡ Status.Done → Writes (span (Si.told sink.old) (Si.told sink.new)) text }
-    ensures part { WritesPart (span (Si.told sink.old) (Si.told sink.new)) text }
-    ensures failed { result ≡ Status.SinkFailed → (Si.told sink.old).faults < (Si.told sink.new).faults }
-    ensures wanted { result ≡ Status.OutOfMemory → (Si.told sink.new).faults ≡ (Si.told sink.old).faults }
+    ensures { IsOutputEnd result (span (Si.told sink.old) (Si.told sink.new)) text }
 {
     match write_all(sink, text.as_str().as_bytes()) {
         Ok(()) => Status::Done,
@@ -108,9 +104,8 @@ fn end_by_output<Si: Sink>(sink: &mut Si, text: Text) -> Status
     }
 }
 
-/// Ends with an error line, whether the sink takes it or fails, but where the sink finds no memory: it is not asked
-/// again.
-pub fn end_by_line<Si: Sink>(sink: &mut Si, line: &str, status: Status) -> Status
+/// Ends with an error line, whether the sink takes it or fails. If the sink has no memory, it isn't asked again.
+fn end_by_line<Si: Sink>(sink: &mut Si, line: &str, status: Status) -> Status
     ensures { IsOwnLine result status (span (Si.told sink.old) (Si.told sink.new)) line.now }
 {
     match write_all(sink, line.as_bytes()) {
@@ -120,7 +115,9 @@ pub fn end_by_line<Si: Sink>(sink: &mut Si, line: &str, status: Status) -> Statu
     }
 }
 
-/// Ends with the error line of a source or a store that has failed so often, which takes no memory but the sink's.
+/// Ends with the error line of a failed source or store and the number of its failures.
+///
+/// The line takes no memory but the sink's.
 fn end_by_count<Si: Sink>(sink: &mut Si, front: &str, count: u64, status: Status) -> Status
     ensures { IsOwnLine result status (span (Si.told sink.old) (Si.told sink.new)) (count_line front.now count) }
 {
@@ -131,10 +128,10 @@ fn end_by_count<Si: Sink>(sink: &mut Si, front: &str, count: u64, status: Status
     }
 }
 
-/// Ends with the error line of want of memory, whether the sink takes it or not.
-pub fn end_by_want<Si: Sink>(sink: &mut Si) -> Status
-    ensures wanted { result ≡ Status.OutOfMemory }
-    ensures line { IsWanted (span (Si.told sink.old) (Si.told sink.new)) }
+/// Ends with the error line of status 8, whether the sink takes it or not.
+fn end_without_memory<Si: Sink>(sink: &mut Si) -> Status
+    ensures status { result ≡ Status.OutOfMemory }
+    ensures line { WritesMemoryLine (span (Si.told sink.old) (Si.told sink.new)) }
 {
     end_by_line(sink, "{status:8}\n", Status::OutOfMemory)
 }
@@ -145,27 +142,27 @@ fn end_by_input<Si: Sink>(alloc: Global, sink: &mut Si, cause: BadInput) -> Stat
 {
     match input_line(alloc, cause) {
         Ok(line) => end_by_line(sink, line.as_str(), Status::BadInput),
-        Err(_) => end_by_want(sink),
+        Err(_) => end_without_memory(sink),
     }
 }
 
-/// Ends with the error line of a digest or proof that there is none of.
+/// Ends with the error line of a digest or proof that doesn't exist.
 fn end_by_none<Si: Sink>(alloc: Global, sink: &mut Si, refused: NoSuch) -> Status
     ensures { IsLine result Status.BadInput (span (Si.told sink.old) (Si.told sink.new)) (no_such_line refused) }
 {
     match no_such_line(alloc, refused) {
         Ok(line) => end_by_line(sink, line.as_str(), Status::BadInput),
-        Err(_) => end_by_want(sink),
+        Err(_) => end_without_memory(sink),
     }
 }
 
-/// Ends with the error line of a journal that has so many blocks, and was to have none.
+/// Ends with the error line of a journal that must be empty, but has this number of blocks.
 fn end_by_blocks<Si: Sink>(alloc: Global, sink: &mut Si, blocks: u64) -> Status
     ensures { IsLine result Status.BadInput (span (Si.told sink.old) (Si.told sink.new)) (not_empty_line blocks) }
 {
     match not_empty_line(alloc, blocks) {
         Ok(line) => end_by_line(sink, line.as_str(), Status::BadInput),
-        Err(_) => end_by_want(sink),
+        Err(_) => end_without_memory(sink),
     }
 }
 
@@ -176,7 +173,7 @@ fn end_by_fault<Si: Sink>(alloc: Global, sink: &mut Si, fault: &ProofFault) -> S
 {
     match proof_fault_line(alloc, fault) {
         Ok(line) => end_by_line(sink, line.as_str(), Status::NotAccepted),
-        Err(_) => end_by_want(sink),
+        Err(_) => end_without_memory(sink),
     }
 }
 
@@ -186,6 +183,6 @@ fn end_by_damage<Si: Sink>(alloc: Global, sink: &mut Si, sequence: u64, kind: Da
 {
     match damaged_line(alloc, sequence, kind) {
         Ok(line) => end_by_line(sink, line.as_str(), Status::Damaged),
-        Err(_) => end_by_want(sink),
+        Err(_) => end_without_memory(sink),
     }
 }

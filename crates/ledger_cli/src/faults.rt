@@ -4,6 +4,7 @@ ghost use Rattle.ledger_model.specs.Journal.{address_value, hash_value, id_value
 ghost use Rattle.ledger_model.specs.Values.{field};
 ghost use Rattle.cli_model.specs.Lines.{proof_fault_fields, proof_fault_line};
 
+use crate::named::{Named, with_name};
 use containers::Sequence;
 use ion_text::write;
 use ion_values::{Fields, OutOfMemory, Text, Value};
@@ -12,7 +13,7 @@ use ql_types::{BlockAddress, Hash32, StrandId};
 use std::alloc::Global;
 use value_codec::parts::{address_value, hash_value, id_value, number, put, string, structure};
 
-/// The fields of a fault's number alone.
+/// The field of a fault's number alone.
 fn bare(alloc: Global, code: u64) -> Result<Fields, OutOfMemory>
     ensures { IfOk result (λ fields. fields ≡ field (codes "code") (number code) ∷ []) }
 {
@@ -21,106 +22,131 @@ fn bare(alloc: Global, code: u64) -> Result<Fields, OutOfMemory>
     Ok(fields)
 }
 
-/// Those of its number and a value.
-fn with_one(alloc: Global, code: u64, name: &str, value: Value) -> Result<Fields, OutOfMemory>
-    ensures { IfOk result (λ fields. fields ≡ field (codes "code") (number code) ∷ field name.now value ∷ []) }
+/// The fields of a fault's number and a value.
+fn with_one(alloc: Global, code: u64, first: Named<Value>) -> Result<Fields, OutOfMemory>
+    ensures { IfOk result (λ fields. fields ≡ field (codes "code") (number code)
+        ∷ field first.name.now first.value ∷ []) }
 {
     let mut fields = bare(alloc, code)?;
-    put(alloc, &mut fields, name, value)?;
+    put(alloc, &mut fields, first.name, first.value)?;
     Ok(fields)
 }
 
-/// Those of its number and a text.
-fn with_text(alloc: Global, code: u64, name: &str, text: &Text) -> Result<Fields, OutOfMemory>
+/// The fields of a fault's number and a text.
+fn with_text(
+    alloc: Global,
+    code: u64,
+    name: &'static str,
+    text: &Text,
+) -> Result<Fields, OutOfMemory>
     ensures { IfOk result (λ fields. fields ≡ field (codes "code") (number code)
         ∷ field name.now (string text.now) ∷ []) }
 {
     let value = string(alloc, text)?;
-    with_one(alloc, code, name, value)
+    with_one(alloc, code, Named { name, value })
 }
 
-/// Those of its number and two values.
+/// The fields of a fault's number and two values.
 fn with_two(
     alloc: Global,
     code: u64,
-    name: &str,
-    first: Value,
-    other: &str,
-    second: Value,
+    first: Named<Value>,
+    second: Named<Value>,
 ) -> Result<Fields, OutOfMemory>
-    ensures { IfOk result (λ fields. fields ≡ field (codes "code") (number code) ∷ field name.now first
-        ∷ field other.now second ∷ []) }
+    ensures { IfOk result (λ fields. fields ≡ field (codes "code") (number code)
+        ∷ field first.name.now first.value ∷ field second.name.now second.value ∷ []) }
 {
-    let mut fields = with_one(alloc, code, name, first)?;
-    put(alloc, &mut fields, other, second)?;
+    let mut fields = with_one(alloc, code, first)?;
+    put(alloc, &mut fields, second.name, second.value)?;
     Ok(fields)
 }
 
-/// Those of its number and two numbers.
+/// The fields of a fault's number and two numbers.
 fn with_numbers(
     alloc: Global,
     code: u64,
-    name: &str,
-    first: u64,
-    other: &str,
-    second: u64,
+    first: Named<u64>,
+    second: Named<u64>,
 ) -> Result<Fields, OutOfMemory>
-    ensures { IfOk result (λ fields. fields ≡ field (codes "code") (number code) ∷ field name.now (number first)
-        ∷ field other.now (number second) ∷ []) }
+    ensures { IfOk result (λ fields. fields ≡ field (codes "code") (number code)
+        ∷ field first.name.now (number first.value)
+        ∷ field second.name.now (number second.value) ∷ []) }
 {
-    let (first, second) = (number(alloc, first), number(alloc, second));
-    with_two(alloc, code, name, first, other, second)
+    let one = Named {
+        name: first.name,
+        value: number(alloc, first.value),
+    };
+    let other = Named {
+        name: second.name,
+        value: number(alloc, second.value),
+    };
+    with_two(alloc, code, one, other)
 }
 
-/// Those of its number and two ids.
+/// The fields of a fault's number and two ids.
 fn with_ids(
     alloc: Global,
     code: u64,
-    name: &str,
-    first: StrandId,
-    other: &str,
-    second: StrandId,
+    first: Named<StrandId>,
+    second: Named<StrandId>,
 ) -> Result<Fields, OutOfMemory>
-    ensures { IfOk result (λ fields. fields ≡ field (codes "code") (number code) ∷ field name.now (id_value first.raw)
-        ∷ field other.now (id_value second.raw) ∷ []) }
+    ensures { IfOk result (λ fields. fields ≡ field (codes "code") (number code)
+        ∷ field first.name.now (id_value first.value.raw)
+        ∷ field second.name.now (id_value second.value.raw) ∷ []) }
 {
-    let first = id_value(alloc, first.raw)?;
-    let second = id_value(alloc, second.raw)?;
-    with_two(alloc, code, name, first, other, second)
+    let one = Named {
+        name: first.name,
+        value: id_value(alloc, first.value.raw)?,
+    };
+    let other = Named {
+        name: second.name,
+        value: id_value(alloc, second.value.raw)?,
+    };
+    with_two(alloc, code, one, other)
 }
 
-/// Those of its number and two addresses.
+/// The fields of a fault's number and two addresses.
 fn with_addresses(
     alloc: Global,
     code: u64,
-    name: &str,
-    first: &BlockAddress,
-    other: &str,
-    second: &BlockAddress,
+    first: Named<BlockAddress>,
+    second: Named<BlockAddress>,
 ) -> Result<Fields, OutOfMemory>
     ensures { IfOk result (λ fields. fields ≡ field (codes "code") (number code)
-        ∷ field name.now (address_value first.now) ∷ field other.now (address_value second.now) ∷ []) }
+        ∷ field first.name.now (address_value first.value)
+        ∷ field second.name.now (address_value second.value) ∷ []) }
 {
-    let first = address_value(alloc, first)?;
-    let second = address_value(alloc, second)?;
-    with_two(alloc, code, name, first, other, second)
+    let one = Named {
+        name: first.name,
+        value: address_value(alloc, &first.value)?,
+    };
+    let other = Named {
+        name: second.name,
+        value: address_value(alloc, &second.value)?,
+    };
+    with_two(alloc, code, one, other)
 }
 
-/// Those of its number and two hashes.
+/// The fields of a fault's number and two hashes.
 fn with_hashes(
     alloc: Global,
     code: u64,
-    name: &str,
-    first: &Hash32,
-    other: &str,
-    second: &Hash32,
+    first: Named<Hash32>,
+    second: Named<Hash32>,
 ) -> Result<Fields, OutOfMemory>
-    ensures { IfOk result (λ fields. fields ≡ field (codes "code") (number code) ∷ field name.now (hash_value first.now)
-        ∷ field other.now (hash_value second.now) ∷ []) }
+    ensures { IfOk result (λ fields. fields ≡ field (codes "code") (number code)
+        ∷ field first.name.now (hash_value first.value)
+        ∷ field second.name.now (hash_value second.value) ∷ []) }
 {
-    let first = hash_value(alloc, first)?;
-    let second = hash_value(alloc, second)?;
-    with_two(alloc, code, name, first, other, second)
+    let one = Named {
+        name: first.name,
+        value: hash_value(alloc, &first.value)?,
+    };
+    let other = Named {
+        name: second.name,
+        value: hash_value(alloc, &second.value)?,
+    };
+    with_two(alloc, code, one, other)
 }
 
 /// The number of a fault and its values, as fields.
@@ -130,27 +156,62 @@ fn fault_fields(alloc: Global, refused: &ProofFault) -> Result<Fields, OutOfMemo
     match refused {
         ProofFault::Malformed { field } => with_text(alloc, 1, "field", field),
         ProofFault::WrongStrand { proof, digest } => {
-            with_ids(alloc, 2, "proof", *proof, "digest", *digest)
+            with_ids(
+                alloc,
+                2,
+                with_name("proof", *proof),
+                with_name("digest", *digest),
+            )
         }
         ProofFault::AddressDiffers { revision, proof } => {
-            with_addresses(alloc, 3, "revision", revision, "proof", proof)
+            with_addresses(
+                alloc,
+                3,
+                with_name("revision", *revision),
+                with_name("proof", *proof),
+            )
         }
         ProofFault::PastTip { sequence, tip } => {
-            with_numbers(alloc, 4, "sequence", *sequence, "tip", *tip)
+            with_numbers(
+                alloc,
+                4,
+                with_name("sequence", *sequence),
+                with_name("tip", *tip),
+            )
         }
         ProofFault::IndexPastCount { index, count } => {
-            with_numbers(alloc, 5, "index", *index, "count", *count)
+            with_numbers(
+                alloc,
+                5,
+                with_name("index", *index),
+                with_name("count", *count),
+            )
         }
         ProofFault::PathLength { wanted, given } => {
-            with_numbers(alloc, 6, "wanted", *wanted, "given", *given)
+            with_numbers(
+                alloc,
+                6,
+                with_name("wanted", *wanted),
+                with_name("given", *given),
+            )
         }
         ProofFault::HashFieldDiffers { stated, computed } => {
-            with_hashes(alloc, 7, "stated", stated, "computed", computed)
+            with_hashes(
+                alloc,
+                7,
+                with_name("stated", *stated),
+                with_name("computed", *computed),
+            )
         }
         ProofFault::RootDiffers {
             computed,
             published,
-        } => with_hashes(alloc, 8, "computed", computed, "published", published),
+        } => with_hashes(
+            alloc,
+            8,
+            with_name("computed", *computed),
+            with_name("published", *published),
+        ),
         ProofFault::OutOfMemory => bare(alloc, 9),
     }
 }

@@ -4,8 +4,8 @@ ghost use Rattle.laws_history.specs.Calls.{span};
 ghost use Rattle.laws_history.specs.Streams.{Taken, TakesFew, WasRead};
 ghost use Rattle.ledger_cli.specs.Inputs.{IsUnread};
 
+use crate::command_fault::CommandFault;
 use crate::lines::BadInput;
-use crate::stop::Stop;
 use outside::{OutFault, Source};
 use std::alloc::Global;
 
@@ -17,13 +17,13 @@ const PIECE: usize = 65_536;
 
 /// Reads the input to its end. Each turn takes at least one byte, and all take at most one more than the longest
 /// input has.
-pub fn read_all<So: Source>(alloc: Global, source: &mut So) -> Result<Vec<u8>, Stop>
+pub fn read_all<So: Source>(alloc: Global, source: &mut So) -> Result<Vec<u8>, CommandFault>
     ensures read { IfOk result (λ all. WasRead (span (So.told source.old) (So.told source.new)) all.items) }
     ensures short { IfOk result (λ all. length all.items ≤ 16777216) }
     ensures few { TakesFew (span (So.told source.old) (So.told source.new)) }
     ensures fine { OnOk result ((So.told source.new).faults ≡ (So.told source.old).faults) }
     ensures stop { IfErr result (λ stop. IsUnread stop (span (So.told source.old) (So.told source.new))) }
-    ensures too_long { IsErrOf result (Stop.BadInput BadInput.TooLong)
+    ensures too_long { IsErrOf result (CommandFault.BadInput BadInput.TooLong)
         → (input : List ℕ) × Taken (span (So.told source.old) (So.told source.new)) input × (16777216 < length input) }
 {
     let mut all = Vec::new(alloc);
@@ -32,15 +32,15 @@ pub fn read_all<So: Source>(alloc: Global, source: &mut So) -> Result<Vec<u8>, S
         let room = piece.len().min(LONGEST + 1 - all.len());
         let count = match source.read(&mut piece[..room]) {
             Ok(count) => count,
-            Err(OutFault::Failed) => return Err(Stop::SourceFailed),
-            Err(OutFault::OutOfMemory) => return Err(Stop::OutOfMemory),
+            Err(OutFault::Failed) => return Err(CommandFault::SourceFailed),
+            Err(OutFault::OutOfMemory) => return Err(CommandFault::OutOfMemory),
         };
         if count == 0 {
             return Ok(all);
         }
         if all.extend_from_slice(&piece[..count]).is_err() {
-            return Err(Stop::OutOfMemory);
+            return Err(CommandFault::OutOfMemory);
         }
     }
-    Err(Stop::BadInput(BadInput::TooLong))
+    Err(CommandFault::BadInput(BadInput::TooLong))
 }

@@ -1,8 +1,8 @@
 //! The top call of the ledger: it does what the words of a command line ask for.
 #![tactic(auto)]
 
-mod audit;
-mod digest;
+mod command_fault;
+mod counts;
 mod ends;
 mod faults;
 mod input;
@@ -10,11 +10,12 @@ mod journal;
 mod judging;
 mod lines;
 mod make;
+mod named;
 mod output;
 mod prove;
+mod question;
 mod returned;
 mod run;
-mod stop;
 mod times;
 mod top;
 mod verify;

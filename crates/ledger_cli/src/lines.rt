@@ -4,6 +4,7 @@ ghost use Rattle.std.specs.Fmt.{decimal};
 ghost use Rattle.cli_model.specs.Lines.{damage_name, damaged_line, fault_text, faulty, input_line, kind_name, no_such_line, no_such_text, not_empty_line, script_fault_text, script_kind_name};
 ghost use Rattle.ledger_cli.specs.Judgements.{cause_of};
 
+use crate::named::Named;
 use ion_values::{IonFault, IonKind, OutOfMemory, Text};
 use ledger_model::{Damage, ScriptFault, ScriptKind};
 use proof_issue::NoSuch;
@@ -105,7 +106,7 @@ fn script_kind_name(kind: ScriptKind) -> &'static str
     }
 }
 
-/// The error line where there is no such digest or proof.
+/// The error line of a digest or proof that doesn't exist.
 pub fn no_such_line(alloc: Global, refused: NoSuch) -> Result<Text, OutOfMemory>
     ensures { IfOk result (λ line. line ≡ no_such_line refused) }
 {
@@ -116,7 +117,7 @@ pub fn no_such_line(alloc: Global, refused: NoSuch) -> Result<Text, OutOfMemory>
     Ok(line)
 }
 
-/// The error line where the journal has so many blocks, and was to have none.
+/// The error line of a journal that must be empty, but has this number of blocks.
 pub fn not_empty_line(alloc: Global, blocks: u64) -> Result<Text, OutOfMemory>
     ensures { IfOk result (λ line. line ≡ not_empty_line blocks) }
 {
@@ -136,48 +137,59 @@ fn push_no_such(alloc: Global, line: &mut Text, refused: NoSuch) -> Result<(), O
         NoSuch::Block { sequence, blocks } => push_two(
             alloc,
             line,
-            "kind:NoSuchBlock,sequence:",
-            sequence,
-            ",blocks:",
-            blocks,
+            Named {
+                name: "kind:NoSuchBlock,sequence:",
+                value: sequence,
+            },
+            Named {
+                name: ",blocks:",
+                value: blocks,
+            },
         )?,
         NoSuch::Revision { index, count } => push_two(
             alloc,
             line,
-            "kind:NoSuchRevision,index:",
-            u64::from(index),
-            ",count:",
-            u64::from(count),
+            Named {
+                name: "kind:NoSuchRevision,index:",
+                value: u64::from(index),
+            },
+            Named {
+                name: ",count:",
+                value: u64::from(count),
+            },
         )?,
         NoSuch::PastTip { sequence, tip } => push_two(
             alloc,
             line,
-            "kind:PastTip,sequence:",
-            sequence,
-            ",tip:",
-            tip,
+            Named {
+                name: "kind:PastTip,sequence:",
+                value: sequence,
+            },
+            Named {
+                name: ",tip:",
+                value: tip,
+            },
         )?,
         NoSuch::OutOfMemory => line.push_str("kind:OutOfMemory")?,
     }
     Ok(())
 }
 
-/// Writes two texts, a number behind each.
+/// Writes two numbers, each after its name.
 fn push_two(
     alloc: Global,
     line: &mut Text,
-    front: &str,
-    first: u64,
-    between: &str,
-    second: u64,
+    first: Named<u64>,
+    second: Named<u64>,
 ) -> Result<(), OutOfMemory>
-    ensures { OnOk result (line.new ≡ line.old ++ (front.now ++ decimal first ++ between.now ++ decimal second)) }
+    ensures { OnOk result (line.new ≡ line.old ++ (first.name.now ++ decimal first.value
+        ++ second.name.now ++ decimal second.value)) }
 {
-    let number = first.to_string(alloc)?;
-    let other = second.to_string(alloc)?;
-    line.push_str(front)?;
+    let number = first.value.to_string(alloc)?;
+    let other = second.value.to_string(alloc)?;
+    line.push_str(first.name)?;
     line.push_str(number.as_str())?;
-    line.push_str(between)?;
+    line.push_str(second.name)?;
     line.push_str(other.as_str())?;
     Ok(())
 }

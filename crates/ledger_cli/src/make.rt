@@ -8,19 +8,20 @@ ghost use Rattle.ledger_shared.specs.Sessions.{AreNumbered};
 ghost use Rattle.ledger_cli.specs.Making.{IsWorkload, Makes, MakesAll, SumsUp, at_first};
 ghost use Rattle.ledger_cli.specs.Runs.{HasLoaded};
 
+use crate::command_fault::CommandFault;
 use crate::journal::unloaded;
-use crate::returned::HandedBack;
-use crate::run::{Ran, Settled, settle};
-use crate::stop::Stop;
+use crate::returned::{Host, Resources, Returned};
+use crate::run::{Settled, settle};
 use cli_args::MakeOptions;
 use id_seed::from_seed;
 use ion_values::{OutOfMemory, Text};
 use journal_text::written_on_one_line;
 use ledger_core::Tail;
 use ledger_model::{Blocks, Job, Outcomes, Script};
+use ledger_shared::Crew;
 use outside::{Clock, Gate, JournalStore};
 use ql_types::Place;
-use run_after_setup::run_behind_first;
+use run_after_setup::{Setup, run_behind_first};
 use std::alloc::Global;
 use std::sync::Wait;
 use std::thread::Threads;
@@ -42,49 +43,45 @@ fn transactions_of(alloc: Global, options: MakeOptions) -> Result<Workload, OutO
     Ok(Workload { first, sessions })
 }
 
-/// Runs the first transaction alone, and then the sessions by so many workers, and cuts away what stands behind the
-/// journal. The outcomes are those of the sessions.
+/// Runs the first transaction alone and then the sessions by the crew's workers. The outcomes are those of the sessions.
+///
+/// What stands after the journal is cut away at the end.
 fn run_workload<S: JournalStore + Send, C: Clock + Send, G: Gate + Sync, R: Threads + Wait + Sync>(
-    rt: &R,
     alloc: Global,
+    crew: &Crew<'_, R, G>,
     workload: &Workload,
-    workers: u32,
-    gate: &G,
     tail: Tail<S, C>,
 ) -> Settled<S, C>
-    requires some { 0 < workers }
+    requires some { 0 < crew.now.workers }
     requires few { AreNumbered workload.now.sessions }
-    ensures { MakesAll S.told C.answers C.always workers (at_first workload.now.first)
-        (all_placed workload.now.sessions) tail result.came result.tail }
+    ensures { MakesAll S.told C.answers C.always crew.now.workers (at_first workload.now.first)
+        (all_placed workload.now.sessions) tail result.value result.tail }
 {
-    let place = Place {
-        session: 0,
-        transaction: 1,
+    let setup = Setup {
+        job: &workload.first,
+        place: Place {
+            session: 0,
+            transaction: 1,
+        },
     };
-    let sessions = workload.sessions.as_slice();
-    match run_behind_first(
-        rt,
-        alloc,
-        &workload.first,
-        place,
-        sessions,
-        workers,
-        gate,
-        tail,
-    ) {
+    match run_behind_first(crew, alloc, &setup, workload.sessions.as_slice(), tail) {
         Ok(ran) => settle(ran.tail, ran.outcomes),
         Err(refused) => Settled {
-            came: Err(Stop::OutOfMemory),
+            value: Err(CommandFault::OutOfMemory),
             tail: refused.tail,
         },
     }
 }
 
-/// The summary of these blocks, where all transactions have outcomes, or why there is none.
-fn summed_up(alloc: Global, blocks: &Blocks, came: Result<Outcomes, Stop>) -> Result<Text, Stop>
-    ensures { SumsUp blocks.now.list came result }
+/// The summary of these blocks if all transactions have outcomes, or why there is none.
+fn summed_up(
+    alloc: Global,
+    blocks: &Blocks,
+    value: Result<Outcomes, CommandFault>,
+) -> Result<Text, CommandFault>
+    ensures { SumsUp blocks.now.list value result }
 {
-    match came {
+    match value {
         Ok(_outcomes) => {
             let totals = summary(alloc, blocks.as_slice())?;
             Ok(summary_text(alloc, &totals)?)
@@ -93,98 +90,106 @@ fn summed_up(alloc: Global, blocks: &Blocks, came: Result<Outcomes, Stop>) -> Re
     }
 }
 
-/// Runs the workload on this tail, whose journal is empty, and gives its store and its clock back.
+/// Runs the workload on this tail, whose journal is empty, and returns its summary with the tail's store and clock.
 fn make_all<S: JournalStore + Send, C: Clock + Send, G: Gate + Sync, R: Threads + Wait + Sync>(
-    rt: &R,
     alloc: Global,
+    host: &Host<'_, R, G>,
     options: MakeOptions,
     workload: &Workload,
-    gate: &G,
     tail: Tail<S, C>,
-) -> Ran<S, C>
+) -> Returned<Result<Text, CommandFault>, S, C>
     requires some { 0 < options.workers }
     requires of { IsWorkload options workload.now }
     ensures { (before : StoreTold) → HasLoaded S.told (mask_of options.seed) before tail → tail.standing.blocks ≡ []
-        → Makes options result.came (span before (S.told result.store))
+        → Makes options result.value (span before (S.told result.store))
         (span (C.answers tail.clock) (C.answers result.clock)) }
 {
     written_on_one_line();
-    let Settled { came, tail } = run_workload(rt, alloc, workload, options.workers, gate, tail);
-    let came = summed_up(alloc, tail.blocks(), came);
+    let crew = Crew {
+        rt: host.rt,
+        gate: host.gate,
+        workers: options.workers,
+    };
+    let Settled { value, tail } = run_workload(alloc, &crew, workload, tail);
+    let value = summed_up(alloc, tail.blocks(), value);
     let (_blocks, store, clock) = tail.into_parts();
-    HandedBack { came, store, clock }
-}
-
-/// The same where there are no blocks, and else that there are some.
-fn make_if_empty<S: JournalStore + Send, C: Clock + Send, G: Gate + Sync, R: Threads + Wait + Sync>(
-    rt: &R,
-    alloc: Global,
-    options: MakeOptions,
-    workload: &Workload,
-    gate: &G,
-    tail: Tail<S, C>,
-) -> Ran<S, C>
-    requires some { 0 < options.workers }
-    requires of { IsWorkload options workload.now }
-    ensures { (before : StoreTold) → HasLoaded S.told (mask_of options.seed) before tail
-        → Makes options result.came (span before (S.told result.store))
-        (span (C.answers tail.clock) (C.answers result.clock)) }
-{
-    let blocks = tail.blocks().len();
-    if blocks == 0 {
-        return make_all(rt, alloc, options, workload, gate, tail);
-    }
-    let (_blocks, store, clock) = tail.into_parts();
-    HandedBack {
-        came: Err(Stop::NotEmpty { blocks }),
+    Returned {
+        value,
         store,
         clock,
     }
 }
 
-/// Runs the workload of these options on the journal that the store keeps, which has to be empty: first the transaction
-/// of session 0 alone, then the sessions by the workers. The ids have the mask of the seed, and each block is made at a
-/// time of this clock or at that of the block before it where that is later. The text is the summary of the blocks that
-/// are left.
-pub fn make<S: JournalStore + Send, C: Clock + Send, G: Gate + Sync, R: Threads + Wait + Sync>(
-    rt: &R,
+/// Runs the workload on this tail if it has no blocks, and returns otherwise that it has some.
+fn make_if_empty<S: JournalStore + Send, C: Clock + Send, G: Gate + Sync, R: Threads + Wait + Sync>(
     alloc: Global,
-    options: MakeOptions,
-    gate: &G,
-    clock: C,
-    store: S,
-) -> Ran<S, C>
-    requires { 0 < options.workers }
-    ensures { Makes options result.came (span (S.told store) (S.told result.store))
-        (span (C.answers clock) (C.answers result.clock)) }
-{
-    let Ok(workload) = transactions_of(alloc, options) else {
-        return HandedBack {
-            came: Err(Stop::OutOfMemory),
-            store,
-            clock,
-        };
-    };
-    make_by(rt, alloc, options, &workload, gate, clock, store)
-}
-
-/// The same with the workload's transactions.
-fn make_by<S: JournalStore + Send, C: Clock + Send, G: Gate + Sync, R: Threads + Wait + Sync>(
-    rt: &R,
-    alloc: Global,
+    host: &Host<'_, R, G>,
     options: MakeOptions,
     workload: &Workload,
-    gate: &G,
-    clock: C,
-    store: S,
-) -> Ran<S, C>
+    tail: Tail<S, C>,
+) -> Returned<Result<Text, CommandFault>, S, C>
     requires some { 0 < options.workers }
     requires of { IsWorkload options workload.now }
-    ensures { Makes options result.came (span (S.told store) (S.told result.store))
-        (span (C.answers clock) (C.answers result.clock)) }
+    ensures { (before : StoreTold) → HasLoaded S.told (mask_of options.seed) before tail
+        → Makes options result.value (span before (S.told result.store))
+        (span (C.answers tail.clock) (C.answers result.clock)) }
 {
+    let blocks = tail.blocks().len();
+    if blocks == 0 {
+        return make_all(alloc, host, options, workload, tail);
+    }
+    let (_blocks, store, clock) = tail.into_parts();
+    Returned {
+        value: Err(CommandFault::NotEmpty { blocks }),
+        store,
+        clock,
+    }
+}
+
+/// Runs the workload of these options on the journal that the store keeps, and sums up the blocks that are left.
+///
+/// The journal has to be empty. First the transaction of session 0 runs alone, then the workers run the sessions. The
+/// ids have the mask of the seed. Each block is made at a time of the clock, or at that of the block before it if that
+/// is later.
+pub fn make<S: JournalStore + Send, C: Clock + Send, G: Gate + Sync, R: Threads + Wait + Sync>(
+    alloc: Global,
+    host: &Host<'_, R, G>,
+    options: MakeOptions,
+    resources: Resources<S, C>,
+) -> Returned<Result<Text, CommandFault>, S, C>
+    requires { 0 < options.workers }
+    ensures { Makes options result.value (span (S.told resources.store) (S.told result.store))
+        (span (C.answers resources.clock) (C.answers result.clock)) }
+{
+    match transactions_of(alloc, options) {
+        Ok(workload) => make_by(alloc, host, options, &workload, resources),
+        Err(OutOfMemory) => {
+            let Resources { store, clock } = resources;
+            Returned {
+                value: Err(CommandFault::OutOfMemory),
+                store,
+                clock,
+            }
+        }
+    }
+}
+
+/// Runs these transactions, which are the workload's of these options, as `make` does.
+fn make_by<S: JournalStore + Send, C: Clock + Send, G: Gate + Sync, R: Threads + Wait + Sync>(
+    alloc: Global,
+    host: &Host<'_, R, G>,
+    options: MakeOptions,
+    workload: &Workload,
+    resources: Resources<S, C>,
+) -> Returned<Result<Text, CommandFault>, S, C>
+    requires some { 0 < options.workers }
+    requires of { IsWorkload options workload.now }
+    ensures { Makes options result.value (span (S.told resources.store) (S.told result.store))
+        (span (C.answers resources.clock) (C.answers result.clock)) }
+{
+    let Resources { store, clock } = resources;
     match Tail::reload(alloc, store, clock, from_seed(options.seed)) {
-        Ok(tail) => make_if_empty(rt, alloc, options, workload, gate, tail),
+        Ok(tail) => make_if_empty(alloc, host, options, workload, tail),
         Err(fault) => unloaded(fault),
     }
 }

@@ -1,16 +1,23 @@
-//! What a step gives back.
+//! What a call works with beside its words, its source and its sink, and what a step gives back of it.
 
-/// What came of a step, and the store that it was given.
+/// The runtime and the gate that the workers of a call use.
 #[derive(Drop)]
-pub struct Returned<T, S> {
-    pub came: T,
-    pub store: S,
+pub struct Host<'a, R, G> {
+    pub rt: &'a R,
+    pub gate: &'a G,
 }
 
-/// What came of a step, and the store and the clock that it was given.
+/// The store and the clock of a call.
 #[derive(Drop)]
-pub struct HandedBack<T, S, C> {
-    pub came: T,
+pub struct Resources<S, C> {
+    pub store: S,
+    pub clock: C,
+}
+
+/// The value of a step, and the store and the clock that it was given.
+#[derive(Drop)]
+pub struct Returned<T, S, C> {
+    pub value: T,
     pub store: S,
     pub clock: C,
 }

@@ -12,13 +12,13 @@ use ion_time::clamped;
 use outside::Clock;
 use ql_types::IdMask;
 
-/// A clock that stands at a time in milliseconds since 1970 in UTC.
+/// A clock that stands still, at a time in milliseconds since 1970 in UTC.
 #[derive(Drop)]
-pub struct Stopped {
+pub struct FixedClock {
     pub milliseconds: i64,
 }
 
-impl Clock for Stopped {
+impl Clock for FixedClock {
     ghost use Rattle.std.specs.Prelude.{None, Some};
 
     ghost answers = { λ _. None };
@@ -30,14 +30,14 @@ impl Clock for Stopped {
     }
 }
 
-/// Each moment has a timestamp, taken to the nearest millisecond of the years 0001 to 9999.
+/// Proves that each moment has a timestamp, taken to the nearest millisecond of the years 0001 to 9999.
 pub fn moments_have_times(milliseconds: i64)
     ensures { (time : TimeParts) × BeginsAt (nearest milliseconds) time }
 {
     let _time = clamped(milliseconds);
 }
 
-/// The mask that the words give the ids of an empty journal, for which the clock is asked where they give none.
+/// The mask that the words give the ids of an empty journal. If they give none, the clock is asked.
 pub fn mask_by<C: Clock>(ids: IdSource, clock: &mut C) -> IdMask
     ensures given { (later : Answers) → Extends (C.answers clock.new) later
         → IfSome (given_by ids (span (C.answers clock.old) later)) (λ given. given ≡ result.bits) }

@@ -5,10 +5,10 @@ ghost use Rattle.laws_history.specs.Streams.{TakesFew};
 ghost use Rattle.cli_model.specs.Bundles.{IsAccepted};
 ghost use Rattle.ledger_cli.specs.Bundles.{Decides, IsUnproved, ReadsValues, Verifies};
 
+use crate::command_fault::CommandFault;
 use crate::input::read_all;
 use crate::judging::DEEPEST;
 use crate::lines::BadInput;
-use crate::stop::Stop;
 use ion_text::{ReadFault, read_stream};
 use ion_values::{Text, Values};
 use outside::Source;
@@ -16,13 +16,13 @@ use proof_verify::{ProofFault, read_bundle, verify};
 use std::alloc::Global;
 
 /// The values that the input spells.
-fn read_values(alloc: Global, input: &[u8]) -> Result<Values, Stop>
+fn read_values(alloc: Global, input: &[u8]) -> Result<Values, CommandFault>
     ensures { ReadsValues result input.now }
 {
     match read_stream(alloc, input, DEEPEST) {
         Ok(values) => Ok(values),
-        Err(ReadFault::Ion(fault)) => Err(Stop::BadInput(BadInput::Faulty(fault))),
-        Err(ReadFault::OutOfMemory) => Err(Stop::OutOfMemory),
+        Err(ReadFault::Ion(fault)) => Err(CommandFault::BadInput(BadInput::Faulty(fault))),
+        Err(ReadFault::OutOfMemory) => Err(CommandFault::OutOfMemory),
     }
 }
 
@@ -36,7 +36,7 @@ fn judge(alloc: Global, values: &Values) -> Result<(), ProofFault>
 }
 
 /// The text that says that the proof of the values is accepted.
-fn verdict(alloc: Global, values: &Values) -> Result<Text, Stop>
+fn verdict(alloc: Global, values: &Values) -> Result<Text, CommandFault>
     ensures { Decides result values.now }
 {
     judge(alloc, values)?;
@@ -45,7 +45,7 @@ fn verdict(alloc: Global, values: &Values) -> Result<Text, Stop>
 }
 
 /// Reads the bundle that the source gives, and says that its proof is accepted.
-pub fn verify_input<So: Source>(alloc: Global, source: &mut So) -> Result<Text, Stop>
+pub fn verify_input<So: Source>(alloc: Global, source: &mut So) -> Result<Text, CommandFault>
     ensures verifies { Verifies result (span (So.told source.old) (So.told source.new)) }
     ensures few { TakesFew (span (So.told source.old) (So.told source.new)) }
 {

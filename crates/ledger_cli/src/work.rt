@@ -1,29 +1,24 @@
-//! What the commands come to: an output, or why there is none.
-ghost use Rattle.std.specs.Prelude.{◌≡◌, ◌<◌, Err, Some, false};
+//! What a command comes to: an output, or why there is none.
+ghost use Rattle.std.specs.Prelude.{◌≡◌, ◌<◌, Some, false};
 ghost use Rattle.laws_history.specs.Calls.{span};
 ghost use Rattle.laws_history.specs.Streams.{TakesFew};
 ghost use Rattle.cli_model.specs.Calls.{outside};
-ghost use Rattle.cli_model.specs.Journals as asks;
 ghost use Rattle.cli_model.specs.Top.{Keeps, asks_clock};
 ghost use Rattle.cli_args.specs.declared.Command.TheVariants as asked;
 ghost use Rattle.ledger_cli.specs.Ends.{Works};
 ghost use Rattle.ledger_cli.specs.Inputs.{ReadsScript};
 ghost use Rattle.ledger_cli.specs.Workers.{HasWorkers};
-ghost use Rattle.ledger_cli.specs.Questions.{Tells};
 
-use crate::audit::counts_text;
-use crate::digest::digest_text;
+use crate::command_fault::CommandFault;
 use crate::input::read_all;
-use crate::journal::read_tail;
 use crate::judging::judge;
 use crate::make::make;
-use crate::prove::proof_text;
-use crate::returned::{HandedBack, Returned};
+use crate::question::ask;
+use crate::returned::{Host, Resources, Returned};
 use crate::run::run_script;
-use crate::stop::Stop;
-use crate::times::mask_by;
 use crate::verify::verify_input;
 use cli_args::{Command, RunOptions};
+use cli_model::Question;
 use ion_values::Text;
 use ledger_model::Script;
 use outside::{Clock, Gate, JournalStore, Source};
@@ -31,13 +26,7 @@ use std::alloc::Global;
 use std::sync::Wait;
 use std::thread::Threads;
 
-/// What came of a command: its output, or why there is none, and the store and the clock that it was given.
-pub type Worked<S, C> = HandedBack<Result<Text, Stop>, S, C>;
-
-/// The same of one that takes no clock.
-type Came<S> = Returned<Result<Text, Stop>, S>;
-
-/// Does what the command says, but for its output.
+/// The output that the command asks for, or why there is none.
 pub fn work<
     R: Threads + Wait + Sync,
     So: Source,
@@ -45,52 +34,54 @@ pub fn work<
     C: Clock + Send,
     G: Gate + Sync,
 >(
-    rt: &R,
     alloc: Global,
+    host: &Host<'_, R, G>,
     command: Command,
     source: &mut So,
-    store: St,
-    clock: C,
-    gate: &G,
-) -> Worked<St, C>
-    requires { HasWorkers command }
-    ensures works { Works (result.store ≡ store) (Some command) result.came
-        (outside (span (So.told source.old) (So.told source.new)) (span (St.told store) (St.told result.store))
-        (span (C.answers clock) (C.answers result.clock))) }
-    ensures keeps { Keeps (result.store ≡ store) (Some command)
-        (outside (span (So.told source.old) (So.told source.new)) (span (St.told store) (St.told result.store))
-        (span (C.answers clock) (C.answers result.clock))) }
+    resources: Resources<St, C>,
+) -> Returned<Result<Text, CommandFault>, St, C>
+    requires some { HasWorkers command }
+    ensures works { Works (result.store ≡ resources.store) (Some command) result.value
+        (outside (span (So.told source.old) (So.told source.new))
+        (span (St.told resources.store) (St.told result.store))
+        (span (C.answers resources.clock) (C.answers result.clock))) }
+    ensures keeps { Keeps (result.store ≡ resources.store) (Some command)
+        (outside (span (So.told source.old) (So.told source.new))
+        (span (St.told resources.store) (St.told result.store))
+        (span (C.answers resources.clock) (C.answers result.clock))) }
     ensures few { TakesFew (span (So.told source.old) (So.told source.new)) }
-    ensures asks { asks_clock (Some command) ≡ false → result.clock ≡ clock }
+    ensures asks { asks_clock (Some command) ≡ false → result.clock ≡ resources.clock }
 {
     match command {
-        Command::Run(options) => run(rt, alloc, options, source, store, clock, gate),
-        Command::Digest { tip } => {
-            let Returned { came, store } = digest(alloc, tip, store);
-            HandedBack { came, store, clock }
-        }
+        Command::Run(options) => run(alloc, host, options, source, resources),
+        Command::Digest { tip } => ask(alloc, Question::Digest { tip }, resources),
         Command::Prove {
             sequence,
             index,
             tip,
-        } => {
-            let Returned { came, store } = prove(alloc, sequence, index, tip, store);
-            HandedBack { came, store, clock }
+        } => ask(
+            alloc,
+            Question::Proof {
+                sequence,
+                index,
+                tip,
+            },
+            resources,
+        ),
+        Command::Verify => {
+            let Resources { store, clock } = resources;
+            Returned {
+                value: verify_input(alloc, source),
+                store,
+                clock,
+            }
         }
-        Command::Verify => HandedBack {
-            came: verify_input(alloc, source),
-            store,
-            clock,
-        },
-        Command::Audit => {
-            let Returned { came, store } = audit(alloc, store);
-            HandedBack { came, store, clock }
-        }
-        Command::Make(options) => make(rt, alloc, options, gate, clock, store),
+        Command::Audit => ask(alloc, Question::Counts, resources),
+        Command::Make(options) => make(alloc, host, options, resources),
     }
 }
 
-/// Runs the script that the source gives, with these options, and answers its report.
+/// The report of the script that the source gives, run with these options.
 fn run<
     R: Threads + Wait + Sync,
     So: Source,
@@ -98,115 +89,42 @@ fn run<
     C: Clock + Send,
     G: Gate + Sync,
 >(
-    rt: &R,
     alloc: Global,
+    host: &Host<'_, R, G>,
     options: RunOptions,
     source: &mut So,
-    store: St,
-    clock: C,
-    gate: &G,
-) -> Worked<St, C>
+    resources: Resources<St, C>,
+) -> Returned<Result<Text, CommandFault>, St, C>
     requires { 0 < options.workers }
-    ensures works { Works (result.store ≡ store) (Some (asked.Run options)) result.came
-        (outside (span (So.told source.old) (So.told source.new)) (span (St.told store) (St.told result.store))
-        (span (C.answers clock) (C.answers result.clock))) }
-    ensures keeps { Keeps (result.store ≡ store) (Some (asked.Run options))
-        (outside (span (So.told source.old) (So.told source.new)) (span (St.told store) (St.told result.store))
-        (span (C.answers clock) (C.answers result.clock))) }
+    ensures works { Works (result.store ≡ resources.store) (Some (asked.Run options)) result.value
+        (outside (span (So.told source.old) (So.told source.new))
+        (span (St.told resources.store) (St.told result.store))
+        (span (C.answers resources.clock) (C.answers result.clock))) }
+    ensures keeps { Keeps (result.store ≡ resources.store) (Some (asked.Run options))
+        (outside (span (So.told source.old) (So.told source.new))
+        (span (St.told resources.store) (St.told result.store))
+        (span (C.answers resources.clock) (C.answers result.clock))) }
     ensures few { TakesFew (span (So.told source.old) (So.told source.new)) }
-    ensures asks { asks_clock (Some (asked.Run options)) ≡ false → result.clock ≡ clock }
+    ensures asks { asks_clock (Some (asked.Run options)) ≡ false → result.clock ≡ resources.clock }
 {
     match read_script(alloc, source) {
-        Ok(script) => {
-            let mut clock = clock;
-            let mask = mask_by(options.ids, &mut clock);
-            run_script(
-                rt,
-                alloc,
-                &script,
-                options.workers,
-                gate,
-                mask,
-                options.time,
-                clock,
+        Ok(script) => run_script(alloc, host, &script, options, resources),
+        Err(why) => {
+            let Resources { store, clock } = resources;
+            Returned {
+                value: Err(why),
                 store,
-            )
+                clock,
+            }
         }
-        Err(stop) => HandedBack {
-            came: Err(stop),
-            store,
-            clock,
-        },
     }
 }
 
-/// Reads the input and the script that it spells.
-fn read_script<So: Source>(alloc: Global, source: &mut So) -> Result<Script, Stop>
+/// The script that the input spells.
+fn read_script<So: Source>(alloc: Global, source: &mut So) -> Result<Script, CommandFault>
     ensures reads { ReadsScript result (span (So.told source.old) (So.told source.new)) }
     ensures few { TakesFew (span (So.told source.old) (So.told source.new)) }
 {
     let input = read_all(alloc, source)?;
     judge(alloc, &input)
-}
-
-/// Reads the journal and answers the text of its digest.
-fn digest<St: JournalStore>(alloc: Global, tip: Option<u64>, store: St) -> Came<St>
-    ensures { Tells (asks.digest tip) result.came (span (St.told store) (St.told result.store)) }
-{
-    match read_tail(alloc, store) {
-        Ok(tail) => {
-            let came = digest_text(alloc, &tail, tip);
-            let (_, store, _) = tail.into_parts();
-            Returned { came, store }
-        }
-        Err(unread) => stopped(unread),
-    }
-}
-
-/// Reads the journal and answers the text of the proof of one of its revisions.
-fn prove<St: JournalStore>(
-    alloc: Global,
-    sequence: u64,
-    index: u32,
-    tip: Option<u64>,
-    store: St,
-) -> Came<St>
-    ensures { Tells (asks.proof sequence index tip) result.came (span (St.told store) (St.told result.store)) }
-{
-    match read_tail(alloc, store) {
-        Ok(tail) => {
-            let came = proof_text(alloc, &tail, sequence, index, tip);
-            let (_, store, _) = tail.into_parts();
-            Returned { came, store }
-        }
-        Err(unread) => stopped(unread),
-    }
-}
-
-/// Reads the journal and answers the text of how much it holds.
-fn audit<St: JournalStore>(alloc: Global, store: St) -> Came<St>
-    ensures { Tells asks.counts result.came (span (St.told store) (St.told result.store)) }
-{
-    match read_tail(alloc, store) {
-        Ok(tail) => {
-            let (blocks, store, _) = tail.into_parts();
-            Returned {
-                came: counts_text(alloc, &blocks),
-                store,
-            }
-        }
-        Err(unread) => stopped(unread),
-    }
-}
-
-/// The answer where no journal was read.
-fn stopped<St>(unread: Returned<Stop, St>) -> Came<St>
-    ensures came { result.came ≡ Err unread.came }
-    ensures store { result.store ≡ unread.store }
-{
-    let Returned { came, store } = unread;
-    Returned {
-        came: Err(came),
-        store,
-    }
 }

@@ -14,6 +14,10 @@ use Rattle.proof_verify.specs.declared.ProofFault.TheVariants as fault
 abbrev pub IsBundle : List Value → Digest → Revision → Proof → Type 0
 IsBundle values d r p = (values ≡ digest_value d ∷ revision_value r ∷ proof_value p ∷ []) × IsTrue (is_plain_revision r)
 
+-- the numbers of the digest and of the proof fit their types
+abbrev pub AreWithin : Digest → Proof → Type 0
+AreWithin d p = IsTrue (digest_fits d) × IsTrue (proof_fits p)
+
 -- the value is that of a part, whose numbers fit their types
 abbrev pub Spells : {A : Type 0} → (A → Value) → (A → Bool) → Value → Type 0
 Spells {A} value fits v = (x : A) × (IsTrue (fits x) × (v ≡ value x))
@@ -37,7 +41,7 @@ IsUnreadable values (fault.Malformed field) = IsUnread values field
 IsUnreadable values fault.OutOfMemory = Unit {0}
 IsUnreadable values _ = ⊥
 
--- a fault that names this field, or want of memory
+-- a fault that names this field, or out of memory
 abbrev pub IsNamed : List ℕ → ProofFault → Type 0
 IsNamed name (fault.Malformed field) = field ≡ name
 IsNamed name fault.OutOfMemory = Unit {0}

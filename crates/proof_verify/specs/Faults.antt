@@ -52,7 +52,7 @@ place_fault d r p = or_else (strand_fault d p) (or_else (address_fault r p) (or_
 abbrev pub fault_of : Digest → Revision → Proof → Option ProofFault
 fault_of d r p = or_else (place_fault d r p) (or_else (length_fault d p) (or_else (hash_fault r) (root_fault d r p)))
 
--- what a verifier answers beside an acceptance: that fault, or want of memory
+-- what a verifier returns beside an acceptance: that fault, or out of memory
 abbrev pub IsRefused : Option ProofFault → ProofFault → Type 0
 IsRefused refused (fault.Malformed field) = ⊥
 IsRefused refused fault.OutOfMemory = Unit {0}

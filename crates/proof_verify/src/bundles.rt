@@ -1,6 +1,6 @@
 //! Bundles that values spell.
 ghost use Rattle.std.specs.Prelude.{IfErr, IfOk};
-ghost use Rattle.proof_verify.specs.Bundles.{IsBundle, IsUnreadable, IsNamed};
+ghost use Rattle.proof_verify.specs.Bundles.{AreWithin, IsBundle, IsUnreadable, IsNamed};
 
 use crate::ProofFault;
 use block_form::revision_in;
@@ -23,6 +23,7 @@ fn malformed(alloc: Global, field: &str) -> ProofFault
 /// with `count` where there aren't three values, and else with the name of the first that can't be read.
 pub fn read_bundle(alloc: Global, v: &Values) -> Result<(Digest, Revision, Proof), ProofFault>
     ensures read { IfOk result (λ bundle. IsBundle v.now bundle.0 bundle.1 bundle.2) }
+    ensures within { IfOk result (λ bundle. AreWithin bundle.0 bundle.2) }
     ensures unread { IfErr result (λ e. IsUnreadable v.now e) }
 {
     let [digest, revision, proof] = v.as_slice() else {

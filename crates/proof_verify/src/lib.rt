@@ -52,7 +52,7 @@ pub enum ProofFault {
         computed: Hash32,
         published: Hash32,
     },
-    /// Want of memory.
+    /// The allocator had no memory left.
     OutOfMemory,
 }
 

@@ -31,7 +31,7 @@ impl Flag {
         self.raised.wake_all();
     }
 
-    /// Waits until the flag is raised, so many looks at most.
+    /// Waits until the flag is raised, `LOOKS` looks at most.
     fn wait<R: Wait>(&self, rt: &R) {
         for look in 0..LOOKS {
             if self.raised.load(Ordering::SeqCst) == 1 {

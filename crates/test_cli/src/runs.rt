@@ -11,7 +11,7 @@ pub const FIRST: &str =
 pub const COMMITTED: &str =
     "{session:1,transaction:1,outcome:committed,tx:\"0000000000000000018OWG\",block:0,answers:[[{tableId:\"0000000000000000018OWH\"}],[{documentId:\"0000000000000000018OWI\"}],[{a:5}]]}";
 
-/// Two sessions of two transactions, of which one is given up.
+/// Two sessions of two transactions, of which one is aborted.
 pub const SESSIONS: &str = "[{statements:[\"CREATE TABLE t\"]},\
     {statements:[{text:\"INSERT INTO t ?\",params:[{a:1}]}],end:abort}]\n\
     [{statements:[{text:\"INSERT INTO t ?\",params:[{a:2}]}],retries:0},{statements:[\"SELECT * FROM t\"]}]\n";

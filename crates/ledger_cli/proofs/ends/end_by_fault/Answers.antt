@@ -1,7 +1,7 @@
-use Rattle.std.proofs.Common.{◌∙◌}
+use Rattle.std.proofs.Common.{◌∙◌, inr}
 use Rattle.laws_history.specs.Calls.{span}
 use Rattle.ledger_cli.specs.declared.ends.Status.TheVariants as status
-use Rattle.ledger_cli.proofs.Ending.{made_line, unmade_line}
+use Rattle.ledger_cli.proofs.Ending.{made_line}
 use Rattle.ledger_cli.proofs.ends.end_by_fault.Goals as goal
 
 pub returns-in-Ok : goal.returns-in-Ok
@@ -10,6 +10,4 @@ returns-in-Ok g c =
     made_line c.end_by_line.result status.NotAccepted sink _ _ (c.as_str.ensures ∙ c.in-Ok.ensures) c.end_by_line.ensures
 
 pub returns-in-Err : goal.returns-in-Err
-returns-in-Err g c =
-    let sink = span (g.Si.Sink.told c.args.sink.now) (g.Si.Sink.told c.end_by_want.new.sink) in
-    unmade_line c.end_by_want.result status.NotAccepted sink _ c.end_by_want.ensures.wanted c.end_by_want.ensures.line
+returns-in-Err g c = inr (c.end_without_memory.ensures.status, c.end_without_memory.ensures.line)

@@ -13,9 +13,9 @@ returns-in-Ok g c =
     let first = at_first c.args.workload.now.first in
     let jobs = all_placed c.args.workload.now.sessions in
     let h = subst
-    (λ (x : List (List Job)). HaveAllRun told g.C.Clock.answers g.C.Clock.always c.args.workers first (all_placed x) c.args.tail r.outcomes r.tail)
-    c.as_slice-sessions.ensures c.in-Ok.ensures.ran in
-    makes_all told g.C.Clock.answers g.C.Clock.always c.args.workers first jobs c.args.tail r.tail r.outcomes h c.settle.result.came
+    (λ (x : List (List Job)). HaveAllRun told g.C.Clock.answers g.C.Clock.always c.args.crew.now.workers first (all_placed x) c.args.tail r.outcomes r.tail)
+    c.as_slice.ensures c.in-Ok.ensures.ran in
+    makes_all told g.C.Clock.answers g.C.Clock.always c.args.crew.now.workers first jobs c.args.tail r.tail r.outcomes h c.settle.result.value
     c.settle.result.tail c.settle.ensures
 
 pub returns-in-Err : goal.returns-in-Err

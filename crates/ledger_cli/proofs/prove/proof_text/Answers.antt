@@ -1,31 +1,31 @@
-use Rattle.std.proofs.Common.{◌≡◌, ◌∙◌, List, Option, Some, ap, sym, subst}
+use Rattle.std.proofs.Common.{◌≡◌, ◌∙◌, ℕ, List, Option, Some, ap, sym, subst}
 use Rattle.std.specs.Prelude.{option_and_then, option_copied, slice_get, IfSome}
 use Rattle.ledger_model.specs.declared.block.Block.{Block}
 use Rattle.ledger_model.specs.declared.block.Revision.{Revision}
 use Rattle.proof_model.specs.Issued.{proof_for}
-use Rattle.cli_model.specs.Journals.{tip_in}
+use Rattle.cli_model.specs.Journals.{PublishesProof}
 use Rattle.cli_model.specs.Outputs.{bundle_text}
 use Rattle.cli_model.proofs.Addresses.{addresses}
 use Rattle.ledger_cli.proofs.Proving.{found, found_some, not_none, same_revision}
 use Rattle.ledger_cli.proofs.prove.proof_text.Goals as goal
 
 pub unreachable-requires : goal.unreachable-requires
-unreachable-requires g c =
-    let blocks = c.args.tail.now.standing.blocks in
+unreachable-requires c =
+    let blocks = c.args.journal.now.blocks in
     let sequence = c.args.sequence in
     let index = c.args.index in
-    let chained = c.undamaged_is_chained.ensures blocks c.blocks-blocks.ensures.standing.undamaged in
-    let f = found blocks chained sequence index (tip_in c.args.tip blocks) c.in_ok-proof.ensures.refused in
+    let chained = c.undamaged_is_chained.ensures blocks c.blocks-blocks.ensures.undamaged in
+    let f = found blocks chained sequence index c.tip_in-tip.result c.in_ok-proof.ensures.refused in
     let at = ap (λ (bs : List Block). option_and_then (λ (b : Block). slice_get b.revisions index) (slice_get bs sequence)) c.blocks-blocks.ensures.blocks in
     not_none f.revision _ (found_some blocks sequence index f) (sym (c.revision_at.ensures ∙ at) ∙ ap (λ o. option_copied o) c.in_default.is)
 
 pub returns-clause-published : goal.returns-clause-published
-returns-clause-published g c =
-    let blocks = c.args.tail.now.standing.blocks in
+returns-clause-published c =
+    let blocks = c.args.journal.now.blocks in
     let sequence = c.args.sequence in
     let index = c.args.index in
-    let tip = tip_in c.args.tip blocks in
-    let undamaged = c.blocks-blocks.ensures.standing.undamaged in
+    let tip = c.tip_in-tip.result in
+    let undamaged = c.blocks-blocks.ensures.undamaged in
     let digest = c.in_ok-digest.digest in
     let proof = c.in_ok-proof.proof in
     let f = found blocks (c.undamaged_is_chained.ensures blocks undamaged) sequence index tip c.in_ok-proof.ensures.refused in
@@ -34,7 +34,8 @@ returns-clause-published g c =
     let held : Some c.in-Some.revision.now ≡ option_copied c.revision_at.result = sym (ap (λ o. option_copied o) c.in-Some.is) in
     let same : c.in-Some.revision.now ≡ f.revision =
     same_revision c.in-Some.revision.now f.revision _ (held ∙ c.revision_at.ensures ∙ at) (found_some blocks sequence index f) in
-    record {
+    subst (λ (t : ℕ). PublishesProof sequence index t blocks c.in_ok-text.text) c.tip_in-tip.ensures
+    (record {
       there = c.in_ok-proof.ensures.refused;
       digest = digest;
       digest_is = c.in_ok-digest.ensures.digest;
@@ -46,4 +47,4 @@ returns-clause-published g c =
       proof_is = subst (λ (o : Option Block). IfSome o (λ b. proof ≡ proof_for blocks b sequence index tip)) f.block_is c.in_ok-proof.ensures.proof;
       accepted = c.in_ok-proof.ensures.accepted f.block f.revision digest f.block_is f.revision_is own c.in_ok-digest.ensures.digest;
       text_is = c.in_ok-text.ensures ∙ ap (λ (r : Revision). bundle_text digest r proof) same;
-    }
+    })

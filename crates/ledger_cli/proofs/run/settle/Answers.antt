@@ -1,5 +1,5 @@
 use Rattle.std.proofs.Common.{ap, sym, refl, subst}
-use Rattle.ledger_cli.specs.declared.stop.Stop.{Stop}
+use Rattle.ledger_cli.specs.declared.command_fault.CommandFault.{CommandFault}
 use Rattle.ledger_cli.specs.Stops.{IsTailStop}
 use Rattle.laws_history.specs.Calls.{span}
 use Rattle.ledger_cli.proofs.Leaving.{synced_by}
@@ -15,7 +15,7 @@ returns-in-Ok g c =
         standing = k.standing;
         clock = k.clock;
         holds = c.in-Ok.ensures.holds;
-        fine = c.in-Ok.ensures.fine;
+        fine = c.in-Ok.ensures.store.fine;
         synced = λ kept. synced_by c.args.tail.marked (told c.args.tail.store) (told c.settle.new.self.store) kept c.in-Ok.ensures.synced
             (λ un. ap (λ x. told x.store) (k.untouched un).1);
       },
@@ -27,6 +27,6 @@ returns-in-Err g c =
     record {
       clock = c.settle.ensures.clock;
       cut = c.settle.ensures.cut;
-      stop = subst (λ (why : Stop). IsTailStop why (span (told c.args.tail.store) (told c.settle.new.self.store))) (sym c.from.ensures)
-          (settle_stops c.in-Err.fault (told c.args.tail.store) (told c.settle.new.self.store) c.in-Err.ensures.fault);
+      stop = subst (λ (why : CommandFault). IsTailStop why (span (told c.args.tail.store) (told c.settle.new.self.store))) (sym c.from.ensures)
+          (settle_stops c.in-Err.fault (told c.args.tail.store) (told c.settle.new.self.store) c.in-Err.ensures.store.fault);
     }

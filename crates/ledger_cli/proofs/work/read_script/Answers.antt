@@ -2,7 +2,7 @@ use Rattle.std.proofs.Common.{◌≡◌, ℕ, List, Result, Err, sym, ap, subst,
 use Rattle.ledger_model.specs.declared.script.Job.{Job}
 use Rattle.ledger_model.specs.Judging.{judged}
 use Rattle.laws_history.specs.Calls.{span}
-use Rattle.ledger_cli.specs.declared.stop.Stop.{Stop}
+use Rattle.ledger_cli.specs.declared.command_fault.CommandFault.{CommandFault}
 use Rattle.ledger_cli.specs.Inputs.{ReadsScript}
 use Rattle.ledger_cli.specs.Judgements.{JudgesTo}
 use Rattle.ledger_cli.proofs.Runnable.{reads_input, unread_input}
@@ -12,9 +12,9 @@ pub returns-in_err-input-clause-reads : goal.returns-in_err-input-clause-reads
 returns-in_err-input-clause-reads g c =
     let source = span (g.So.Source.told c.args.source.now) (g.So.Source.told c.read_all.new.source) in
     let is : c.from_residual.result ≡ Err c.in_err-input.field-0.0 = search rules in
-    subst (λ (r : Result (List (List Job)) Stop). ReadsScript r source) (sym is)
+    subst (λ (r : Result (List (List Job)) CommandFault). ReadsScript r source) (sym is)
     (unread_input source c.in_err-input.field-0.0 c.in_err-input.ensures.stop
-    (λ same. c.in_err-input.ensures.too_long (ap (λ (why : Stop). Err why) same)))
+    (λ same. c.in_err-input.ensures.too_long (ap (λ (why : CommandFault). Err why) same)))
 
 pub returns-clause-reads : goal.returns-clause-reads
 returns-clause-reads g c =

@@ -12,96 +12,107 @@ use Rattle.ledger_cli.proofs.work.work.Goals as goal
 
 pub returns-in-Digest-clause-works : goal.returns-in-Digest-clause-works
 returns-in-Digest-clause-works g c =
-    let k = c.digest-came.result in
+    let k = c.ask in
+    let r = c.args.resources in
     let source = g.So.Source.told c.args.source.now in
-    let answers = g.C.Clock.answers c.args.clock in
-    let x = outside (span source source) (span (g.St.JournalStore.told c.args.store) (g.St.JournalStore.told k.store)) (span answers answers) in
-    subst (λ (w : Command). Works (k.store ≡ c.args.store) (Some w) k.came x) (sym c.in-Digest.is)
-    (works_digest (k.store ≡ c.args.store) c.in-Digest.tip x k.came refl c.digest-came.ensures)
+    let x = outside (span source source) (span (g.St.JournalStore.told r.store) (g.St.JournalStore.told k.result.store))
+    (span (g.C.Clock.answers r.clock) (g.C.Clock.answers k.result.clock)) in
+    subst (λ (w : Command). Works (k.result.store ≡ r.store) (Some w) k.result.value x) (sym c.in-Digest.is)
+    (works_digest (k.result.store ≡ r.store) c.in-Digest.tip x k.result.value refl k.ensures.tells)
 
 pub returns-in-Digest-clause-keeps : goal.returns-in-Digest-clause-keeps
 returns-in-Digest-clause-keeps g c =
-    let k = c.digest-came.result in
+    let k = c.ask in
+    let r = c.args.resources in
     let source = g.So.Source.told c.args.source.now in
-    let answers = g.C.Clock.answers c.args.clock in
-    let x = outside (span source source) (span (g.St.JournalStore.told c.args.store) (g.St.JournalStore.told k.store)) (span answers answers) in
-    subst (λ (w : Command). Keeps (k.store ≡ c.args.store) (Some w) x) (sym c.in-Digest.is) (c.digest-came.ensures.1, refl)
+    let x = outside (span source source) (span (g.St.JournalStore.told r.store) (g.St.JournalStore.told k.result.store))
+    (span (g.C.Clock.answers r.clock) (g.C.Clock.answers k.result.clock)) in
+    subst (λ (w : Command). Keeps (k.result.store ≡ r.store) (Some w) x) (sym c.in-Digest.is) (k.ensures.tells.1, refl)
 
 pub returns-in-Digest-clause-few : goal.returns-in-Digest-clause-few
 returns-in-Digest-clause-few g c = takes_none (g.So.Source.told c.args.source.now)
 
 pub returns-in-Prove-clause-works : goal.returns-in-Prove-clause-works
 returns-in-Prove-clause-works g c =
-    let k = c.prove-came.result in
+    let k = c.ask-in-Prove in
+    let r = c.args.resources in
     let source = g.So.Source.told c.args.source.now in
-    let answers = g.C.Clock.answers c.args.clock in
-    let x = outside (span source source) (span (g.St.JournalStore.told c.args.store) (g.St.JournalStore.told k.store)) (span answers answers) in
-    subst (λ (w : Command). Works (k.store ≡ c.args.store) (Some w) k.came x) (sym c.in-Prove.is)
-    (works_proof (k.store ≡ c.args.store) c.in-Prove.sequence c.in-Prove.index c.in-Prove.tip x k.came refl c.prove-came.ensures)
+    let x = outside (span source source) (span (g.St.JournalStore.told r.store) (g.St.JournalStore.told k.result.store))
+    (span (g.C.Clock.answers r.clock) (g.C.Clock.answers k.result.clock)) in
+    subst (λ (w : Command). Works (k.result.store ≡ r.store) (Some w) k.result.value x) (sym c.in-Prove.is)
+    (works_proof (k.result.store ≡ r.store) c.in-Prove.sequence c.in-Prove.index c.in-Prove.tip x k.result.value refl k.ensures.tells)
 
 pub returns-in-Prove-clause-keeps : goal.returns-in-Prove-clause-keeps
 returns-in-Prove-clause-keeps g c =
-    let k = c.prove-came.result in
+    let k = c.ask-in-Prove in
+    let r = c.args.resources in
     let source = g.So.Source.told c.args.source.now in
-    let answers = g.C.Clock.answers c.args.clock in
-    let x = outside (span source source) (span (g.St.JournalStore.told c.args.store) (g.St.JournalStore.told k.store)) (span answers answers) in
-    subst (λ (w : Command). Keeps (k.store ≡ c.args.store) (Some w) x) (sym c.in-Prove.is) (c.prove-came.ensures.1, refl)
+    let x = outside (span source source) (span (g.St.JournalStore.told r.store) (g.St.JournalStore.told k.result.store))
+    (span (g.C.Clock.answers r.clock) (g.C.Clock.answers k.result.clock)) in
+    subst (λ (w : Command). Keeps (k.result.store ≡ r.store) (Some w) x) (sym c.in-Prove.is) (k.ensures.tells.1, refl)
 
 pub returns-in-Prove-clause-few : goal.returns-in-Prove-clause-few
 returns-in-Prove-clause-few g c = takes_none (g.So.Source.told c.args.source.now)
 
-pub returns-in-Verify-clause-works : goal.returns-in-Verify-clause-works
-returns-in-Verify-clause-works g c =
-    let k = c.verify_input.result in
-    let store = g.St.JournalStore.told c.args.store in
-    let answers = g.C.Clock.answers c.args.clock in
-    let x = outside (span (g.So.Source.told c.args.source.now) (g.So.Source.told c.verify_input.new.source)) (span store store) (span answers answers) in
-    subst (λ (w : Command). Works (c.args.store ≡ c.args.store) (Some w) k x) (sym c.in-Verify.is)
-    (works_verify (c.args.store ≡ c.args.store) x k c.verify_input.ensures.verifies)
-
-pub returns-in-Verify-clause-keeps : goal.returns-in-Verify-clause-keeps
-returns-in-Verify-clause-keeps g c =
-    let store = g.St.JournalStore.told c.args.store in
-    let answers = g.C.Clock.answers c.args.clock in
-    let x = outside (span (g.So.Source.told c.args.source.now) (g.So.Source.told c.verify_input.new.source)) (span store store) (span answers answers) in
-    subst (λ (w : Command). Keeps (c.args.store ≡ c.args.store) (Some w) x) (sym c.in-Verify.is) (record { is = refl; told = refl })
-
 pub returns-in-Audit-clause-works : goal.returns-in-Audit-clause-works
 returns-in-Audit-clause-works g c =
-    let k = c.audit-came.result in
+    let k = c.ask-in-Audit in
+    let r = c.args.resources in
     let source = g.So.Source.told c.args.source.now in
-    let answers = g.C.Clock.answers c.args.clock in
-    let x = outside (span source source) (span (g.St.JournalStore.told c.args.store) (g.St.JournalStore.told k.store)) (span answers answers) in
-    subst (λ (w : Command). Works (k.store ≡ c.args.store) (Some w) k.came x) (sym c.in-Audit.is) (works_counts (k.store ≡ c.args.store) x k.came refl c.audit-came.ensures)
+    let x = outside (span source source) (span (g.St.JournalStore.told r.store) (g.St.JournalStore.told k.result.store))
+    (span (g.C.Clock.answers r.clock) (g.C.Clock.answers k.result.clock)) in
+    subst (λ (w : Command). Works (k.result.store ≡ r.store) (Some w) k.result.value x) (sym c.in-Audit.is)
+    (works_counts (k.result.store ≡ r.store) x k.result.value refl k.ensures.tells)
 
 pub returns-in-Audit-clause-keeps : goal.returns-in-Audit-clause-keeps
 returns-in-Audit-clause-keeps g c =
-    let k = c.audit-came.result in
+    let k = c.ask-in-Audit in
+    let r = c.args.resources in
     let source = g.So.Source.told c.args.source.now in
-    let answers = g.C.Clock.answers c.args.clock in
-    let x = outside (span source source) (span (g.St.JournalStore.told c.args.store) (g.St.JournalStore.told k.store)) (span answers answers) in
-    subst (λ (w : Command). Keeps (k.store ≡ c.args.store) (Some w) x) (sym c.in-Audit.is) (c.audit-came.ensures.1, refl)
+    let x = outside (span source source) (span (g.St.JournalStore.told r.store) (g.St.JournalStore.told k.result.store))
+    (span (g.C.Clock.answers r.clock) (g.C.Clock.answers k.result.clock)) in
+    subst (λ (w : Command). Keeps (k.result.store ≡ r.store) (Some w) x) (sym c.in-Audit.is) (k.ensures.tells.1, refl)
 
 pub returns-in-Audit-clause-few : goal.returns-in-Audit-clause-few
 returns-in-Audit-clause-few g c = takes_none (g.So.Source.told c.args.source.now)
 
+pub returns-in-Verify-clause-works : goal.returns-in-Verify-clause-works
+returns-in-Verify-clause-works g c =
+    let k = c.verify_input.result in
+    let r = c.args.resources in
+    let store = g.St.JournalStore.told r.store in
+    let answers = g.C.Clock.answers r.clock in
+    let x = outside (span (g.So.Source.told c.args.source.now) (g.So.Source.told c.verify_input.new.source)) (span store store) (span answers answers) in
+    subst (λ (w : Command). Works (r.store ≡ r.store) (Some w) k x) (sym c.in-Verify.is)
+    (works_verify (r.store ≡ r.store) x k refl c.verify_input.ensures.verifies)
+
+pub returns-in-Verify-clause-keeps : goal.returns-in-Verify-clause-keeps
+returns-in-Verify-clause-keeps g c =
+    let r = c.args.resources in
+    let store = g.St.JournalStore.told r.store in
+    let answers = g.C.Clock.answers r.clock in
+    let x = outside (span (g.So.Source.told c.args.source.now) (g.So.Source.told c.verify_input.new.source)) (span store store) (span answers answers) in
+    subst (λ (w : Command). Keeps (r.store ≡ r.store) (Some w) x) (sym c.in-Verify.is) (record { is = refl; told = refl })
+
 pub returns-in-Make-clause-works : goal.returns-in-Make-clause-works
 returns-in-Make-clause-works g c =
-    let k = c.make.result in
+    let k = c.make in
+    let r = c.args.resources in
     let source = g.So.Source.told c.args.source.now in
-    let x = outside (span source source) (span (g.St.JournalStore.told c.args.store) (g.St.JournalStore.told k.store))
-    (span (g.C.Clock.answers c.args.clock) (g.C.Clock.answers k.clock)) in
-    subst (λ (w : Command). Works (k.store ≡ c.args.store) (Some w) k.came x) (sym c.in-Make.is)
-    (works_made (k.store ≡ c.args.store) c.in-Make.options x k.came refl c.make.ensures)
+    let x = outside (span source source) (span (g.St.JournalStore.told r.store) (g.St.JournalStore.told k.result.store))
+    (span (g.C.Clock.answers r.clock) (g.C.Clock.answers k.result.clock)) in
+    subst (λ (w : Command). Works (k.result.store ≡ r.store) (Some w) k.result.value x) (sym c.in-Make.is)
+    (works_made (k.result.store ≡ r.store) c.in-Make.options x k.result.value refl k.ensures)
 
 pub returns-in-Make-clause-keeps : goal.returns-in-Make-clause-keeps
 returns-in-Make-clause-keeps g c =
-    let k = c.make.result in
+    let k = c.make in
+    let r = c.args.resources in
     let source = g.So.Source.told c.args.source.now in
-    let x = outside (span source source) (span (g.St.JournalStore.told c.args.store) (g.St.JournalStore.told k.store))
-    (span (g.C.Clock.answers c.args.clock) (g.C.Clock.answers k.clock)) in
-    subst (λ (w : Command). Keeps (k.store ≡ c.args.store) (Some w) x) (sym c.in-Make.is)
-    (keeps_made (k.store ≡ c.args.store) c.in-Make.options x k.came refl c.make.ensures)
+    let x = outside (span source source) (span (g.St.JournalStore.told r.store) (g.St.JournalStore.told k.result.store))
+    (span (g.C.Clock.answers r.clock) (g.C.Clock.answers k.result.clock)) in
+    subst (λ (w : Command). Keeps (k.result.store ≡ r.store) (Some w) x) (sym c.in-Make.is)
+    (keeps_made (k.result.store ≡ r.store) c.in-Make.options x k.result.value refl k.ensures)
 
 pub returns-in-Make-clause-few : goal.returns-in-Make-clause-few
 returns-in-Make-clause-few g c = takes_none (g.So.Source.told c.args.source.now)

@@ -49,3 +49,10 @@ returns-clause-read c =
     let f = revision-gets b c.in-Some-2.revision (sym c.in_ok-revision.ensures ∙ c.in-Some-2.is) in
     let g = proof-gets d c.in-Some-3.proof (sym c.in_ok-proof.ensures ∙ c.in-Some-3.is) in
     (is ∙ cons e.0 (cons f.0 (cons g.0 refl)), f.1)
+
+pub returns-clause-within : goal.returns-clause-within
+returns-clause-within c =
+    let a = c.digest-item.result in let d = c.proof-item.result in (
+      (digest-gets a c.in-Some.digest (sym c.digest_in.ensures ∙ c.in-Some.is)).1,
+      (proof-gets d c.in-Some-3.proof (sym c.in_ok-proof.ensures ∙ c.in-Some-3.is)).1,
+    )

@@ -9,7 +9,9 @@ use std::alloc::AllocError;
 
 /// Why there is no output.
 #[derive(Debug, Drop)]
-pub enum Stop {
+pub enum CommandFault {
+    /// The words ask for nothing.
+    BadWords,
     /// The input is refused.
     BadInput(BadInput),
     /// There is no such digest or proof.
@@ -20,88 +22,88 @@ pub enum Stop {
     SourceFailed,
     /// The store failed when the journal was read, or when it was to be cut at the end.
     StoreFailed,
-    /// The journal has so many blocks, and was to have none.
+    /// The journal has `blocks` blocks, but must be empty.
     NotEmpty { blocks: u64 },
     /// The input is no bundle whose proof is accepted.
     NotAccepted(ProofFault),
     OutOfMemory,
 }
 
-impl From<OutOfMemory> for Stop {
+impl From<OutOfMemory> for CommandFault {
     ghost use Rattle.std.specs.Prelude.{◌≡◌};
-    ghost use Rattle.ledger_cli.specs.declared.stop.Stop.TheVariants as stops;
+    ghost use Rattle.ledger_cli.specs.declared.command_fault.CommandFault.TheVariants as stops;
 
     ghost from_gives = { λ _ stop. stop ≡ stops.OutOfMemory };
 
-    fn from(_error: OutOfMemory) -> Stop {
-        Stop::OutOfMemory
+    fn from(_error: OutOfMemory) -> CommandFault {
+        CommandFault::OutOfMemory
     }
 }
 
-impl From<AllocError> for Stop {
+impl From<AllocError> for CommandFault {
     ghost use Rattle.std.specs.Prelude.{◌≡◌};
-    ghost use Rattle.ledger_cli.specs.declared.stop.Stop.TheVariants as stops;
+    ghost use Rattle.ledger_cli.specs.declared.command_fault.CommandFault.TheVariants as stops;
 
     ghost from_gives = { λ _ stop. stop ≡ stops.OutOfMemory };
 
-    fn from(_error: AllocError) -> Stop {
-        Stop::OutOfMemory
+    fn from(_error: AllocError) -> CommandFault {
+        CommandFault::OutOfMemory
     }
 }
 
-impl From<SettleFault> for Stop {
+impl From<SettleFault> for CommandFault {
     ghost use Rattle.std.specs.Prelude.{◌≡◌};
     ghost use Rattle.ledger_cli.specs.Stops.{settle_stop};
 
     ghost from_gives = { λ fault stop. stop ≡ settle_stop fault };
 
-    fn from(fault: SettleFault) -> Stop {
+    fn from(fault: SettleFault) -> CommandFault {
         match fault {
-            SettleFault::StoreFault { .. } => Stop::StoreFailed,
-            SettleFault::OutOfMemory => Stop::OutOfMemory,
+            SettleFault::StoreFault { .. } => CommandFault::StoreFailed,
+            SettleFault::OutOfMemory => CommandFault::OutOfMemory,
         }
     }
 }
 
-impl From<LoadCause> for Stop {
+impl From<LoadCause> for CommandFault {
     ghost use Rattle.std.specs.Prelude.{◌≡◌};
     ghost use Rattle.ledger_cli.specs.Stops.{load_stop};
 
     ghost from_gives = { λ cause stop. stop ≡ load_stop cause };
 
-    fn from(cause: LoadCause) -> Stop {
+    fn from(cause: LoadCause) -> CommandFault {
         match cause {
-            LoadCause::Damaged { sequence, kind } => Stop::Damaged { sequence, kind },
-            LoadCause::StoreFault { .. } => Stop::StoreFailed,
-            LoadCause::OutOfMemory => Stop::OutOfMemory,
+            LoadCause::Damaged { sequence, kind } => CommandFault::Damaged { sequence, kind },
+            LoadCause::StoreFault { .. } => CommandFault::StoreFailed,
+            LoadCause::OutOfMemory => CommandFault::OutOfMemory,
         }
     }
 }
 
-impl From<NoSuch> for Stop {
+impl From<NoSuch> for CommandFault {
     ghost use Rattle.std.specs.Prelude.{◌≡◌};
     ghost use Rattle.ledger_cli.specs.Stops.{no_such_stop};
 
     ghost from_gives = { λ refused stop. stop ≡ no_such_stop refused };
 
-    fn from(refused: NoSuch) -> Stop {
+    fn from(refused: NoSuch) -> CommandFault {
         match refused {
-            NoSuch::OutOfMemory => Stop::OutOfMemory,
-            _ => Stop::NoSuch(refused),
+            NoSuch::OutOfMemory => CommandFault::OutOfMemory,
+            _ => CommandFault::NoSuch(refused),
         }
     }
 }
 
-impl From<ProofFault> for Stop {
+impl From<ProofFault> for CommandFault {
     ghost use Rattle.std.specs.Prelude.{◌≡◌};
     ghost use Rattle.ledger_cli.specs.Stops.{proof_stop};
 
     ghost from_gives = { λ fault stop. stop ≡ proof_stop fault };
 
-    fn from(fault: ProofFault) -> Stop {
+    fn from(fault: ProofFault) -> CommandFault {
         match fault {
-            ProofFault::OutOfMemory => Stop::OutOfMemory,
-            fault => Stop::NotAccepted(fault),
+            ProofFault::OutOfMemory => CommandFault::OutOfMemory,
+            fault => CommandFault::NotAccepted(fault),
         }
     }
 }

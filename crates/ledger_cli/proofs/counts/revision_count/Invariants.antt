@@ -1,6 +1,6 @@
 use Rattle.std.proofs.Common.{◌≡◌, ◌+◌, ◌*◌, ◌≤◌, drop}
 use Rattle.cli_model.specs.Outputs.{revision_count}
-use Rattle.ledger_cli.proofs.audit.revision_count.Given as goal
+use Rattle.ledger_cli.proofs.counts.revision_count.Given as goal
 
 -- those of the blocks in front are counted, fewer than 2^64 for each
 abbrev pub invariant-counted : goal.invariant-counted

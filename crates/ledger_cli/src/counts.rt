@@ -1,15 +1,15 @@
 //! How much a journal holds.
 ghost use Rattle.std.specs.Prelude.{◌≡◌, IfOk, IfErr};
-ghost use Rattle.cli_model.specs.Journals as asks;
+ghost use Rattle.cli_model.specs.declared.Question.TheVariants as asks;
 ghost use Rattle.cli_model.specs.Outputs.{counts_text, revision_count};
 ghost use Rattle.ledger_cli.specs.Stops.{IsAnswerStop};
 
-use crate::stop::Stop;
+use crate::command_fault::CommandFault;
 use ion_values::Text;
 use ledger_model::{Block, Blocks};
 use std::alloc::Global;
 
-/// How many revisions the blocks have.
+/// The number of revisions of the blocks.
 fn revision_count(blocks: &[Block]) -> u128
     ensures { result ≡ revision_count blocks.now }
 {
@@ -20,10 +20,10 @@ fn revision_count(blocks: &[Block]) -> u128
     count
 }
 
-/// The text of how many blocks there are, and how many revisions they have.
-pub fn counts_text(alloc: Global, blocks: &Blocks) -> Result<Text, Stop>
+/// The text of the number of blocks and the number of their revisions.
+pub fn counts_text(alloc: Global, blocks: &Blocks) -> Result<Text, CommandFault>
     ensures counted { IfOk result (λ text. text ≡ counts_text blocks.now.list) }
-    ensures stop { IfErr result (λ stop. IsAnswerStop asks.counts blocks.now.list stop) }
+    ensures stop { IfErr result (λ stop. IsAnswerStop asks.Counts blocks.now.list stop) }
 {
     let number = blocks.len().to_string(alloc)?;
     let revisions = revision_count(blocks.as_slice()).to_string(alloc)?;
