@@ -1,0 +1,5 @@
+pub mod Pending
+pub mod Lines
+pub mod Sound
+pub mod Steps
+pub mod Passed
