@@ -1,0 +1,5 @@
+//! Tests of values compared by their hashes.
+#![tactic(auto)]
+
+#[cfg(test)]
+mod values;
