@@ -1,0 +1,3 @@
+mod Resolving
+mod Repeats
+mod Each

@@ -1,0 +1,5 @@
+pub mod Actions
+pub mod Demands
+pub mod Permission
+pub mod ReadRules
+pub mod Answers

@@ -1,0 +1,17 @@
+//! Permissions: what statements demand of the tables that they name, the rules that allow or deny demands, how named
+//! sets of rules are read from a value, and what of a transaction is denied.
+#![tactic(auto)]
+
+mod demand;
+mod fields;
+mod judging;
+mod reading;
+mod roots;
+mod rule;
+mod statements;
+
+pub use demand::{Demand, Demands, Denial, Verdict};
+pub use judging::judge;
+pub use reading::read_rules;
+pub use rule::{Action, Actions, Rule, Rules, RulesAnswer, Sessions};
+pub use statements::demands;
