@@ -21,14 +21,18 @@ CRATES = HERE.parent / "crates"
 SECONDS = 120
 
 # what is no test of a program: this script, what several tests share, and what tries the prover
-NOT_TESTS = ["all.py", "running.py", "edits.py"]
+NOT_TESTS = ["all.py", "rows.py", "running.py", "edits.py"]
 
 # the longest first, with words behind the program's path, and a time limit of their own
 OTHER_WORDS = {"contended.py": ["40"]}
 OTHER_SECONDS = {
     "clients.py": 240,
+    "crash_images.py": 240,
+    "deb.py": 240,
     "docs.py": 240,
+    "ledgerctl.py": 240,
     "nesting.py": 240,
+    "refused_memory.py": 240,
     "verifiers.py": 240,
     "contended.py": 180,
     "faults.py": 180,
