@@ -1,0 +1,70 @@
+//! The texts in values in the order of first occurrence: annotations before their value, a field's name before its
+//! value.
+ghost use Rattle.std.specs.Prelude.{◌≡◌, fold, IfOk, OnOk};
+ghost use Rattle.std.specs.List.{flat_map};
+ghost use Rattle.ion_binary_out.specs.BinaryText.{symbols_of, texts_in, texts_in_body, texts_in_field, with_symbol};
+
+use super::symbols::Symbols;
+use containers::OutOfMemory;
+use ion_values::{Body, Field, Names, Value};
+use std::alloc::Global;
+
+/// The system's symbols, and after them each other text in the values at its first occurrence.
+pub fn symbols_of<'a>(alloc: Global, values: &'a [Value]) -> Result<Symbols<'a>, OutOfMemory>
+    ensures { IfOk result (λ symbols. symbols ≡ symbols_of values.now) }
+{
+    let mut symbols = Symbols::new(alloc)?;
+    add_values(&mut symbols, values)?;
+    Ok(symbols)
+}
+
+fn add_names<'a>(symbols: &mut Symbols<'a>, names: &'a Names) -> Result<(), OutOfMemory>
+    ensures { OnOk result (symbols.new ≡ fold with_symbol symbols.old names.now) }
+{
+    for name in names.as_slice() {
+        symbols.add(name.as_str())?;
+    }
+    Ok(())
+}
+
+#[cycle(occurrences)]
+fn add_value<'a>(symbols: &mut Symbols<'a>, value: &'a Value) -> Result<(), OutOfMemory>
+    ensures { OnOk result (symbols.new ≡ fold with_symbol symbols.old (texts_in value.now)) }
+{
+    add_names(symbols, &value.annotations)?;
+    add_body(symbols, &value.body)
+}
+
+#[cycle(occurrences)]
+fn add_body<'a>(symbols: &mut Symbols<'a>, body: &'a Body) -> Result<(), OutOfMemory>
+    ensures { OnOk result (symbols.new ≡ fold with_symbol symbols.old (texts_in_body body.now)) }
+{
+    match body {
+        Body::Symbol(text) => symbols.add(text.as_str()),
+        Body::List(values) => add_values(symbols, values.as_slice()),
+        Body::Sexp(values) => add_values(symbols, values.as_slice()),
+        Body::Struct(fields) => add_fields(symbols, fields.as_slice()),
+        _ => Ok(()),
+    }
+}
+
+#[cycle(occurrences)]
+fn add_values<'a>(symbols: &mut Symbols<'a>, values: &'a [Value]) -> Result<(), OutOfMemory>
+    ensures { OnOk result (symbols.new ≡ fold with_symbol symbols.old (flat_map texts_in values.now)) }
+{
+    for value in values {
+        add_value(symbols, value)?;
+    }
+    Ok(())
+}
+
+#[cycle(occurrences)]
+fn add_fields<'a>(symbols: &mut Symbols<'a>, fields: &'a [Field]) -> Result<(), OutOfMemory>
+    ensures { OnOk result (symbols.new ≡ fold with_symbol symbols.old (flat_map texts_in_field fields.now)) }
+{
+    for field in fields {
+        symbols.add(field.name.as_str())?;
+        add_value(symbols, &field.value)?;
+    }
+    Ok(())
+}

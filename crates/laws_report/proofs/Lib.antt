@@ -1,0 +1,9 @@
+pub mod Runs
+pub mod Tokens
+pub mod Days
+pub mod Moments
+pub mod Keys
+pub mod Items
+pub mod Causes
+pub mod Outcomes
+pub mod Reports
