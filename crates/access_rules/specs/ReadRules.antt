@@ -1,6 +1,6 @@
--- Named sets of rules read from a value, by the ledger's own form: `{NAME:[RULE,..],..}`, in which no name stands twice.
--- A rule is `{rule:"r1",effect:allow,actions:[PartiQLSelect],tables:["t"],sessions:[1]}`. Of its fields only `sessions`
--- may be left out, none stands twice, and there are no others. Annotations are refused.
+-- Named sets of rules read from a value, by the ledger's own form: `{NAME:[RULE,..],..}`, in which no name stands
+-- twice. A rule is `{rule:"r1",effect:allow,actions:[PartiQLSelect],tables:["t"],sessions:[1]}`. Of its fields only
+-- `sessions` may be left out, none stands twice, and there are no others. Annotations are refused.
 use Rattle.std.specs.Prelude.{ℕ, ◌&&◌, ◌||◌, not, Bool, true, false, List, codes, ℤ, pos, int_le, unsigned_abs, Option, Some, None, option_map, is_some, Result, Err, if◌then◌else◌}
 use Rattle.std.specs.List.{list_all, list_any}
 use Rattle.std.specs.Option.{ok_or}

@@ -1,5 +1,5 @@
--- The hashes of those parts of a block that stand in its value as they are hashed (Ion Hash 1.0): what it said and did, and each
--- revision's metadata. And what is read of a value whose hashes are checked.
+-- The hashes of those parts of a block that stand in its value as they are hashed (Ion Hash 1.0): what it said and
+-- did, and each revision's metadata. And what is read of a value whose hashes are checked.
 use Rattle.std.specs.Prelude.{◌≡◌, ◌≢◌, List, [], ◌∷◌, map, slice_get, Option, Some, None, option_map}
 use Rattle.hash_model.specs.Serialize.{hash_of}
 use Rattle.ion_values.specs.declared.value.Value.{Value}

@@ -1,6 +1,6 @@
--- The parts of blocks read back from values (Ion 1.0, "The Ion data model"): each reading gives the part whose value it is
--- given, and None for a value of no part. Fields stand in the written order, with none beside them. Hashes in place of data and of
--- statements and entries of redactions are read as no part, since no block has them so far.
+-- The parts of blocks read back from values (Ion 1.0, "The Ion data model"): each reading gives the part whose value
+-- it is given, and None for a value of no part. Fields stand in the written order, with none beside them. Hashes in
+-- place of data and of statements and entries of redactions are read as no part, since no block has them so far.
 use Rattle.std.specs.Prelude.{◌≡◌, ◌≢◌, ◌&&◌, IsTrue, nat_le, ℕ, ◌^◌, ◌==◌, nat_lt, List, [], ◌∷◌, take, drop, length, codes, Option, Some, None, option_map, if◌then◌else◌}
 use Rattle.std.specs.List.{list_all}
 use Rattle.std.specs.Str.{bytes_eq}
@@ -125,7 +125,8 @@ info_of revisions (f ∷ g ∷ h ∷ i ∷ []) =
     and_then (and_then (named (codes "place") f) place_in) (λ place.
     and_then (and_then (and_then (named (codes "statements") g) list_in) (each said_in)) (λ said.
     and_then (and_then (and_then (named (codes "schema") h) list_in) (each schema_in)) (λ schema.
-    and_then (and_then (and_then (named (codes "documents") i) list_in) (λ values. tables_of values revisions)) (λ tables.
+    and_then (and_then (and_then (named (codes "documents") i) list_in)
+    (λ values. tables_of values revisions)) (λ tables.
     Some (record { place = place; said = told.Said said; schema = schema; tables = tables })))))
 info_of revisions _ = None
 
@@ -183,7 +184,8 @@ parts_of front hashes (info ∷ revisions ∷ []) =
 parts_of front hashes _ = None
 
 abbrev pub block_of : List Field → Option Block
-block_of fields = if length fields == 9 then parts_of (take 3 fields) (take 4 (drop 3 fields)) (drop 4 (drop 3 fields)) else None
+block_of fields =
+    if length fields == 9 then parts_of (take 3 fields) (take 4 (drop 3 fields)) (drop 4 (drop 3 fields)) else None
 
 abbrev pub block_in : Value → Option Block
 block_in v = and_then (fields_in v) block_of
@@ -195,8 +197,8 @@ shallow v b = if nat_le (depth_of v) 256 && list_all (λ r. is_shallow r.content
 abbrev pub whole_in : Value → Option Block
 whole_in v = and_then (block_in v) (shallow v)
 
--- a value is read as the whole block whose value it is, its numbers, texts and bytes being within their types, and as none
--- exactly where no whole block has it
+-- a value is read as the whole block whose value it is, its numbers, texts and bytes being within their types, and as
+-- none exactly where no whole block has it
 abbrev pub IsReadAs : Value → Option Block → Type 0
 IsReadAs v (Some b) = (v ≡ block_value b) × (IsTrue (within v) → IsWhole b)
 IsReadAs v None = (b : Block) → IsWhole b → v ≢ block_value b

@@ -16,8 +16,8 @@ pub struct CheckedBlock {
     pub hashes_hold: bool,
 }
 
-/// The whole block whose value this is, of the parts of the value, and whether its hashes hold. What it said and did, and
-/// the metadata of its revisions, are hashed as they stand in the value.
+/// The whole block whose value this is, of the parts of the value, and whether its hashes hold. What it said and did,
+/// and the metadata of its revisions, are hashed as they stand in the value.
 pub fn checked_from_ion(alloc: Global, v: Value) -> Result<Option<CheckedBlock>, OutOfMemory>
     ensures { IfOk result (λ found. IsCheckedAs v found) }
 {

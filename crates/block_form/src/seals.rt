@@ -122,56 +122,95 @@ pub fn seal(
 {
     let head = header_value(alloc, &header)?;
     let told = info_value(alloc, &info, revisions.as_slice())?;
-    let block = seal_over(alloc, previous, header, info, revisions, &head, &told)?;
-    Ok(block)
+    let list = hash_list(alloc, &told, revisions.as_slice(), &head)?;
+    Ok(sealed(previous, header, info, revisions, &list))
 }
 
-/// The block that `seal` makes of these parts, and its value, from which its line in the journal is written; `values`
-/// are those of the revisions. What is built to be hashed becomes a part of the value.
+/// Revisions, with the value of each.
+#[derive(Drop)]
+pub struct Valued {
+    pub revisions: Revisions,
+    pub values: Values,
+}
+
+/// The block that `seal` makes of these parts, and its value, from which its line in the journal is written. What is
+/// built to be hashed becomes a part of the value.
 pub fn seal_with_value(
     alloc: Global,
     previous: Hash32,
     header: Header,
     info: Info,
-    revisions: Revisions,
-    values: Values,
+    valued: Valued,
 ) -> Result<(Block, Value), OutOfMemory>
-    requires { values ≡ map revision_value revisions }
-    ensures block { IfOk result (λ made. made.0 ≡ sealed previous header info revisions) }
+    requires { valued.values ≡ map revision_value valued.revisions }
+    ensures block { IfOk result (λ made. made.0 ≡ sealed previous header info valued.revisions) }
     ensures value { IfOk result (λ made. made.1 ≡ block_value made.0) }
 {
+    let Valued { revisions, values } = valued;
     let head = header_value(alloc, &header)?;
     let told = info_value(alloc, &info, revisions.as_slice())?;
-    let block = seal_over(alloc, previous, header, info, revisions, &head, &told)?;
+    let list = hash_list(alloc, &told, revisions.as_slice(), &head)?;
+    let block = sealed(previous, header, info, revisions, &list);
     let value = value_with(alloc, &block, head, told, values)?;
     Ok((block, value))
 }
 
-/// The block of these parts, with its hashes, of the values of its header and of what it says.
-fn seal_over(
+/// The hashes of what a block says, of its revisions and of its header.
+#[derive(Drop)]
+struct HashList {
+    said: Hash32,
+    revisions: Hash,
+    header: Hash32,
+}
+
+/// The hashes of a block, by the value of what it says, its revisions and the value of its header.
+fn hash_list(
     alloc: Global,
+    told: &Value,
+    revisions: &[Revision],
+    head: &Value,
+) -> Result<HashList, OutOfMemory>
+    ensures { IfOk result (λ list. list ≡ record {
+      said = hash_of told.now;
+      revisions = revisions_root revisions.now;
+      header = hash_of head.now;
+    }) }
+{
+    let said = hash(alloc, told)?;
+    let revisions = revisions_root(alloc, revisions)?;
+    let header = hash(alloc, head)?;
+    Ok(HashList {
+        said,
+        revisions,
+        header,
+    })
+}
+
+/// The block of these parts, of which these are the hashes.
+fn sealed(
     previous: Hash32,
     header: Header,
     info: Info,
     revisions: Revisions,
-    head: &Value,
-    told: &Value,
-) -> Result<Block, OutOfMemory>
-    requires head { head.now ≡ header_value header }
-    requires told { told.now ≡ info_value info revisions }
-    ensures { IfOk result (λ block. block ≡ sealed previous header info revisions) }
+    list: &HashList,
+) -> Block
+    requires said { list.now.said ≡ hash_of (info_value info revisions) }
+    requires revisions { list.now.revisions ≡ revisions_root revisions }
+    requires header { list.now.header ≡ hash_of (header_value header) }
+    ensures { result ≡ sealed previous header info revisions }
 {
-    let said = hash(alloc, told)?;
-    let root = revisions_root(alloc, revisions.as_slice())?;
-    let head = hash(alloc, head)?;
-    let entries = entries_hash(&said, &root, &head);
-    Ok(Block {
+    let entries = entries_hash(&list.said, &list.revisions, &list.header);
+    Block {
         header,
         hash: dot_full(&entries, &previous),
         entries,
         previous,
-        list: [Hash::Full(said), root, Hash::Full(head)],
+        list: [
+            Hash::Full(list.said),
+            list.revisions,
+            Hash::Full(list.header),
+        ],
         info,
         revisions,
-    })
+    }
 }

@@ -28,7 +28,8 @@ place_rule name = record (new_rule name) { action = Some Set; required = true }
 -- no words yet; the words are all that stand behind the command's, and there is no help and no version to ask for
 abbrev pub bare_app : Text → App
 bare_app name =
-    on_top (λ s. record s { no_binary_name = true; disable_help_flag = true; disable_version_flag = true }) (new_app name)
+    on_top (λ s. record s { no_binary_name = true; disable_help_flag = true; disable_version_flag = true })
+    (new_app name)
 
 -- `run [--seed S] [--plain-ids] [--at TIME] [--workers N]`
 unfoldable pub run_app : App
@@ -44,7 +45,8 @@ digest_app = with_rule (bare_app (codes "digest")) (option_rule (codes "tip"))
 -- `prove SEQ INDEX [--tip N]`
 unfoldable pub prove_app : App
 prove_app =
-    with_rule (with_rule (with_rule (bare_app (codes "prove")) (place_rule (codes "sequence"))) (place_rule (codes "index")))
+    with_rule (with_rule (with_rule (bare_app (codes "prove")) (place_rule (codes "sequence")))
+    (place_rule (codes "index")))
     (option_rule (codes "tip"))
 
 -- `verify`

@@ -82,7 +82,8 @@ WritesLast same what x sink =
     ⊎ RunsOutIn sink memory_line
 
 -- Memory ran out. No failure is hidden: the source failed only if the line that says so was begun. The store failed
--- only if the line that says so was begun, or as the outcomes of a run say. The sink failed only at the line of status 8.
+-- only if the line that says so was begun, or as the outcomes of a run say. The sink failed only at the line of
+-- status 8.
 pub record RunsOut (same : Type 0) (what : Option Command) (x : Outside) (sink : Span SinkTold) : Type 0 where
   pub last : WritesLast same what x sink
   pub of_source : IsFine x.source ⊎ RunsOutIn sink (faults_line (codes "4") x.source.after.faults)

@@ -8,7 +8,8 @@ use Rattle.ledger_model.specs.Footprints.{Condition, Side, no_side, one_level, p
 
 -- the name of a step
 abbrev pub step_of : List Value → PathStep → Option (List ℕ)
-step_of params = fold-PathStep Condition (Option (List ℕ)) (Unit {0}) Side (one_level params) step_name no_side path_level
+step_of params =
+    fold-PathStep Condition (Option (List ℕ)) (Unit {0}) Side (one_level params) step_name no_side path_level
 
 abbrev pub path_side : List Value → Path → Side
 path_side params = fold-Path Condition (Option (List ℕ)) (Unit {0}) Side (one_level params) step_name no_side path_level

@@ -10,7 +10,8 @@ use ion_values::{OutOfMemory, Text, Value};
 use pql_model::{Resolved, Source};
 use std::alloc::Global;
 
-/// What a path of names means: the id of the document of the source at a place, or what stands at these names in its rows.
+/// What a path of names means: the id of the document of the source at a place, or what stands at these names in its
+/// rows.
 #[derive(Drop)]
 pub(crate) enum Meant<'a> {
     Id(usize),
@@ -35,7 +36,8 @@ pub(crate) fn asked_at<'a>(
     left: Side<'a>,
     right: Side<'a>,
 ) -> Result<Option<Asked<'a>>, OutOfMemory>
-    ensures { IfOk result (λ o. option_map asked_of o ≡ spec.asked_at sources.now (side_of left.entry) (side_of right.entry)) }
+    ensures { IfOk result (λ o. option_map asked_of o
+        ≡ spec.asked_at sources.now (side_of left.entry) (side_of right.entry)) }
 {
     match (left, right) {
         (Side::Names { first, fields }, Side::Constant(value)) => {

@@ -1,5 +1,5 @@
-//! What a statement reads: names of tables, and of each table that it selects from a document, a key of an index, or the
-//! whole table.
+//! What a statement reads: names of tables, and of each table that it selects from a document, a key of an index, or
+//! the whole table.
 #![tactic(auto)]
 
 mod asked;

@@ -19,6 +19,13 @@ use ql_types::{DocId, TableId};
 use std::alloc::Global;
 use versions::active_table;
 
+/// A source of a FROM by its place.
+#[derive(Clone, Copy)]
+struct Spot<'a> {
+    place: usize,
+    kind: &'a SourceKind,
+}
+
 /// A source of a FROM by its place, with its table.
 #[derive(Clone, Copy)]
 struct Place<'a> {
@@ -33,7 +40,8 @@ pub(crate) fn put_names(
     items: &mut Vec<Item>,
     sources: &[Source],
 ) -> Result<(), OutOfMemory>
-    ensures { OnOk result (items.new.items ≡ items.old.items ++ filter_map (λ (s : declared.Source). option_map item.TableName (table_in s.from)) sources.now) }
+    ensures { OnOk result (items.new.items ≡ items.old.items
+        ++ filter_map (λ (s : declared.Source). option_map item.TableName (table_in s.from)) sources.now) }
 {
     'sources: for source in sources {
         if let Some(name) = table_in(&source.from) {
@@ -52,25 +60,32 @@ pub(crate) fn put_reads(
     asked: &[Asked<'_>],
     sources: &[Source],
 ) -> Result<(), OutOfMemory>
-    ensures { OnOk result (items.new.items ≡ items.old.items ++ spec.read_from (schemas_of schemas.entry) (all_asked_of asked.now) 0 sources.now) }
+    ensures { OnOk result (items.new.items ≡ items.old.items
+        ++ spec.read_from (schemas_of schemas.entry) (all_asked_of asked.now) 0 sources.now) }
 {
     'sources: for (place, source) in sources.iter().enumerate() {
-        put_read(alloc, items, schemas, asked, place, &source.from)?;
+        let spot = Spot {
+            place,
+            kind: &source.from,
+        };
+        put_read(alloc, items, schemas, asked, spot)?;
     }
     Ok(())
 }
 
+/// Appends what is read of the table of this source, if it has one.
 fn put_read(
     alloc: Global,
     items: &mut Vec<Item>,
     schemas: Schemas<'_>,
     asked: &[Asked<'_>],
-    place: usize,
-    kind: &SourceKind,
+    spot: Spot<'_>,
 ) -> Result<(), OutOfMemory>
     ensures { OnOk result (items.new.items ≡ items.old.items
-        ++ spec.read_of_source (schemas_of schemas.entry) place kind.now (all_asked_of asked.now) (table_in kind.now)) }
+        ++ spec.read_of_source (schemas_of schemas.entry) spot.entry.place spot.entry.kind.now
+        (all_asked_of asked.now) (table_in spot.entry.kind.now)) }
 {
+    let Spot { place, kind } = spot;
     let Some(name) = table_in(kind) else {
         return Ok(());
     };
@@ -89,7 +104,8 @@ fn read_of_table(
     asked: &[Asked<'_>],
     at: Place<'_>,
 ) -> Result<Item, OutOfMemory>
-    ensures { IfOk result (λ item. item ≡ spec.read_of_table (schemas_of schemas.entry) at.entry.table at.entry.place at.entry.kind.now (all_asked_of asked.now)) }
+    ensures { IfOk result (λ item. item ≡ spec.read_of_table (schemas_of schemas.entry) at.entry.table at.entry.place
+        at.entry.kind.now (all_asked_of asked.now)) }
 {
     if let Some(id) = first_document(asked, at) {
         return Ok(Item::Doc {
@@ -105,7 +121,8 @@ fn read_of_table(
 
 /// The first document that is asked for.
 fn first_document(asked: &[Asked<'_>], at: Place<'_>) -> Option<DocId>
-    ensures { result ≡ spec.first_of (filter_map (spec.asked_document at.entry.place at.entry.kind.now) (all_asked_of asked.now)) }
+    ensures { result ≡ spec.first_of (filter_map (spec.asked_document at.entry.place at.entry.kind.now)
+        (all_asked_of asked.now)) }
 {
     'items: for asked in asked {
         if let Some(id) = asked_document(asked, at) {
@@ -154,7 +171,9 @@ fn first_key(
     asked: &[Asked<'_>],
     at: Place<'_>,
 ) -> Result<Option<Item>, OutOfMemory>
-    ensures { IfOk result (λ item. item ≡ spec.first_of (filter_map (spec.asked_key (schemas_of schemas.entry) at.entry.table at.entry.place at.entry.kind.now) (all_asked_of asked.now))) }
+    ensures { IfOk result (λ item. item ≡ spec.first_of
+        (filter_map (spec.asked_key (schemas_of schemas.entry) at.entry.table at.entry.place at.entry.kind.now)
+        (all_asked_of asked.now))) }
 {
     'items: for asked in asked {
         if let Some(read) = asked_key(alloc, schemas, asked, at)? {
@@ -170,7 +189,8 @@ fn asked_key(
     asked: &Asked<'_>,
     at: Place<'_>,
 ) -> Result<Option<Item>, OutOfMemory>
-    ensures { IfOk result (λ item. item ≡ spec.asked_key (schemas_of schemas.entry) at.entry.table at.entry.place at.entry.kind.now (asked_of asked.now)) }
+    ensures { IfOk result (λ item. item ≡ spec.asked_key (schemas_of schemas.entry) at.entry.table at.entry.place
+        at.entry.kind.now (asked_of asked.now)) }
 {
     let Some(field) = field_at(&asked.of, at) else {
         return Ok(None);

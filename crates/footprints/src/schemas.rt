@@ -9,8 +9,8 @@ use ledger_model::Schema;
 use ql_types::TableId;
 use versions::{Table, Versions};
 
-/// What a transaction sees of the schema: all tables, its own changes counted; the version that it stands on; and its changes,
-/// in order.
+/// What a transaction sees of the schema: all tables, its own changes counted; the version that it stands on; and its
+/// changes, in order.
 #[derive(Clone, Copy)]
 pub struct Schemas<'a> {
     pub tables: &'a [Table],

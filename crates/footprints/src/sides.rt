@@ -66,7 +66,8 @@ fn all_names<'a>(
     alloc: Global,
     steps: &'a [PathStep],
 ) -> Result<Option<Sequence<&'a Text>>, OutOfMemory>
-    ensures { (params : List Value) → IfOk result (λ o. option_map texts o ≡ spec.all_names (map (step_of params) steps.now)) }
+    ensures { (params : List Value) → IfOk result (λ o. option_map texts o
+        ≡ spec.all_names (map (step_of params) steps.now)) }
 {
     let mut names = Sequence::new(alloc);
     'steps: for step in steps {

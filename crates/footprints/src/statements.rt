@@ -61,7 +61,8 @@ pub fn read_by_sources(
     from: &FromClause,
     params: &[Value],
 ) -> Result<Sequence<Item>, OutOfMemory>
-    ensures { IfOk result (λ items. items ≡ spec.read_by_sources (schemas_of schemas.entry) (spec.equations_of params.now from.now) from.now.sources) }
+    ensures { IfOk result (λ items. items ≡ spec.read_by_sources (schemas_of schemas.entry)
+        (spec.equations_of params.now from.now) from.now.sources) }
 {
     let asked = all_asked(alloc, from, params)?;
     let mut items = Vec::new(alloc);

@@ -7,7 +7,11 @@ use Rattle.std.specs.Prelude.{ℕ, zero, suc, ◌+◌, ◌/◌, ◌%◌, ◌==�
 unfoldable pub digits_in : ℕ → ℕ → ℕ → ℕ → ℕ → List ℕ
 digits_in base limit mark zero n = (mark + n) ∷ []
 digits_in base limit mark (suc tries) n =
-    elim (nat_lt n limit) [ true ↦ (mark + n) ∷ [] | false ↦ digits_in base limit mark tries (n / base) ++ (n % base) ∷ [] ]
+    elim (nat_lt n limit) [
+      | true ↦ (mark + n) ∷ []
+      | false ↦ digits_in base limit mark tries (n / base)
+          ++ (n % base) ∷ []
+    ]
 
 -- the same with as many tries as suffice, since each digit past the first makes the number less
 abbrev pub digits_of : ℕ → ℕ → ℕ → ℕ → List ℕ

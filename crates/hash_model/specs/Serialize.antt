@@ -57,11 +57,13 @@ int_qualifier n = if is_below_zero n then 0x30 else 0x20
 abbrev pub is_negative_decimal : DecimalParts → Bool
 is_negative_decimal d = d.negative_zero || is_below_zero d.coefficient
 
--- the exponent and the coefficient; that the positive zero with the exponent 0 has no bytes is the rule of Ion 1.0 ("5: Decimal")
+-- the exponent and the coefficient; that the positive zero with the exponent 0 has no bytes is the rule of Ion 1.0
+-- ("5: Decimal")
 abbrev pub decimal_bytes : DecimalParts → List ℕ
 decimal_bytes d =
     if (unsigned_abs d.exponent == 0) && (unsigned_abs d.coefficient == 0) && not d.negative_zero then []
-    else var_int (is_below_zero d.exponent) (unsigned_abs d.exponent) ++ int_field (is_negative_decimal d) (unsigned_abs d.coefficient)
+    else var_int (is_below_zero d.exponent) (unsigned_abs d.exponent)
+    ++ int_field (is_negative_decimal d) (unsigned_abs d.coefficient)
 
 abbrev pub symbol_bytes : List ℕ → List ℕ
 symbol_bytes text = scalar 0x70 text

@@ -25,7 +25,8 @@ utc_date t =
 abbrev pub utc_clock : TimeParts → ℕ
 utc_clock t = unsigned_abs (
     if int_lt (minutes_from_local_date t) (pos 0) then minutes_from_local_date t +ℤ pos 1440
-    else (if int_lt (minutes_from_local_date t) (pos 1440) then minutes_from_local_date t else minutes_from_local_date t -ℤ pos 1440))
+    else (if int_lt (minutes_from_local_date t) (pos 1440) then minutes_from_local_date t
+    else minutes_from_local_date t -ℤ pos 1440))
 
 -- the offset in minutes; a negative zero stands for the unknown one
 abbrev pub offset_bytes : Option ℤ → List ℕ
@@ -34,7 +35,8 @@ offset_bytes (Some minutes) = var_int (is_below_zero minutes) (unsigned_abs minu
 
 -- the fraction as a decimal with its count of digits, or nothing if it has no digits
 abbrev pub fraction_bytes : ℕ → ℕ → List ℕ
-fraction_bytes digits nanos = if digits == 0 then [] else var_int true digits ++ int_field false (nanos / 10 ^ (9 - digits))
+fraction_bytes digits nanos =
+    if digits == 0 then [] else var_int true digits ++ int_field false (nanos / 10 ^ (9 - digits))
 
 abbrev pub clock_bytes : ℕ → List ℕ
 clock_bytes minutes = var_uint (minutes / 60) ++ var_uint (minutes % 60)

@@ -1,5 +1,5 @@
--- The mask that a seed gives, by the ledger's own rule: the first four words of the key stream of ChaCha20 (RFC 8439, with
--- a counter of 64 bits) whose key begins with the seed.
+-- The mask that a seed gives, by the ledger's own rule: the first four words of the key stream of ChaCha20 (RFC 8439,
+-- with a counter of 64 bits) whose key begins with the seed.
 use Rattle.std.specs.Prelude.{ℕ, ◌+◌, ◌*◌, ◌^◌, List, ◌++◌, replicate}
 use Rattle.std.specs.Int.{w64, to_le_bytes}
 use Rattle.rand_chacha.specs.ChaCha.{word_at, key_of}

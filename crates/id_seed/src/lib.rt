@@ -18,8 +18,8 @@ fn key(seed: u64) -> [u8; 32]
     key
 }
 
-/// The mask that a seed gives: the first four words, the lowest first, of the key stream of ChaCha20 whose key is the seed
-/// in 8 bytes, the lowest first, and then zeros.
+/// The mask that a seed gives: the first four words, the lowest first, of the key stream of ChaCha20 whose key is the
+/// seed in 8 bytes, the lowest first, and then zeros.
 pub fn from_seed(seed: u64) -> IdMask
     ensures { result.bits ≡ mask_of seed }
 {

@@ -19,7 +19,8 @@ IsAscending (n ∷ positions) = Each (λ m. n < m) positions × IsAscending posi
 -- the positions with this one in its place in the order, once
 abbrev pub with_position : ℕ → List ℕ → List ℕ
 with_position n [] = n ∷ []
-with_position n (m ∷ positions) = match_ordering (nat_cmp n m) (n ∷ m ∷ positions) (m ∷ positions) (m ∷ with_position n positions)
+with_position n (m ∷ positions) =
+    match_ordering (nat_cmp n m) (n ∷ m ∷ positions) (m ∷ positions) (m ∷ with_position n positions)
 
 -- the positions without this one
 abbrev pub without_position : ℕ → List ℕ → List ℕ
@@ -43,7 +44,8 @@ module _ {K : Type 0} (order : K → K → Ordering) where
 
   -- the position is taken from the old key, if there is one, and put under the new one, if there is one
   abbrev pub IsChangedBy : ℕ → Option K → Option K → List (K × List ℕ) → List (K × List ℕ) → Type 0
-  IsChangedBy n old new before after = (key : K) → positions_by after key ≡ put_at n new key (taken_at n old key (positions_by before key))
+  IsChangedBy n old new before after =
+      (key : K) → positions_by after key ≡ put_at n new key (taken_at n old key (positions_by before key))
 
   -- sets as maps from each position to itself
   abbrev pub set_at : List (K × List (ℕ × ℕ)) → K → List (ℕ × ℕ)

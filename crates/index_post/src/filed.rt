@@ -70,7 +70,8 @@ impl<K: Keyed + Drop> Filed<K> {
         old: Option<Arc<K>>,
         new: Option<Arc<K>>,
     ) -> Result<Filed<K>, OutOfMemory>
-        ensures { IfOk result (IsChangedBy K.order position (option_map arc_value old) (option_map arc_value new) self.now) }
+        ensures { IfOk result (IsChangedBy K.order position (option_map arc_value old)
+            (option_map arc_value new) self.now) }
     {
         let kept = taken(self.alloc, &self.sets, old, position)?;
         let sets = put(self.alloc, kept, new, position)?;
@@ -98,7 +99,8 @@ fn taken<K: Keyed + Drop>(
     key: Option<Arc<K>>,
     position: u64,
 ) -> Result<Sets<K>, OutOfMemory>
-    ensures { IfOk result (λ after. IsChangedBy K.order position (option_map arc_value key) None (listed sets.now) (listed after)) }
+    ensures { IfOk result (λ after. IsChangedBy K.order position (option_map arc_value key) None (listed sets.now)
+        (listed after)) }
 {
     match key {
         None => sets.share(),
@@ -113,7 +115,8 @@ fn put<K: Keyed + Drop>(
     key: Option<Arc<K>>,
     position: u64,
 ) -> Result<Sets<K>, OutOfMemory>
-    ensures { IfOk result (λ after. IsChangedBy K.order position None (option_map arc_value key) (listed sets) (listed after)) }
+    ensures { IfOk result (λ after. IsChangedBy K.order position None (option_map arc_value key) (listed sets)
+        (listed after)) }
 {
     match key {
         None => Ok(sets),
@@ -145,7 +148,8 @@ fn with<K: Keyed + Drop>(
     key: Arc<K>,
     position: u64,
 ) -> Result<Sets<K>, OutOfMemory>
-    ensures { IfOk result (λ after. IsChangedBy K.order position None (Some (arc_value key)) (listed sets.now) (listed after)) }
+    ensures { IfOk result (λ after. IsChangedBy K.order position None (Some (arc_value key)) (listed sets.now)
+        (listed after)) }
 {
     let set = set_with(alloc, sets, &key, position)?;
     let own = Arc::new(alloc, set)?;
@@ -160,7 +164,8 @@ fn without<K: Keyed + Drop>(
     key: Arc<K>,
     position: u64,
 ) -> Result<Sets<K>, OutOfMemory>
-    ensures { IfOk result (λ after. IsChangedBy K.order position (Some (arc_value key)) None (listed sets.now) (listed after)) }
+    ensures { IfOk result (λ after. IsChangedBy K.order position (Some (arc_value key)) None (listed sets.now)
+        (listed after)) }
 {
     let Some(set) = sets.get(&key, &mut Steps { taken: 0 }) else {
         let after = sets.share()?;

@@ -1,5 +1,5 @@
--- The transactions that are open on a tail, each with its name, and what an event does to them and to the tail. A transaction that
--- does a statement comes to stand behind the others.
+-- The transactions that are open on a tail, each with its name, and what an event does to them and to the tail. A
+-- transaction that does a statement comes to stand behind the others.
 use Rattle.std.specs.Prelude.{◌≡◌, ◌⊎◌, ℕ, ◌+◌, ◌-◌, ◌^◌, ◌<◌, Bool, List, [], ◌∷◌, ◌++◌, length, take, drop, slice_index_or, Option, Some, None, Result, Ok, Err, if◌then◌else◌}
 use Rattle.std.specs.List.{AllByRecursion}
 use Rattle.std.specs.Str.{bytes_eq}
@@ -74,14 +74,16 @@ pub record AreOpen (s : Standing) (xs : List OpenTxn) : Type 0 where
 -- ---- a begin
 
 -- the transaction of the next number stands behind the others
-pub record Opens (t : MemoryTail) (xs : List OpenTxn) (name : List ℕ) (place : Place) (said : List ℕ) (now : MemoryTail) (ys : List OpenTxn) : Type 0 where
+pub record Opens (t : MemoryTail) (xs : List OpenTxn) (name : List ℕ) (place : Place) (said : List ℕ) (now : MemoryTail)
+    (ys : List OpenTxn) : Type 0 where
   pub counted : t.standing.last + 1 < 2 ^ 64
   pub said_is : said ≡ line.begun name (tx_of (begun_on t.standing place)).raw (length t.standing.blocks)
   pub now_is : now ≡ record t { standing = drawn t.standing }
   pub kept : ys ≡ without name xs ++ opened name (begun_on t.standing place) ∷ []
 
 -- no number is left
-pub record IsSpent (t : MemoryTail) (xs : List OpenTxn) (name : List ℕ) (said : List ℕ) (now : MemoryTail) (ys : List OpenTxn) : Type 0 where
+pub record IsSpent (t : MemoryTail) (xs : List OpenTxn) (name : List ℕ) (said : List ℕ) (now : MemoryTail)
+    (ys : List OpenTxn) : Type 0 where
   pub last : t.standing.last ≡ 2 ^ 64 - 1
   pub said_is : said ≡ line.ids_spent (2 ^ 64 - 1)
   pub now_is : now ≡ t
@@ -97,7 +99,8 @@ execute_line (Ok a) = line.answer a.rows
 execute_line (Err cause) = line.refused cause
 
 -- the transaction does it, and stands behind the others
-pub record Does (x : Opened) (t : MemoryTail) (xs : List OpenTxn) (name : List ℕ) (text : List ℕ) (params : List Value) (said : List ℕ) (now : MemoryTail)
+pub record Does (x : Opened) (t : MemoryTail) (xs : List OpenTxn) (name : List ℕ) (text : List ℕ) (params : List Value)
+    (said : List ℕ) (now : MemoryTail)
     (ys : List OpenTxn) : Type 0 where
   pub answer : Result Answer Refusal
   pub left : Opened
@@ -107,12 +110,14 @@ pub record Does (x : Opened) (t : MemoryTail) (xs : List OpenTxn) (name : List �
   pub kept : ys ≡ without name xs ++ opened name left ∷ []
 
 -- nothing is done, for want of a transaction of this name
-pub record DoesNothing (t : MemoryTail) (xs : List OpenTxn) (name : List ℕ) (said : List ℕ) (now : MemoryTail) (ys : List OpenTxn) : Type 0 where
+pub record DoesNothing (t : MemoryTail) (xs : List OpenTxn) (name : List ℕ) (said : List ℕ) (now : MemoryTail)
+    (ys : List OpenTxn) : Type 0 where
   pub said_is : said ≡ line.nothing name
   pub now_is : now ≡ t
   pub kept : ys ≡ without name xs
 
-abbrev pub Executes : Option Opened → MemoryTail → List OpenTxn → List ℕ → List ℕ → List Value → List ℕ → MemoryTail → List OpenTxn → Type 0
+abbrev pub Executes : Option Opened → MemoryTail → List OpenTxn → List ℕ → List ℕ → List Value → List ℕ → MemoryTail →
+    List OpenTxn → Type 0
 Executes None t xs name text params said now ys = DoesNothing t xs name said now ys
 Executes (Some x) t xs name text params said now ys = Does x t xs name text params said now ys
 
@@ -139,21 +144,25 @@ IsServed (Err fault.OutOfMemory) = ⊥
 IsServed _ = Unit {0}
 
 -- how the commit ends at the tail, whose clock may have been asked
-pub record Closes (x : Opened) (t : MemoryTail) (xs : List OpenTxn) (name : List ℕ) (digest : Option Hash32) (said : List ℕ) (now : MemoryTail)
+pub record Closes (x : Opened) (t : MemoryTail) (xs : List OpenTxn) (name : List ℕ) (digest : Option Hash32)
+    (said : List ℕ) (now : MemoryTail)
     (ys : List OpenTxn) : Type 0 where
   pub answer : Result Receipt CommitFault
-  pub ends : CommitEnds t.standing x (Some (sent x digest)) (IsAnswer (told_answers t.clock) (told_answers now.clock) None) answer now.standing
+  pub ends : CommitEnds t.standing x (Some (sent x digest))
+      (IsAnswer (told_answers t.clock) (told_answers now.clock) None) answer now.standing
   pub served : IsServed answer
   pub said_is : said ≡ commit_line name (line.footprint x.done.footprint) answer
   pub kept : ys ≡ without name xs
 
-abbrev pub Commits : Option Opened → MemoryTail → List OpenTxn → List ℕ → Option Hash32 → List ℕ → MemoryTail → List OpenTxn → Type 0
+abbrev pub Commits : Option Opened → MemoryTail → List OpenTxn → List ℕ → Option Hash32 → List ℕ → MemoryTail →
+    List OpenTxn → Type 0
 Commits None t xs name digest said now ys = DoesNothing t xs name said now ys
 Commits (Some x) t xs name digest said now ys = Closes x t xs name digest said now ys
 
 -- ---- giving up
 
-pub record Drops (t : MemoryTail) (xs : List OpenTxn) (name : List ℕ) (said : List ℕ) (now : MemoryTail) (ys : List OpenTxn) : Type 0 where
+pub record Drops (t : MemoryTail) (xs : List OpenTxn) (name : List ℕ) (said : List ℕ) (now : MemoryTail)
+    (ys : List OpenTxn) : Type 0 where
   pub said_is : said ≡ line.aborted name
   pub now_is : now ≡ t
   pub kept : ys ≡ without name xs

@@ -1,4 +1,5 @@
--- The events that values spell (Ion 1.0, "The Ion data model"): structs whose fields stand in one order, with none beside them.
+-- The events that values spell (Ion 1.0, "The Ion data model"): structs whose fields stand in one order, with none
+-- beside them.
 use Rattle.std.specs.Prelude.{ℕ, ◌-◌, ◌^◌, ◌&&◌, List, [], ◌∷◌, codes, ℤ, pos, neg_ℤ, int_le, Option, Some, None, if◌then◌else◌}
 use Rattle.std.specs.Str.{bytes_eq}
 use Rattle.ion_values.specs.declared.value.Value.{Value}

@@ -49,7 +49,8 @@ store_fault count = counted (codes "{store_fault:") count
 -- ---- a begin and a statement
 
 abbrev pub begun : List ℕ → ℕ → ℕ → List ℕ
-begun name tx since = codes "{begun:" ++ string_text name ++ codes ",tx:" ++ quoted_id tx ++ codes ",since:" ++ decimal since ++ ending
+begun name tx since =
+    codes "{begun:" ++ string_text name ++ codes ",tx:" ++ quoted_id tx ++ codes ",since:" ++ decimal since ++ ending
 
 abbrev pub answer : List Value → List ℕ
 answer rows = codes "{answer:[" ++ joined (map value_text rows) ++ codes "]" ++ ending
@@ -71,14 +72,18 @@ read items = codes ",footprint:[" ++ items ++ codes "]" ++ ending
 
 abbrev pub committed : ℕ → Hash32 → TimeParts → List ℕ → List ℕ
 committed block hash time items =
-    codes "{committed:" ++ decimal block ++ codes ",hash:" ++ blob_text hash.bytes ++ codes ",time:" ++ timestamp_text time ++ read items
+    codes "{committed:" ++ decimal block ++ codes ",hash:" ++ blob_text hash.bytes ++ codes ",time:"
+    ++ timestamp_text time ++ read items
 
 abbrev pub conflict : ℕ → Named → List ℕ → List ℕ
 conflict since named items =
-    codes "{conflict:{since:" ++ decimal since ++ codes ",block:" ++ decimal named.block ++ codes ",item:" ++ braced named.item ++ codes "}" ++ read items
+    codes "{conflict:{since:" ++ decimal since ++ codes ",block:" ++ decimal named.block ++ codes ",item:"
+    ++ braced named.item ++ codes "}" ++ read items
 
 abbrev pub digest_differs : Hash32 → Hash32 → List ℕ
-digest_differs mine given = codes "{digest_differs:{mine:" ++ blob_text mine.bytes ++ codes ",given:" ++ blob_text given.bytes ++ codes "}" ++ ending
+digest_differs mine given =
+    codes "{digest_differs:{mine:" ++ blob_text mine.bytes ++ codes ",given:" ++ blob_text given.bytes
+    ++ codes "}" ++ ending
 
 -- ---- the last line
 

@@ -1,4 +1,5 @@
--- What a program does that reads events: it does one after another on the tail of an empty journal, and writes a line for each.
+-- What a program does that reads events: it does one after another on the tail of an empty journal, and writes a line
+-- for each.
 use Rattle.std.specs.Prelude.{◌≡◌, ℕ, ◌+◌, List, [], ◌∷◌, ◌++◌, take, drop, slice_get, ℤ, pos, Option, Some, None, Ok, Err}
 use Rattle.ion_values.specs.declared.value.Value.{Value}
 use Rattle.ion_model.specs.Read.{Answer}
@@ -13,7 +14,8 @@ use Rattle.interleavings.specs.Desks.{Answers, MemoryTail}
 -- ---- events, one after another
 
 -- the value spells an event, which does this
-pub record Reads (t : MemoryTail) (xs : List OpenTxn) (v : Value) (said : List ℕ) (now : MemoryTail) (ys : List OpenTxn) : Type 0 where
+pub record Reads (t : MemoryTail) (xs : List OpenTxn) (v : Value) (said : List ℕ) (now : MemoryTail)
+    (ys : List OpenTxn) : Type 0 where
   pub event : Event
   pub read : event_in v ≡ Some event
   pub answers : Answers t xs event said now ys
@@ -81,9 +83,11 @@ EndsFresh end times first vs said = (t : MemoryTail) × IsFresh times t × Ends 
 
 -- how the values of an input are answered
 abbrev pub Tells : List Value → Ended → List ℕ → Type 0
-Tells vs end said = EndsFresh end (times_or (first_times vs)) (first_of (first_times vs)) (events_of (first_times vs) vs) said
+Tells vs end said =
+    EndsFresh end (times_or (first_times vs)) (first_of (first_times vs)) (events_of (first_times vs) vs) said
 
--- How what is read of an input is answered. Where it is no Ion text, no event is done, and the first one is told as the bad one.
+-- How what is read of an input is answered. Where it is no Ion text, no event is done, and the first one is told as
+-- the bad one.
 abbrev pub IsTold : Answer → Ended → List ℕ → Type 0
 IsTold (Ok vs) end said = Tells vs end said
 IsTold (Err fault) ended.BadEvent said = said ≡ line.bad_event 0

@@ -126,14 +126,7 @@ fn put_ending(
     ensures served { OnOk result (IsServed committed.now) }
 {
     match committed {
-        Ok(receipt) => put_committed(
-            alloc,
-            out,
-            receipt.block,
-            &receipt.hash,
-            receipt.time,
-            footprint,
-        ),
+        Ok(receipt) => put_committed(alloc, out, receipt, footprint),
         Err(CommitFault::EndedTxn) => put_ended(alloc, out, name),
         Err(CommitFault::DigestDiffers { mine, given }) => {
             put_digest_differs(alloc, out, mine, given)
@@ -244,7 +237,8 @@ impl Desk {
         requires { AreOpen self.old.tail.standing self.old.transactions.items }
         ensures sound { OnOk result (AreOpen self.new.tail.standing self.new.transactions.items) }
         ensures answers { IfOk result (λ said.
-            Begins self.old.tail self.old.transactions.items name place said self.new.tail self.new.transactions.items) }
+            Begins self.old.tail self.old.transactions.items name place said self.new.tail
+            self.new.transactions.items) }
     {
         let _ = take_named(&mut self.transactions, &name);
         match self.tail.begin(alloc, place) {

@@ -4,6 +4,7 @@ ghost use Rattle.ion_model.specs.Timestamp.{timestamp_text};
 ghost use Rattle.interleavings.specs.Lines as line;
 
 use ion_values::{Body, IonTime, OutOfMemory, Text, Value};
+use ledger_core::Receipt;
 use ledger_model::{Block, Item, Named, Refusal};
 use ql_types::{Hash32, TxId};
 use script_form::{
@@ -153,19 +154,18 @@ fn put_read(out: &mut Text, footprint: &Text) -> Result<(), OutOfMemory>
 pub fn put_committed(
     alloc: Global,
     out: &mut Text,
-    block: u64,
-    hash: &Hash32,
-    time: IonTime,
+    receipt: &Receipt,
     footprint: &Text,
 ) -> Result<(), OutOfMemory>
-    ensures { OnOk result (out.new ≡ out.old ++ line.committed block hash.now time footprint.now) }
+    ensures { OnOk result (out.new ≡ out.old
+        ++ line.committed receipt.now.block receipt.now.hash receipt.now.time footprint.now) }
 {
     out.push_str("{committed:")?;
-    put_number(alloc, out, block)?;
+    put_number(alloc, out, receipt.block)?;
     out.push_str(",hash:")?;
-    put_blob(alloc, out, &hash.bytes)?;
+    put_blob(alloc, out, &receipt.hash.bytes)?;
     out.push_str(",time:")?;
-    put_time(alloc, out, time)?;
+    put_time(alloc, out, receipt.time)?;
     put_read(out, footprint)?;
     Ok(())
 }

@@ -83,7 +83,8 @@ impl Buffer {
     /// Moves the last `count` bytes to `start`, in front of those that stood from there on.
     pub fn move_last(&mut self, start: usize, count: usize)
         requires { start + count ≤ length self.old }
-        ensures { (a b c : List ℕ) → self.old ≡ a ++ b ++ c → length a ≡ start → length c ≡ count → self.new ≡ a ++ c ++ b }
+        ensures { (a b c : List ℕ) → self.old ≡ a ++ b ++ c → length a ≡ start → length c ≡ count →
+            self.new ≡ a ++ c ++ b }
     {
         self.bytes.as_mut_slice()[start..].rotate_right(count);
     }

@@ -1,5 +1,5 @@
-//! The fields of the Ion 1.0 binary encoding, appended to growing bytes: magnitudes, Ints, VarUInts and VarInts, and the
-//! decimals and timestamps that consist of them. The Ion Hash specification has the same ones.
+//! The fields of the Ion 1.0 binary encoding, appended to growing bytes: magnitudes, Ints, VarUInts and VarInts, and
+//! the decimals and timestamps that consist of them. The Ion Hash specification has the same ones.
 #![tactic(auto)]
 
 mod buffer;

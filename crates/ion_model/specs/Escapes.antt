@@ -1,4 +1,5 @@
--- Escapes in the texts between quotes (Ion 1.0 text, "Escape Characters"). Each definition reads what stands behind a backslash.
+-- Escapes in the texts between quotes (Ion 1.0 text, "Escape Characters"). Each definition reads what stands behind a
+-- backslash.
 use Rattle.std.specs.Prelude.{ℕ, ◌^◌, ◌+◌, ◌*◌, ◌==◌, ◌&&◌, ◌||◌, nat_lt, List, [], ◌∷◌, drop, slice_index, Option, Some, None, option_map, option_and_then, encode_utf8, if◌then◌else◌}
 use Rattle.std.specs.Char.{digit_value}
 use Rattle.std.specs.Char.Utf16.{is_high_surrogate, is_low_surrogate, surrogate_pair_char}

@@ -7,10 +7,12 @@ use Rattle.ion_model.specs.Texts.{before, long, pieces, short}
 -- behind such opening quotes, in a text that is UTF-8, what stands before the closing ones gives a text that is UTF-8
 abbrev pub GivesUtf8 : List ℕ → (ℕ → List ℕ → Option Piece) → Type 0
 GivesUtf8 quotes front =
-    (z text : List ℕ) (len : ℕ) → is_utf8 z ≡ true → before quotes false z ≡ Some len → pieces front 0 (take len z) ≡ Some text
+    (z text : List ℕ) (len : ℕ) → is_utf8 z ≡ true → before quotes false z ≡ Some len →
+    pieces front 0 (take len z) ≡ Some text
     → is_utf8 text ≡ true
 
 -- So a string, a quoted symbol or a segment in a text that is UTF-8 is refused for an ill-formed piece alone.
 abbrev pub TextsAreUtf8 : Type 0
 TextsAreUtf8 =
-    GivesUtf8 (codes "\"") (short text_escape) × GivesUtf8 (codes "'") (short text_escape) × GivesUtf8 (codes "'''") (long text_escape)
+    GivesUtf8 (codes "\"") (short text_escape) × GivesUtf8 (codes "'") (short text_escape)
+    × GivesUtf8 (codes "'''") (long text_escape)

@@ -21,8 +21,8 @@ abbrev pub lob_token : (List ℕ → Scalar) → IonKind → ℕ → Option (Lis
 lob_token made refused len (Some bytes) = lexed.Token (token.Scalar (made bytes)) (len + 3)
 lob_token made refused len None = lexed.Refused refused
 
--- How many bytes stand before the closing braces, or None where they are missing; the first `left` bytes were passed. A byte
--- before the text z hides as many bytes as `hidden` says, or all where it says None.
+-- How many bytes stand before the closing braces, or None where they are missing; the first `left` bytes were passed.
+-- A byte before the text z hides as many bytes as `hidden` says, or all where it says None.
 abbrev pub before_braces : (ℕ → List ℕ → Option ℕ) → ℕ → List ℕ → Option ℕ
 before_braces hidden left [] = None
 before_braces hidden (suc left) (b ∷ z) = option_map suc (before_braces hidden left z)
@@ -65,7 +65,8 @@ clob_segment z len = option_map (piece (len + 5)) (clob_content (long clob_escap
 abbrev pub long_clob : ℕ → List ℕ → Option Piece
 long_clob b z =
     if is_space b then Some (piece 0 [])
-    else (if begins_segment (b ∷ z) then option_and_then (clob_segment (drop 2 z)) (before (codes "'''") false (drop 2 z))
+    else (if begins_segment (b ∷ z) then option_and_then (clob_segment (drop 2 z))
+    (before (codes "'''") false (drop 2 z))
     else None)
 
 -- what stands between the braces of a clob, from its first string on
@@ -102,12 +103,14 @@ spelled _ = []
 
 -- the bytes whose base64 this is, padded by `=`, or None where there are none
 abbrev pub base64_bytes : List ℕ → Option (List ℕ)
-base64_bytes text = if bytes_eq (encode base64_digits (byte "=") true (spelled text)) text then Some (spelled text) else None
+base64_bytes text =
+    if bytes_eq (encode base64_digits (byte "=") true (spelled text)) text then Some (spelled text) else None
 
 -- behind the opening braces
 abbrev pub lex_blob : List ℕ → Lexed
 lex_blob z =
-    closed (λ len. lob_token scalar.Blob fault.BadBase64 len (base64_bytes (filter (λ b. not (is_space b)) (take len z))))
+    closed (λ len. lob_token scalar.Blob fault.BadBase64 len
+    (base64_bytes (filter (λ b. not (is_space b)) (take len z))))
     (before_braces (λ b more. Some 0) 0 z)
 
 -- ---- both

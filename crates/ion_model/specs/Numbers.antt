@@ -1,5 +1,5 @@
--- Numbers (Ion 1.0 text, "Integers", "Real Numbers" and "Timestamps"). A number is the run of bytes up to the next stop, and is
--- an int, a decimal or a timestamp by its shape, or is refused.
+-- Numbers (Ion 1.0 text, "Integers", "Real Numbers" and "Timestamps"). A number is the run of bytes up to the next
+-- stop, and is an int, a decimal or a timestamp by its shape, or is refused.
 use Rattle.std.specs.Prelude.{ℕ, zero, suc, ℤ, pos, negsuc, neg_ℤ, ◌-◌, ◌-ℤ◌, ◌^◌, ◌==◌, ◌&&◌, ◌||◌, Bool, true, false, not, nat_lt, List, [], ◌∷◌, length, take, drop, slice_index, Option, Some, None, Result, Ok, Err, if◌then◌else◌}
 use Rattle.std.specs.Char.{is_digit}
 use Rattle.std.specs.List.{filter, list_any, position_or_len}
@@ -43,7 +43,8 @@ has_prefix small large text =
 -- Digits with single underscores between them. `after` tells whether a digit stands just before.
 unfoldable pub is_spelled : ℕ → Bool → List ℕ → Bool
 is_spelled base after [] = after
-is_spelled base after (b ∷ bs) = if b == 0x5F then after && is_spelled base false bs else is_digit b base && is_spelled base true bs
+is_spelled base after (b ∷ bs) =
+    if b == 0x5F then after && is_spelled base false bs else is_digit b base && is_spelled base true bs
 
 abbrev pub is_digits : ℕ → List ℕ → Bool
 is_digits base text = is_spelled base false text
@@ -109,7 +110,12 @@ final_exponent exponent places = limited (exponent_of exponent -ℤ pos places)
 
 abbrev pub decimal : Bool → Option ℤ → Option ℤ → Result Scalar IonKind
 decimal minus (Some coefficient) (Some exponent) =
-    Ok (scalar.Decimal (record { coefficient = coefficient; exponent = exponent; negative_zero = minus && is_zero coefficient }))
+    Ok (scalar.Decimal (record {
+      coefficient = coefficient;
+      exponent = exponent;
+      negative_zero = minus
+          && is_zero coefficient;
+    }))
 decimal minus _ _ = Err kind.TooWide
 
 -- at least one digit, and no 0 before others

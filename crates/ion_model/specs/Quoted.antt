@@ -1,5 +1,5 @@
--- The one spelling of strings, symbols and clobs (Ion 1.0 text, "Strings", "Escape Characters", "Symbols" and "Clobs"). Texts
--- are UTF-8. Each byte is spelled by itself, and one that is no ASCII stands as it is.
+-- The one spelling of strings, symbols and clobs (Ion 1.0 text, "Strings", "Escape Characters", "Symbols" and
+-- "Clobs"). Texts are UTF-8. Each byte is spelled by itself, and one that is no ASCII stands as it is.
 use Rattle.std.specs.Prelude.{ℕ, ◌/◌, ◌%◌, ◌==◌, ◌&&◌, ◌||◌, not, Bool, false, nat_lt, nat_le, List, [], ◌∷◌, ◌++◌, codes, if◌then◌else◌}
 use Rattle.std.specs.Char.{digit_char}
 use Rattle.std.specs.List.{flat_map, list_all}
@@ -41,7 +41,9 @@ is_identifier [] = false
 is_identifier (b ∷ more) = begins_name b && list_all continues_name more
 
 abbrev pub is_keyword : List ℕ → Bool
-is_keyword text = bytes_eq text (codes "null") || bytes_eq text (codes "true") || bytes_eq text (codes "false") || bytes_eq text (codes "nan")
+is_keyword text =
+    bytes_eq text (codes "null") || bytes_eq text (codes "true") || bytes_eq text (codes "false")
+    || bytes_eq text (codes "nan")
 
 -- stands without quotes
 abbrev pub is_bare : List ℕ → Bool

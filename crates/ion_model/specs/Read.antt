@@ -51,11 +51,13 @@ turn depth at end fs rest (lexed.Token t more) = go_on at (rest more) (accept de
 turn depth at end fs rest (lexed.Refused k) = refused at k
 turn depth at end fs rest lexed.Cut = refused end fault.Unclosed
 
--- What the bytes from `at` on give where these containers are open, and the first `left` bytes belong to a token that was read.
+-- What the bytes from `at` on give where these containers are open, and the first `left` bytes belong to a token that
+-- was read.
 abbrev pub run : ℕ → ℕ → ℕ → Open → List ℕ → Answer
 run depth left at fs [] = finish at fs
 run depth (suc left) at fs (b ∷ z) = run depth left (at + 1) fs z
-run depth zero at fs (b ∷ z) = turn depth at (at + length (b ∷ z)) fs (λ more gs. run depth more (at + 1) gs z) (lex (b ∷ z))
+run depth zero at fs (b ∷ z) =
+    turn depth at (at + length (b ∷ z)) fs (λ more gs. run depth more (at + 1) gs z) (lex (b ∷ z))
 
 -- the same for the whole of a text that is UTF-8
 abbrev pub read_utf8 : ℕ → List ℕ → Answer

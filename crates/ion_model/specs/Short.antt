@@ -1,5 +1,5 @@
--- No list of a value is longer than a number says: not its annotations, members or fields, nor those of a value inside (Ion 1.0,
--- "The Ion data model"). The values of a text are such at its length.
+-- No list of a value is longer than a number says: not its annotations, members or fields, nor those of a value
+-- inside (Ion 1.0, "The Ion data model"). The values of a text are such at its length.
 use Rattle.std.specs.Prelude.{ℕ, ◌&&◌, Bool, true, nat_le, List, length}
 use Rattle.std.specs.List.{list_all}
 use Rattle.ion_values.specs.Within.{all_true}

@@ -1,5 +1,5 @@
--- How many bytes a token, white space or a comment takes (Ion 1.0, "Text encoding"). It is never more than there are, which
--- each lexer promises: `span_of` of what it gives is at most the length of the text that it was given.
+-- How many bytes a token, white space or a comment takes (Ion 1.0, "Text encoding"). It is never more than there are,
+-- which each lexer promises: `span_of` of what it gives is at most the length of the text that it was given.
 use Rattle.std.specs.Prelude.{ℕ, ◌+◌}
 use Rattle.ion_model.specs.declared.Lexed.{Lexed}
 use Rattle.ion_model.specs.declared.Lexed.TheVariants as lexed

@@ -1,5 +1,5 @@
--- Which token of Ion text may come next, by the innermost open container and by what was read last in it (Ion 1.0, "Text
--- encoding", lists, S-expressions, structs and annotations; "Symbols", version markers and symbol tables).
+-- Which token of Ion text may come next, by the innermost open container and by what was read last in it (Ion 1.0,
+-- "Text encoding", lists, S-expressions, structs and annotations; "Symbols", version markers and symbol tables).
 use Rattle.std.specs.Prelude.{ℕ, ◌&&◌, ◌||◌, not, Bool, true, false, nat_le, List, [], ◌∷◌, ◌++◌, length, Result, Ok, Err, Option, Some, None, codes, if◌then◌else◌}
 use Rattle.std.specs.Str.{bytes_eq}
 use Rattle.ion_values.specs.declared.fault.IonKind.{IonKind}
@@ -19,7 +19,8 @@ use Rattle.ion_model.specs.declared.Frame.{Frame}
 
 -- ---- the table: what may come next
 
--- A value comes first in a list or behind a comma, in a struct behind a colon, elsewhere behind any other, and behind an annotation.
+-- A value comes first in a list or behind a comma, in a struct behind a colon, elsewhere behind any other, and behind
+-- an annotation.
 abbrev pub may_begin : Members → Last → Bool
 may_begin ms last.Annotation = true
 may_begin (members.Stream vs) last.Opening = true
@@ -66,7 +67,8 @@ abbrev pub start : Open
 start = opened (members.Stream []) ∷ []
 
 abbrev pub then_last : Last → Frame → Frame
-then_last l f = record { members = f.members; name = f.name; annotations = f.annotations; is_table = f.is_table; last = l }
+then_last l f =
+    record { members = f.members; name = f.name; annotations = f.annotations; is_table = f.is_table; last = l }
 
 -- the frame, or a refusal
 abbrev pub taken_if : Bool → Frame → Open → Taken
@@ -110,7 +112,8 @@ is_marker text quoted [] (members.Stream vs) = not quoted && bytes_eq text (code
 is_marker text quoted _ _ = false
 
 abbrev pub symbol_settled : List ℕ → Bool → Frame → Frame
-symbol_settled text quoted f = if is_marker text quoted f.annotations f.members then then_last last.Value f else with_value (body.Symbol text) f
+symbol_settled text quoted f =
+    if is_marker text quoted f.annotations f.members then then_last last.Value f else with_value (body.Symbol text) f
 
 abbrev pub settle : Last → Frame → Frame
 settle (last.Symbol text quoted) f = symbol_settled text quoted f
@@ -133,7 +136,8 @@ before t f = if continues t f.last then f else settled f
 -- ---- names, symbols and strings
 
 abbrev pub named : List ℕ → Last → Frame → Frame
-named text l f = record { members = f.members; name = text; annotations = f.annotations; is_table = f.is_table; last = l }
+named text l f =
+    record { members = f.members; name = text; annotations = f.annotations; is_table = f.is_table; last = l }
 
 -- a name where one may come next, and else a value that may begin
 abbrev pub named_or : List ℕ → Last → Frame → Frame → Open → Taken

@@ -1,4 +1,5 @@
--- Texts between quotes: strings, quoted symbols and the segments of long strings (Ion 1.0 text, "Strings" and "Symbols").
+-- Texts between quotes: strings, quoted symbols and the segments of long strings (Ion 1.0 text, "Strings" and
+-- "Symbols").
 use Rattle.std.specs.Prelude.{ℕ, zero, suc, ◌+◌, ◌-◌, ◌*◌, ◌==◌, ◌||◌, Bool, true, false, nat_le, List, [], ◌∷◌, ◌++◌, length, take, drop, codes, Option, Some, None, option_map, if◌then◌else◌}
 use Rattle.std.specs.Str.{byte, is_utf8}
 use Rattle.ion_values.specs.declared.fault.IonKind.TheVariants as fault
@@ -15,7 +16,8 @@ use Rattle.ion_model.specs.declared.Lexed.TheVariants as lexed
 abbrev pub before : List ℕ → Bool → List ℕ → Option ℕ
 before quotes hidden [] = None
 before quotes true (b ∷ z) = option_map suc (before quotes false z)
-before quotes false (b ∷ z) = if begins quotes (b ∷ z) then Some 0 else option_map suc (before quotes (b == byte "\\") z)
+before quotes false (b ∷ z) =
+    if begins quotes (b ∷ z) then Some 0 else option_map suc (before quotes (b == byte "\\") z)
 
 -- ---- what stands between the quotes
 
@@ -39,8 +41,8 @@ abbrev pub with_piece : (ℕ → Option (List ℕ)) → Option Piece → Option 
 with_piece rest (Some p) = option_map (λ bytes. p.gives ++ bytes) (rest p.more)
 with_piece rest None = None
 
--- What a text gives piece by piece, where its first `left` bytes belong to a piece that was read, or None where a piece is
--- ill-formed.
+-- What a text gives piece by piece, where its first `left` bytes belong to a piece that was read, or None where a
+-- piece is ill-formed.
 abbrev pub pieces : (ℕ → List ℕ → Option Piece) → ℕ → List ℕ → Option (List ℕ)
 pieces front left [] = Some []
 pieces front (suc left) (b ∷ z) = pieces front left z
@@ -61,7 +63,8 @@ closed made None = lexed.Cut
 abbrev pub lex_text : List ℕ → (ℕ → List ℕ → Option Piece) → (List ℕ → Token) → List ℕ → Lexed
 lex_text quotes front made z =
     let rest = drop (length quotes) z in
-    closed (λ len. text_token made (len + (2 * length quotes - 1)) (pieces front 0 (take len rest))) (before quotes false rest)
+    closed (λ len. text_token made (len + (2 * length quotes - 1)) (pieces front 0 (take len rest)))
+    (before quotes false rest)
 
 unfoldable pub lex_string : List ℕ → Lexed
 lex_string = lex_text (codes "\"") (short text_escape) token.String

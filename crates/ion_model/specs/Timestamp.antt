@@ -1,4 +1,5 @@
--- The one spelling of a timestamp (Ion 1.0 text, "Timestamps"): as far as its precision goes, with its own digits of a second.
+-- The one spelling of a timestamp (Ion 1.0 text, "Timestamps"): as far as its precision goes, with its own digits of
+-- a second.
 use Rattle.std.specs.Prelude.{ℕ, ℤ, pos, negsuc, suc, zero, ◌+◌, ◌*◌, ◌/◌, ◌%◌, ◌==◌, List, [], ◌∷◌, ◌++◌, Option, Some, None, codes, if◌then◌else◌}
 use Rattle.ion_values.specs.declared.time.Precision.{Precision}
 use Rattle.ion_values.specs.declared.time.Precision.TheVariants.{Year, Month, Day, Minute, Second}

@@ -70,7 +70,8 @@ nanos_of digits = (four_at digits 0 * 10_000 + four_at digits 4) * 10 + digit_of
 abbrev pub offset_of : List ℕ → Option ℤ
 offset_of text =
     let minutes = two_at text 1 * 60 + two_at text 4 in
-    if slice_index text 0 == 0x2D then (if minutes == 0 then None else Some (neg_ℤ (pos minutes))) else Some (pos minutes)
+    if slice_index text 0 == 0x2D then (if minutes == 0 then None else Some (neg_ℤ (pos minutes)))
+    else Some (pos minutes)
 
 -- ---- parts, as far as the precision goes
 
@@ -95,12 +96,23 @@ abbrev pub day_parts : List ℕ → TimeParts
 day_parts run = record (month_parts run) { precision = precision.Day; day = two_at run 8 }
 
 unfoldable pub minute_parts : List ℕ → List ℕ → TimeParts
-minute_parts run offset = record (day_parts run) { precision = precision.Minute; hour = two_at run 11; minute = two_at run 14; offset = offset_of offset }
+minute_parts run offset =
+    record (day_parts run) {
+      precision = precision.Minute;
+      hour = two_at run 11;
+      minute = two_at run 14;
+      offset = offset_of offset;
+    }
 
 -- with the digits of a fraction
 unfoldable pub second_parts : List ℕ → List ℕ → List ℕ → TimeParts
 second_parts run digits offset =
-    record (minute_parts run offset) { precision = precision.Second; second = two_at run 17; digits = length digits; nanos = nanos_of digits }
+    record (minute_parts run offset) {
+      precision = precision.Second;
+      second = two_at run 17;
+      digits = length digits;
+      nanos = nanos_of digits;
+    }
 
 -- ---- what a run is
 

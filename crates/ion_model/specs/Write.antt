@@ -1,5 +1,5 @@
--- The one spelling in which values are written (Ion 1.0 text, "Null Values" to "Structures" and "Type Annotations"). No white
--- space stands in it but one space between the members of a sexp.
+-- The one spelling in which values are written (Ion 1.0 text, "Null Values" to "Structures" and "Type Annotations").
+-- No white space stands in it but one space between the members of a sexp.
 use Rattle.std.specs.Prelude.{ℕ, Bool, true, false, List, [], ◌∷◌, ◌++◌, codes, if◌then◌else◌}
 use Rattle.std.specs.Fmt.{signed_decimal}
 use Rattle.std.specs.List.{flat_map}
@@ -43,7 +43,8 @@ bool_text false = codes "false"
 
 -- the coefficient, `d`, the exponent; the sign of a negative zero stands alone before its digit
 abbrev pub decimal_text : DecimalParts → List ℕ
-decimal_text d = (if d.negative_zero then codes "-0" else signed_decimal d.coefficient) ++ 100 ∷ signed_decimal d.exponent
+decimal_text d =
+    (if d.negative_zero then codes "-0" else signed_decimal d.coefficient) ++ 100 ∷ signed_decimal d.exponent
 
 -- the digits of base64 (RFC 4648, section 4), the digit of 0 first
 abbrev pub base64_digits : List ℕ

@@ -1,5 +1,5 @@
--- Sums, differences and products of numbers (Ion 1.0, "Decimal", for the numbers; the rules are the ledger's own). A coefficient
--- is within i128, and None says that a result is out of range. A zero that results is positive.
+-- Sums, differences and products of numbers (Ion 1.0, "Decimal", for the numbers; the rules are the ledger's own). A
+-- coefficient is within i128, and None says that a result is out of range. A zero that results is positive.
 use Rattle.std.specs.Prelude.{ℤ, ◌+ℤ◌, ◌-ℤ◌, ◌*ℤ◌, ◌&&◌, if◌then◌else◌}
 use Rattle.std.specs.declared.option.Option.{Option}
 use Rattle.std.specs.declared.option.Option.TheVariants.{None, Some}

@@ -1,5 +1,5 @@
--- Which values compare, and how (PartiQL, comparison operators; the rule for each kind is the ledger's own). Annotations don't
--- count.
+-- Which values compare, and how (PartiQL, comparison operators; the rule for each kind is the ledger's own).
+-- Annotations don't count.
 use Rattle.std.specs.Prelude.{ℕ, ℤ, Bool, List}
 use Rattle.std.specs.declared.option.Option.{Option}
 use Rattle.std.specs.declared.option.Option.TheVariants.{None, Some}
@@ -23,7 +23,8 @@ pub data Scalar : Type 0 where
   clob : List ℕ → Scalar
   blob : List ℕ → Scalar
 
--- ints and decimals are numbers, a timestamp is its instant, symbols and strings are texts; nulls and containers don't compare
+-- ints and decimals are numbers, a timestamp is its instant, symbols and strings are texts; nulls and containers
+-- don't compare
 abbrev pub scalar_of_body : Body-F Body Field Value → Option Scalar
 scalar_of_body (Body-F.Bool b) = Some (truth b)
 scalar_of_body (Body-F.Int n) = Some (number (whole n))

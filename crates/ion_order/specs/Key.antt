@@ -1,5 +1,5 @@
--- The keys by which values are looked up (own): equal for values that compare as equal, and for no others. A number's key is
--- its coefficient without the zeros at its end, and the exponent so raised.
+-- The keys by which values are looked up (own): equal for values that compare as equal, and for no others. A number's
+-- key is its coefficient without the zeros at its end, and the exponent so raised.
 use Rattle.std.specs.Prelude.{ℕ, zero, suc, ◌/◌, ◌%◌, ◌^◌, ◌==◌, ℤ, pos, ◌+ℤ◌, int_div, unsigned_abs, option_map, if◌then◌else◌}
 use Rattle.std.specs.declared.option.Option.{Option}
 use Rattle.ion_values.specs.Decimal.{DecimalParts}

@@ -24,6 +24,7 @@ NumbersAreOrdered = IsTotalOrder compare_numbers
 abbrev pub is_tie : Value → Value → Bool
 is_tie v w = is_some_and is_eq (compare_of v w)
 
--- the other way round a comparison is reversed, it chains, and values that compare as equal compare alike with all others
+-- the other way round a comparison is reversed, it chains, and values that compare as equal compare alike with all
+-- others
 abbrev pub ValuesAreOrdered : Type 0
 ValuesAreOrdered = IsPartialOrder is_tie compare_of

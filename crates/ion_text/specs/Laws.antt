@@ -9,8 +9,11 @@ use Rattle.ion_model.specs.Read.{read_text}
 
 -- The text of a value within its ranges gives this value alone, where containers may nest as deep as it does.
 abbrev pub WrittenIsRead : Type 0
-WrittenIsRead = (v : Value) (depth : ℕ) → within v ≡ true → depth_of v ≤ depth → read_text depth (value_text v) ≡ Ok (v ∷ [])
+WrittenIsRead =
+    (v : Value) (depth : ℕ) → within v ≡ true → depth_of v ≤ depth → read_text depth (value_text v) ≡ Ok (v ∷ [])
 
 -- Each value that a text gives is within its ranges.
 abbrev pub ReadIsWithin : Type 0
-ReadIsWithin = (depth : ℕ) (bytes : List ℕ) (values : List Value) → read_text depth bytes ≡ Ok values → list_all within values ≡ true
+ReadIsWithin =
+    (depth : ℕ) (bytes : List ℕ) (values : List Value) → read_text depth bytes ≡ Ok values →
+    list_all within values ≡ true

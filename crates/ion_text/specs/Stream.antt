@@ -23,7 +23,8 @@ Takes new (Err refused.Memory) taken = Unit {0}
 
 -- The innermost container ends with these members, so that it only remains to make a value of them.
 abbrev pub Leaves : Reader → Option Members → Reader → Type 0
-Leaves old None new = (content : Members → Option Body) → close content old.inner (reverse old.outer.items) ≡ Err fault.BadToken
+Leaves old None new =
+    (content : Members → Option Body) → close content old.inner (reverse old.outer.items) ≡ Err fault.BadToken
 Leaves old (Some ms) new =
     (content : Members → Option Body) →
     close content old.inner (reverse old.outer.items) ≡ closed (content ms) new.inner (reverse new.outer.items)

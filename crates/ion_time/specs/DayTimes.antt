@@ -1,4 +1,5 @@
--- How a timestamp is made of its date and the milliseconds since the date began (own; the claims on timestamps don't need it).
+-- How a timestamp is made of its date and the milliseconds since the date began (own; the claims on timestamps don't
+-- need it).
 use Rattle.std.specs.Prelude.{ℕ, ◌*◌, ◌/◌, ◌%◌, pos, Some}
 use Rattle.ion_values.specs.declared.time.TimeParts.{TimeParts}
 use Rattle.ion_values.specs.declared.time.Precision.TheVariants.{Second}

@@ -32,4 +32,5 @@ IsDay d = IsTrue (is_date d.year d.month d.day)
 -- the day after a day has the next number, and the day before it the one before
 abbrev pub DaysAreNumbered : Type 0
 DaysAreNumbered =
-    (d : Date) → IsDay d → (day_number (day_after d) ≡ day_number d +ℤ pos 1) × (day_number (day_before d) +ℤ pos 1 ≡ day_number d)
+    (d : Date) → IsDay d → (day_number (day_after d) ≡ day_number d +ℤ pos 1)
+    × (day_number (day_before d) +ℤ pos 1 ≡ day_number d)

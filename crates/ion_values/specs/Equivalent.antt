@@ -1,6 +1,6 @@
--- When two values are equivalent (Ion 1.0, "The Ion data model"): their annotations agree in order and their bodies agree,
--- structs as multisets of fields, lists and sexps in order, decimals by coefficient, exponent and sign of zero,
--- timestamps by each of their parts, all else by its value.
+-- When two values are equivalent (Ion 1.0, "The Ion data model"): their annotations agree in order and their bodies
+-- agree, structs as multisets of fields, lists and sexps in order, decimals by coefficient, exponent and sign of
+-- zero, timestamps by each of their parts, all else by its value.
 use Rattle.std.specs.Prelude.{ℕ, ℤ, ◌==◌, ◌&&◌, not, Bool, true, false, List, [], ◌∷◌, option_map, if◌then◌else◌}
 use Rattle.std.specs.declared.option.Option.{Option}
 use Rattle.std.specs.declared.option.Option.TheVariants.{None, Some}
@@ -42,7 +42,8 @@ same_offset _ _ = false
 
 abbrev pub same_time : TimeParts → TimeParts → Bool
 same_time a b =
-    same_precision a.precision b.precision && (a.year == b.year) && (a.month == b.month) && (a.day == b.day) && (a.hour == b.hour)
+    same_precision a.precision b.precision && (a.year == b.year) && (a.month == b.month) && (a.day == b.day)
+    && (a.hour == b.hour)
     && (a.minute == b.minute) && (a.second == b.second) && (a.digits == b.digits) && (a.nanos == b.nanos)
     && same_offset a.offset b.offset
 

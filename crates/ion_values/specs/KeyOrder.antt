@@ -1,4 +1,5 @@
--- The laws of the equality and the order of keys: equal keys are one, and the order is that of their kinds, and then of their parts.
+-- The laws of the equality and the order of keys: equal keys are one, and the order is that of their kinds, and then
+-- of their parts.
 use Rattle.std.proofs.Common.{◌≡◌, ℕ, ℤ, pos, Bool, true, false, List, [], refl, sym, ap, subst, ◌∙◌, if◌then◌else◌}
 use Rattle.std.specs.Cmp.{IsEquivalence, IsTotalOrder}
 use Rattle.std.specs.Cmp.Lexicographic.{slice_cmp}
@@ -35,12 +36,15 @@ bytes_of (key.Blob bytes) = bytes
 bytes_of _ = []
 
 abbrev by_parts : Key → Key → Ordering
-by_parts = then_cmp (on kind_of nat_cmp) (then_cmp (on amount_of int_cmp) (then_cmp (on exponent_of int_cmp) (on bytes_of (slice_cmp nat_cmp))))
+by_parts =
+    then_cmp (on kind_of nat_cmp) (then_cmp (on amount_of int_cmp)
+    (then_cmp (on exponent_of int_cmp) (on bytes_of (slice_cmp nat_cmp))))
 
 parts_ordered : IsTotalOrder by_parts
 parts_ordered =
     then_total (on_total kind_of nat_cmp_total)
-    (then_total (on_total amount_of int_cmp_total) (then_total (on_total exponent_of int_cmp_total) (on_total bytes_of nat_list_cmp_total)))
+    (then_total (on_total amount_of int_cmp_total)
+    (then_total (on_total exponent_of int_cmp_total) (on_total bytes_of nat_list_cmp_total)))
 
 then_tie : (o : Ordering) → o ≡ ordering_then o Equal
 then_tie Less = refl
@@ -125,7 +129,8 @@ tie_is_one (key.Blob a) (key.Blob b) h = ap key.Blob (bytes_tie a b h)
 tie_is_one _ _ h = absurd (false≢true (ap is_eq h))
 
 pub keys_are_ordered : KeysAreOrdered
-keys_are_ordered = (keys_total, λ a b. (tie_is_one a b, λ same. ap (compare_keys a) (sym same) ∙ tied_itself keys_total a))
+keys_are_ordered =
+    (keys_total, λ a b. (tie_is_one a b, λ same. ap (compare_keys a) (sym same) ∙ tied_itself keys_total a))
 
 -- ---- for `==` and `cmp`
 
@@ -139,14 +144,17 @@ same_key_equiv = record {
     flipped : (a b : Key) (x y : Bool) → is_same_key a b ≡ x → is_same_key b a ≡ y → is_same_key a b ≡ is_same_key b a
     flipped a b true true h k = h ∙ sym k
     flipped a b false false h k = h ∙ sym k
-    flipped a b true false h k = ap (λ (c : Key). is_same_key a c) (sym (is_one a b h)) ∙ ap (λ (c : Key). is_same_key c a) (is_one a b h)
-    flipped a b false true h k = ap (λ (c : Key). is_same_key a c) (is_one b a k) ∙ ap (λ (c : Key). is_same_key c a) (sym (is_one b a k))
+    flipped a b true false h k =
+        ap (λ (c : Key). is_same_key a c) (sym (is_one a b h)) ∙ ap (λ (c : Key). is_same_key c a) (is_one a b h)
+    flipped a b false true h k =
+        ap (λ (c : Key). is_same_key a c) (is_one b a k) ∙ ap (λ (c : Key). is_same_key c a) (sym (is_one b a k))
 
 -- `==` holds exactly where `cmp` answers Equal
 pub ties_are_same : (a b : Key) → is_same_key a b ≡ is_eq (compare_keys a b)
 ties_are_same a b = by (is_same_key a b) (compare_keys a b) refl refl
   where
-    by : (x : Bool) (o : Ordering) → is_same_key a b ≡ x → compare_keys a b ≡ o → is_same_key a b ≡ is_eq (compare_keys a b)
+    by : (x : Bool) (o : Ordering) → is_same_key a b ≡ x → compare_keys a b ≡ o →
+        is_same_key a b ≡ is_eq (compare_keys a b)
     by true o h k = h ∙ sym (ap is_eq ((keys_are_ordered.1 a b).1 (is_one a b h)))
     by false Less h k = h ∙ sym (ap is_eq k)
     by false Equal h k = (equal_keys_are_one a b).1 (tie_is_one a b k) ∙ sym (ap is_eq k)

@@ -1,5 +1,5 @@
--- When two keys are equal, and the order in which keys are kept (own): keys of one kind by what they hold, a number's by its
--- coefficient and then its exponent, and keys of different kinds as the type lists them.
+-- When two keys are equal, and the order in which keys are kept (own): keys of one kind by what they hold, a number's
+-- by its coefficient and then its exponent, and keys of different kinds as the type lists them.
 use Rattle.std.specs.Prelude.{ℕ, ◌≡◌, ◌↔◌, ◌&&◌, Bool, true, false}
 use Rattle.std.specs.Cmp.{IsTotalOrder}
 use Rattle.std.specs.Cmp.Lexicographic.{slice_cmp}

@@ -11,7 +11,8 @@ use Rattle.ion_values.specs.declared.time.Precision.TheVariants as p
 -- the calendar has the day, and its year is one of 0001 to 9999
 abbrev pub is_date : ℕ → ℕ → ℕ → Bool
 is_date year month day =
-    nat_le 1 year && nat_le year 9999 && nat_le 1 month && nat_le month 12 && nat_le 1 day && nat_le day (days_in_month (pos year) month)
+    nat_le 1 year && nat_le year 9999 && nat_le 1 month && nat_le month 12 && nat_le 1 day
+    && nat_le day (days_in_month (pos year) month)
 
 -- hours from 00 to 23, minutes and seconds from 00 to 59
 abbrev pub is_clock : TimeParts → Bool
@@ -51,7 +52,8 @@ ends_at p.Second = λ _. true
 -- minutes since 1970 in UTC, the unknown offset counted as UTC
 abbrev pub utc_minutes : TimeParts → ℤ
 utc_minutes t =
-    (days_from_civil (pos t.year) t.month t.day *ℤ pos 1440 +ℤ pos (t.hour * 60 + t.minute)) -ℤ unwrap_or t.offset (pos 0)
+    (days_from_civil (pos t.year) t.month t.day *ℤ pos 1440 +ℤ pos (t.hour * 60 + t.minute))
+    -ℤ unwrap_or t.offset (pos 0)
 
 -- where the year begins, in minutes since 1970
 abbrev pub start_of : ℕ → ℤ
@@ -63,7 +65,8 @@ is_in_years minutes = int_le (start_of 1) minutes && int_lt minutes (start_of 10
 
 unfoldable pub is_time : TimeParts → Bool
 is_time t =
-    is_date t.year t.month t.day && is_clock t && is_offset t.offset && is_fraction t.digits t.nanos && ends_at t.precision t
+    is_date t.year t.month t.day && is_clock t && is_offset t.offset && is_fraction t.digits t.nanos
+    && ends_at t.precision t
     && is_in_years (utc_minutes t)
 
 -- each part is in its range

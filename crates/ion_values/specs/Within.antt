@@ -1,5 +1,5 @@
--- A value's numbers, timestamps, texts and bytes are within the ranges of their types. In a law a number is unbounded, so a law
--- about values that are written or read speaks of those within.
+-- A value's numbers, timestamps, texts and bytes are within the ranges of their types. In a law a number is
+-- unbounded, so a law about values that are written or read speaks of those within.
 use Rattle.std.specs.Prelude.{ℕ, ℤ, pos, negsuc, ◌^◌, ◌&&◌, ◌==◌, Bool, true, false, nat_lt, nat_le, List, [], ◌∷◌, length, if◌then◌else◌}
 use Rattle.std.specs.List.{list_all}
 use Rattle.std.specs.Str.Lossy.{utf8_valid_len}
@@ -26,7 +26,8 @@ is_zero (pos n) = n == 0
 is_zero (negsuc n) = false
 
 abbrev pub decimal_within : DecimalParts → Bool
-decimal_within d = int_within d.coefficient && exponent_within d.exponent && (if d.negative_zero then is_zero d.coefficient else true)
+decimal_within d =
+    int_within d.coefficient && exponent_within d.exponent && (if d.negative_zero then is_zero d.coefficient else true)
 
 -- well-formed UTF-8
 abbrev pub text_within : List ℕ → Bool

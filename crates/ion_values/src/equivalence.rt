@@ -117,7 +117,8 @@ fn same_counts(a: &[Field], b: &[Field], from: usize) -> bool
 // the others.
 #[cycle(equivalent)]
 fn is_as_often(field: &Field, before: &[Field], after: &[Field], others: &[Field]) -> bool
-    ensures { result ≡ (count_by (is_equivalent_field field.now) (before.now ++ field.now ∷ after.now) == count_by (is_equivalent_field field.now) others.now) }
+    ensures { result ≡ (count_by (is_equivalent_field field.now) (before.now ++ field.now ∷ after.now)
+        == count_by (is_equivalent_field field.now) others.now) }
 {
     count(field, before) + 1 + count(field, after) == count(field, others)
 }

@@ -1,5 +1,5 @@
--- A journal that is read a piece at a time, however it is cut into pieces: of a piece are taken the bytes up to and with the
--- first line feed, or all of it.
+-- A journal that is read a piece at a time, however it is cut into pieces: of a piece are taken the bytes up to and
+-- with the first line feed, or all of it.
 use Rattle.std.specs.Prelude.{◌≡◌, ℕ, true, List, [], ◌∷◌, ◌++◌, length, Option, Some, None, IfSome, Result, Ok, Err}
 use Rattle.ledger_model.specs.declared.block.Block.{Block}
 use Rattle.ledger_model.specs.Journal.{journal_bytes}

@@ -1,4 +1,5 @@
--- What a line of a journal is read as (Ion 1.0, "Text encoding"): the one value of its text, and the whole block of that value.
+-- What a line of a journal is read as (Ion 1.0, "Text encoding"): the one value of its text, and the whole block of
+-- that value.
 use Rattle.std.specs.Prelude.{◌≡◌, ◌≢◌, ℕ, List, [], ◌∷◌, Option, Some, None, Ok}
 use Rattle.ion_values.specs.declared.value.Value.{Value}
 use Rattle.ion_model.specs.Read.{read_text}
@@ -12,7 +13,8 @@ abbrev pub GivesOne : List ℕ → Option Value → Type 0
 GivesOne text (Some v) = read_text 256 text ≡ Ok (v ∷ [])
 GivesOne text None = (v : Value) → read_text 256 text ≢ Ok (v ∷ [])
 
--- the whole block whose line this is, with whether its hashes are those of what they stand for, or none where it is that of none
+-- the whole block whose line this is, with whether its hashes are those of what they stand for, or none where it is
+-- that of none
 abbrev pub IsLineRead : List ℕ → Option CheckedBlock → Type 0
 IsLineRead line (Some c) = IsLineOf line c.block × (c.hashes_hold ≡ has_hashes c.block)
 IsLineRead line None = (b : Block) → IsLineOf line b → ⊥

@@ -1,5 +1,5 @@
--- Which texts stand on one line, and that each value is written as one (Ion 1.0, "Text encoding": the byte 10, a line feed,
--- is white space, and in quotes it has the escape `\n`).
+-- Which texts stand on one line, and that each value is written as one (Ion 1.0, "Text encoding": the byte 10, a line
+-- feed, is white space, and in quotes it has the escape `\n`).
 use Rattle.std.specs.Prelude.{◌≡◌, ◌==◌, ℕ, Bool, true, not, List}
 use Rattle.std.specs.List.{list_all}
 use Rattle.ion_values.specs.declared.value.Value.{Value}

@@ -1,5 +1,5 @@
--- What the reader of a journal answers, in the words of what the journal's bytes hold: it tells the blocks of all whole lines,
--- or the first line that is damaged.
+-- What the reader of a journal answers, in the words of what the journal's bytes hold: it tells the blocks of all
+-- whole lines, or the first line that is damaged.
 use Rattle.std.specs.Prelude.{◌≡◌, ℕ, List, [], ◌∷◌, ◌++◌, length}
 use Rattle.ledger_model.specs.declared.block.Block.{Block}
 use Rattle.ledger_model.specs.Damages.{strand_of}

@@ -39,7 +39,8 @@ names_differ (t ∷ ts) = (not t.active || is_none (active_table ts t.name)) && 
 
 -- the field of this table has an index
 abbrev pub has_field : Tables → ℕ → List ℕ → Bool
-has_field r id field = contains_by (λ k. ordering_then (nat_cmp id k.0) (slice_cmp nat_cmp field (string_bytes k.1))) r.indexes
+has_field r id field =
+    contains_by (λ k. ordering_then (nat_cmp id k.0) (slice_cmp nat_cmp field (string_bytes k.1))) r.indexes
 
 pub record TablesStand (tables : List Table) (indexes : List Indexed) (r : Tables) : Type 0 where
   pub names : (name : List ℕ) → get_by_text r.names name ≡ active_table tables name
@@ -48,12 +49,14 @@ pub record TablesStand (tables : List Table) (indexes : List Indexed) (r : Table
   pub differ : names_differ tables ≡ true
 
 -- the answer tells whether the change can be made, and it is made if so
-pub record Changes (tables : List Table) (indexes : List Indexed) (c : Schema) (answer : Bool) (r : Tables) : Type 0 where
+pub record Changes (tables : List Table) (indexes : List Indexed) (c : Schema) (answer : Bool)
+    (r : Tables) : Type 0 where
   pub tells : answer ≡ change_follows tables indexes c
   pub made : answer ≡ true → TablesStand (changed tables c) (indexed indexes c) r
 
 -- the same of changes in order
-pub record AllChange (tables : List Table) (indexes : List Indexed) (schema : List Schema) (answer : Bool) (r : Tables) : Type 0 where
+pub record AllChange (tables : List Table) (indexes : List Indexed) (schema : List Schema) (answer : Bool)
+    (r : Tables) : Type 0 where
   pub tells : answer ≡ schema_follows tables indexes schema
   pub made : answer ≡ true → TablesStand (all_changed tables schema) (all_indexed indexes schema) r
 

@@ -98,8 +98,8 @@ fn has_previous(
 
 /// The first check that the block fails after these blocks.
 ///
-/// The registry is that of the blocks, and whether the block's hashes hold was seen before. If the block fails no check,
-/// the registry has taken it in; else, and if memory ran out, the registry is of no more use.
+/// The registry is that of the blocks, and whether the block's hashes hold was seen before. If the block fails no
+/// check, the registry has taken it in; else, and if memory ran out, the registry is of no more use.
 pub(crate) fn damage_of(
     alloc: Global,
     registry: &mut Registry,

@@ -89,8 +89,8 @@ pub(crate) fn next_block(
     }
 }
 
-/// The blocks of all whole lines of a journal, and the offset of the rest, in which no line feed stands. `Damaged` comes
-/// exactly at the first whole line that fails a check, with the first check that it fails.
+/// The blocks of all whole lines of a journal, and the offset of the rest, in which no line feed stands. `Damaged`
+/// comes exactly at the first whole line that fails a check, with the first check that it fails.
 pub fn read_journal(alloc: Global, bytes: &[u8]) -> Result<(Blocks, u64), JournalFault>
     ensures journal { IfOk result (λ read. IsJournal bytes.now read.0.list (drop read.1 bytes.now)) }
     ensures within { IfOk result (λ read. read.1 ≤ length bytes.now) }

@@ -14,8 +14,8 @@ use ledger_model::{Block, Blocks};
 use std::alloc::Global;
 use std::marker::Model;
 
-/// A journal that is read a piece at a time. Contracts see it as `blocks`, those of the whole lines so far, `line`, the bytes
-/// of the line that is begun, and `damaged`, the damage that ended the reading.
+/// A journal that is read a piece at a time. Contracts see it as `blocks`, those of the whole lines so far, `line`,
+/// the bytes of the line that is begun, and `damaged`, the damage that ended the reading.
 #[derive(Drop)]
 pub struct JournalReader {
     alloc: Global,
@@ -213,7 +213,8 @@ fn registry_for(
 
 /// Appends the block of this line, if it passes each check, and returns the registry with it.
 ///
-/// The text is the line without its line feed. The given registry is that of the blocks; if there is none, it is made anew.
+/// The text is the line without its line feed. The given registry is that of the blocks; if there is none, it is made
+/// anew.
 fn take_line(
     alloc: Global,
     blocks: &mut Blocks,

@@ -6,7 +6,8 @@ use Rattle.ledger_model.specs.declared.block.Block.{Block}
 use Rattle.ledger_model.specs.Damages.{Undamaged}
 use Rattle.laws_crash.specs.Sound.{IsSafe, Recovers}
 
--- Each moment after the first content's has the property. `past_after` are all moments of a content, its own the last one.
+-- Each moment after the first content's has the property. `past_after` are all moments of a content, its own the last
+-- one.
 pub record Passes (P : Moment → Type 0) (before now : Content) : Type 0 where
   pub more : List Moment
   pub grows : past_after now ≡ past_after before ++ more

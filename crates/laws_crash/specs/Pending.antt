@@ -4,8 +4,8 @@ use Rattle.std.specs.List.{AllByRecursion}
 use Rattle.outside.specs.Told.{StoreTold}
 use Rattle.outside.specs.Store.{Content, Moment, IsImage, moment_of}
 
--- All bytes are synced, and nothing else was held since. The first alone is too little: a cut lowers `synced` and leaves an image of
--- what was held before it.
+-- All bytes are synced, and nothing else was held since. The first alone is too little: a cut lowers `synced` and
+-- leaves an image of what was held before it.
 pub record NothingPending (content : Content) : Type 0 where
   pub synced : content.synced ≡ length content.bytes
   pub since : content.since ≡ content.bytes ∷ []

@@ -9,7 +9,8 @@ use Rattle.laws_crash.specs.Pending.{AllHeld, ImagesAre, NothingPending}
 
 -- ---- what was held
 
--- a front part of the line of one of the tried blocks, perhaps none or all of it, if that block is undamaged after the others
+-- a front part of the line of one of the tried blocks, perhaps none or all of it, if that block is undamaged after
+-- the others
 pub record IsPartOfLine (blocks tried : List Block) (part : List ℕ) : Type 0 where
   pub block : Block
   pub kept : ℕ
@@ -31,8 +32,8 @@ pub record StandsAfter (blocks tried : List Block) (whole : List ℕ) : Type 0 w
 abbrev pub IsSafe : List Block → List Block → Moment → Type 0
 IsSafe blocks tried m = AllHeld (StandsAfter blocks tried) (length (journal_bytes blocks)) m
 
--- The invariant: of the blocks, of those whose lines may have come to the store after them, of whether a cut is marked, and of the
--- store's whole content. If no cut is marked, the lines stand alone and nothing is pending.
+-- The invariant: of the blocks, of those whose lines may have come to the store after them, of whether a cut is
+-- marked, and of the store's whole content. If no cut is marked, the lines stand alone and nothing is pending.
 pub record IsSound (blocks tried : List Block) (marked : Bool) (content : Content) : Type 0 where
   pub safe : IsSafe blocks tried (moment_of content)
   pub now : StandsAfter blocks tried content.bytes

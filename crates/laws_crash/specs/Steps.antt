@@ -17,7 +17,8 @@ size_of blocks = length (journal_bytes blocks)
 -- what a reload finds in a store of which nothing is pending
 abbrev pub ReloadIsSound : Type 0
 ReloadIsSound =
-    (blocks : List Block) (rest : List ℕ) (marked : Bool) (c : Content) → NothingPending c → IsJournal c.bytes blocks rest
+    (blocks : List Block) (rest : List ℕ) (marked : Bool) (c : Content) → NothingPending c →
+    IsJournal c.bytes blocks rest
     → (marked ≡ false → rest ≡ []) → IsSound blocks [] marked c
 
 -- ---- steps that change no more than the mark
@@ -25,7 +26,8 @@ ReloadIsSound =
 -- a step that failed and left the content, and the mark that is set before a step
 abbrev pub MarkKeeps : Type 0
 MarkKeeps =
-    (blocks tried : List Block) (marked : Bool) (c : Content) → IsSound blocks tried marked c → IsSound blocks tried true c
+    (blocks tried : List Block) (marked : Bool) (c : Content) → IsSound blocks tried marked c →
+    IsSound blocks tried true c
 
 -- a further block that may have come to the store
 abbrev pub TryKeeps : Type 0

@@ -1,5 +1,6 @@
-//! What a stop of the machine at any moment leaves of a journal's store: one invariant over the store's whole content, kept by each
-//! step of a commit, and what it says of every crash image. All of it is definitions and laws of them.
+//! What a stop of the machine at any moment leaves of a journal's store: one invariant over the store's whole
+//! content, kept by each step of a commit, and what it says of every crash image. All of it is definitions and laws
+//! of them.
 #![tactic(auto)]
 
 ghost use Rattle.laws_crash.specs.Lines.{FrontsAreTorn, NoFrontIsALine};

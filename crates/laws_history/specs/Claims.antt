@@ -44,8 +44,9 @@ RunsPast t p (StoreFault tx count) low = CameToCommit t p tx low
 RunsPast t p (JournalFull tx blocks) low = IsUntouched t p tx low
 RunsPast t p other low = Unit {0}
 
--- Of two transactions the first one was over when the second one, of this job, began: it has the smaller number, and the
--- second one ran on all blocks that stood behind the first one, and on one more for each time that it was tried again.
+-- Of two transactions the first one was over when the second one, of this job, began: it has the smaller number, and
+-- the second one ran on all blocks that stood behind the first one, and on one more for each time that it was tried
+-- again.
 pub record RunsBefore (t : RunRecord) (first : Outcome) (p : Placed) (second : Outcome) : Type 0 where
   pub numbers : AllByRecursion
       (λ m. AllByRecursion (λ n. transaction_in t.mask m < transaction_in t.mask n) (told_id second)) (told_id first)

@@ -220,8 +220,8 @@ pub record IsAborted (t : RunRecord) (p : Placed) (tx : TxId) (since : ℕ) : Ty
   pub aborts : p.job.abort ≡ true
   pub blockless : HasNoBlock t p
 
--- The transaction came to its commit: its statements were all done on the first `since` blocks, of which there are `low`
--- at the least.
+-- The transaction came to its commit: its statements were all done on the first `since` blocks, of which there are
+-- `low` at the least.
 pub record CameToCommit (t : RunRecord) (p : Placed) (tx : TxId) (low : ℕ) : Type 0 where
   pub number : ℕ
   pub id : tx.raw ≡ raw_id t.mask number 0

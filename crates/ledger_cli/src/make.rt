@@ -43,7 +43,8 @@ fn transactions_of(alloc: Global, options: MakeOptions) -> Result<Workload, OutO
     Ok(Workload { first, sessions })
 }
 
-/// Runs the first transaction alone and then the sessions by the crew's workers. The outcomes are those of the sessions.
+/// Runs the first transaction alone and then the sessions by the crew's workers. The outcomes are those of the
+/// sessions.
 ///
 /// What stands after the journal is cut away at the end.
 fn run_workload<S: JournalStore + Send, C: Clock + Send, G: Gate + Sync, R: Threads + Wait + Sync>(

@@ -1,4 +1,4 @@
--- The digest of what a transaction has said is that of what it was asked.
+-- A transaction that said what it was asked has the digest of those requests.
 use Rattle.std.proofs.Common.{◌≡◌, ◌∙◌, true, false, List, [], ◌∷◌, Option, Some, None, refl, sym, ap}
 use Rattle.std.specs.Prelude.{IfSome, fold}
 use Rattle.std.proofs.lemmas.Slice.Eq.{bytes_eq-Decides}

@@ -101,8 +101,8 @@ abbrev pub Checked : Standing → Opened → Option Hash32 → Result (Unit {0})
 Checked s t sent (Ok done) = PassesChecks s t sent
 Checked s t sent (Err fault) = IsFound s t sent fault
 
--- This is the transaction's block after all blocks, made at a time that the clock returned. It is that of the statements
--- by which the transaction came to what it has done, as they run on all blocks, and it is undamaged there.
+-- This is the transaction's block after all blocks, made at a time that the clock returned. It is that of the
+-- statements by which the transaction came to what it has done, as they run on all blocks, and it is undamaged there.
 pub record ComesTo (s : Standing) (t : Opened) (sent : Option Hash32) (told : TimeParts → Type 0)
     (b : Block) : Type 0 where
   pub checks : PassesChecks s t sent

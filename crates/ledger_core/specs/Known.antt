@@ -9,8 +9,8 @@ use Rattle.ledger_core.specs.declared.reload.Loaded.{Loaded}
 abbrev pub standing_of : Loaded → Standing
 standing_of l = record { mask = l.mask.bits; last = l.last; blocks = l.blocks.list }
 
--- the mask is that of the blocks or the given one, the last number the greatest of the blocks, the size that of their lines,
--- and the version is their state
+-- the mask is that of the blocks or the given one, the last number the greatest of the blocks, the size that of their
+-- lines, and the version is their state
 pub record IsKnown (given : ℕ) (l : Loaded) : Type 0 where
   pub stands : IsStanding (standing_of l)
   pub mask : l.mask.bits ≡ mask_of given l.blocks.list

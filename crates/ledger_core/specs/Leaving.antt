@@ -25,10 +25,12 @@ module _ {S C : Type 0} (told : S → StoreTold) (answers : C → Option (List �
     -- the clock, which is asked at most once
     pub asked : (after ≡ before) ⊎ ((time : TimeParts) × Asked time)
     pub always_is : always after.clock ≡ always before.clock
-    -- the store: a block that is kept is synced, and no rest stands after it; after a fault a part of its line may stand
+    -- the store: a block that is kept is synced, and no rest stands after it; after a fault a part of its line may
+    -- stand
     pub holds : OnOk result (Holding after.standing.blocks (held (told after.store)))
     pub synced : OnOk result (IsSynced (told after.store))
-    pub part : OnErr result (MayHoldPartOf before.standing t sent Asked (held (told before.store)) (held (told after.store)))
+    pub part : OnErr result (MayHoldPartOf before.standing t sent Asked (held (told before.store))
+        (held (told after.store)))
     -- the store failed exactly if the commit returns so
     pub fine : OnOk result ((told after.store).faults ≡ (told before.store).faults)
     pub fault : IfErr result (λ fault. IsCommitFault fault (told before.store) (told after.store))

@@ -73,8 +73,8 @@ SpentIsStep =
 
 -- ---- execute
 
--- the statement's answer is the machine's, and its transaction is what the machine leaves; or memory ran out and it is as
--- before
+-- the statement's answer is the machine's, and its transaction is what the machine leaves; or memory ran out and it
+-- is as before
 abbrev pub IsAnswered : Machine → Opened → Request → Result model.Answer Refusal → Opened → Type 0
 IsAnswered m t r (Ok answer) now =
     ((happens m (execute t.begun.number r)).answer ≡ rows answer.rows)
@@ -94,7 +94,8 @@ ExecuteIsStep =
     (m : Machine) (t now : Opened) (r : Request) (answer : Result model.Answer Refusal)
     → IsUnderway m t → Executed t r answer now → Executes m t r answer now
 
--- a transaction that may be committed on a tail may be committed there after a statement, whatever the statement returned
+-- a transaction that may be committed on a tail may be committed there after a statement, whatever the statement
+-- returned
 abbrev pub ExecuteKeepsOpen : Type 0
 ExecuteKeepsOpen =
     (s : Standing) (t now : Opened) (r : Request) (answer : Result model.Answer Refusal)

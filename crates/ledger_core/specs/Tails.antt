@@ -1,5 +1,6 @@
--- The tail of a journal: the blocks that its store has taken, the numbers that its transactions have, and what stands after
--- the lines of the blocks in the store. A store keeps the journal as the lines of its blocks, one after another.
+-- The tail of a journal: the blocks that its store has taken, the numbers that its transactions have, and what stands
+-- after the lines of the blocks in the store. A store keeps the journal as the lines of its blocks, one after
+-- another.
 use Rattle.std.specs.Prelude.{◌≡◌, ◌⊎◌, ℕ, Bool, false, refl, List, [], ◌∷◌, ◌++◌, length, take, Option, Some, None, IfSome, option_map, if◌then◌else◌}
 use Rattle.std.specs.Coded.{Coded, code_by, coded×, coded_ℕ, coded_bool, coded_list}
 use Rattle.ledger_model.specs.declared.block.Block.{Block}
@@ -8,8 +9,8 @@ use Rattle.ledger_model.specs.Journal.{line, journal_bytes}
 use Rattle.laws_history.specs.Standings.{Standing, IsStanding}
 use Rattle.laws_history.specs.Stores.{HoldsBehind}
 
--- the store and the clock, what the ledger stands for between two transactions, and whether the store is to be cut to the
--- lines of the blocks before it takes another one
+-- the store and the clock, what the ledger stands for between two transactions, and whether the store is to be cut to
+-- the lines of the blocks before it takes another one
 pub record TailHeld (S C : Type 0) : Type 0 where
   pub store : S
   pub clock : C
@@ -24,7 +25,8 @@ standing_code =
 abbrev pub tail_code : {S C : Type 0} → Coded S → Coded C → Coded (TailHeld S C)
 tail_code {S} {C} store clock =
     code_by (S × (C × (Standing × Bool))) (coded× store (coded× clock (coded× standing_code coded_bool)))
-    (λ t. (t.store, (t.clock, (t.standing, t.marked)))) (λ p. record { store = p.0; clock = p.1.0; standing = p.1.1.0; marked = p.1.1.1 }) (λ _. refl)
+    (λ t. (t.store, (t.clock, (t.standing, t.marked))))
+    (λ p. record { store = p.0; clock = p.1.0; standing = p.1.1.0; marked = p.1.1.1 }) (λ _. refl)
 
 -- one block more
 abbrev pub joined : Standing → Block → Standing
@@ -32,7 +34,8 @@ joined s b = record s { blocks = s.blocks ++ b ∷ [] }
 
 -- After these bytes the store holds nothing, or a rest that is marked to be cut.
 abbrev pub HoldsMarked : List ℕ → Bool → Option (List ℕ) → Type 0
-HoldsMarked journal marked held = IfSome held (λ bytes. (rest : List ℕ) × (bytes ≡ journal ++ rest) × (marked ≡ false → rest ≡ []))
+HoldsMarked journal marked held =
+    IfSome held (λ bytes. (rest : List ℕ) × (bytes ≡ journal ++ rest) × (marked ≡ false → rest ≡ []))
 
 -- what a tail keeps true of the bytes of its store, its standing, its mark and the length of the lines of its blocks
 pub record IsTail (held : Option (List ℕ)) (standing : Standing) (marked : Bool) (size : ℕ) : Type 0 where
@@ -50,9 +53,11 @@ MayBeCut before now size = (now ≡ before) ⊎ (now ≡ option_map (take size) 
 
 -- what is marked was cut and a part of the line was appended, perhaps none of it or all
 abbrev pub HoldsPart : Bool → ℕ → List ℕ → Option (List ℕ) → Option (List ℕ) → Type 0
-HoldsPart marked size line before now = (kept : ℕ) × (now ≡ option_map (λ held. cleared marked size held ++ take kept line) before)
+HoldsPart marked size line before now =
+    (kept : ℕ) × (now ≡ option_map (λ held. cleared marked size held ++ take kept line) before)
 
--- the bytes are as before, or a part of the block's line stands after the lines of the blocks, perhaps none of it or all
+-- the bytes are as before, or a part of the block's line stands after the lines of the blocks, perhaps none of it or
+-- all
 abbrev pub MayHoldPart : List Block → Block → Option (List ℕ) → Option (List ℕ) → Type 0
 MayHoldPart blocks b before now = (now ≡ before) ⊎ ((kept : ℕ) × HoldsBehind blocks (take kept (line b)) now)
 

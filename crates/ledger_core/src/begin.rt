@@ -10,7 +10,7 @@ use outside::JournalStore;
 use ql_types::Place;
 use std::alloc::Global;
 use thiserror::Error;
-use txn_core::{Txn, start_txn};
+use txn_core::{Drawn, Txn, start_txn};
 
 /// Why no transaction was begun.
 #[derive(Clone, Copy, Debug, PartialEq, Eq, Error)]
@@ -51,7 +51,11 @@ impl<S: JournalStore, C> Tail<S, C> {
         let base = self.share_version()?;
         let since = self.blocks().len();
         self.draw();
-        Ok(start_txn(alloc, base, since, self.mask, self.last, place))
+        let drawn = Drawn {
+            mask: self.mask,
+            number: self.last,
+        };
+        Ok(start_txn(alloc, base, since, drawn, place))
     }
 
     /// Draws the next number.

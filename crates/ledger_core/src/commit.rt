@@ -38,7 +38,8 @@ pub enum CommitFault {
     OutOfMemory,
 }
 
-/// Why a transaction wasn't committed. Contracts see the block that it was to become, if its line had come to the store.
+/// Why a transaction wasn't committed. Contracts see the block that it was to become, if its line had come to the
+/// store.
 #[derive(Drop)]
 pub struct Uncommitted {
     pub fault: CommitFault,

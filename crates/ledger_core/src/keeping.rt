@@ -31,8 +31,8 @@ impl From<OutOfMemory> for SettleFault {
     }
 }
 
-/// The keeper of a journal: its store, the length of the journal's lines, in bytes, and whether what stands after them is
-/// to be cut.
+/// The keeper of a journal: its store, the length of the journal's lines, in bytes, and whether what stands after
+/// them is to be cut.
 #[derive(Drop)]
 pub(crate) struct Keeper<S> {
     pub(crate) store: S,

@@ -6,13 +6,11 @@ ghost use Rattle.ledger_model.specs.Legal.{last_hash};
 ghost use Rattle.ledger_model.specs.Making.{revision_of, time_behind};
 ghost use Rattle.ledger_core.specs.NextBlock.{next_block};
 
-use block_form::{seal_revision, seal_with_value, strand_hash};
+use block_form::{Valued, seal_revision, seal_with_value, strand_hash};
 use containers::Sequence;
-use ion_values::{IonTime, OutOfMemory, Text, Value, Values};
+use ion_values::{IonTime, OutOfMemory, Text, Value};
 use journal_text::line_of_value;
-use ledger_model::{
-    Block, Draft, Drafts, Header, Info, Metadata, Revision, Revisions, TableIds, Told,
-};
+use ledger_model::{Block, Draft, Drafts, Header, Info, Metadata, Revision, TableIds, Told};
 use ql_types::{BlockAddress, Hash32, IdMask, StrandId, TxId, id_raw};
 use std::alloc::Global;
 use txn_core::{Finished, Txn};
@@ -59,7 +57,7 @@ pub(crate) fn into_block(
         revisions: count,
     };
     let tables = tables_of(alloc, drafts.as_slice())?;
-    let Valued { revisions, values } = revisions_of(alloc, &header, drafts)?;
+    let valued = revisions_of(alloc, &header, drafts)?;
     let previous = last_hash(alloc, mask, before)?;
     let info = Info {
         place,
@@ -67,7 +65,7 @@ pub(crate) fn into_block(
         schema,
         tables,
     };
-    let (block, value) = seal_with_value(alloc, previous, header, info, revisions, values)?;
+    let (block, value) = seal_with_value(alloc, previous, header, info, valued)?;
     let text = line_of_value(alloc, &value)?;
     Ok(Made { block, text })
 }
@@ -113,13 +111,6 @@ fn tables_of(alloc: Global, drafts: &[Draft]) -> Result<TableIds, OutOfMemory>
         tables.push(draft.table)?;
     }
     Ok(tables)
-}
-
-/// Revisions, with the value of each.
-#[derive(Drop)]
-struct Valued {
-    revisions: Revisions,
-    values: Values,
 }
 
 /// The revisions that the drafts become in the block of this header, in order.

@@ -1,5 +1,5 @@
--- What a block touches, as the state behind all blocks tells it: there stand the names of all tables and all revisions of
--- a document, the one before the block's own among them.
+-- What a block touches, as the state behind all blocks tells it: there stand the names of all tables and all
+-- revisions of a document, the one before the block's own among them.
 use Rattle.std.specs.Prelude.{ℕ, ◌-◌, ◌==◌, ◌&&◌, ◌||◌, Bool, false, List, slice_get, Option, Some, None, option_map, if◌then◌else◌}
 use Rattle.std.specs.List.{list_any}
 use Rattle.std.specs.Str.{bytes_eq}
@@ -42,7 +42,8 @@ change_touches tables (item.IndexValue table field k) c = false
 -- the document's revision of the version before
 abbrev pub earlier : State → ℕ → ℕ → Option Revision
 earlier now id version =
-    if version == 0 then None else option_map (λ r. r.revision) (slice_get (revisions_of now.revisions id) (version - 1))
+    if version == 0 then None else option_map (λ r. r.revision)
+    (slice_get (revisions_of now.revisions id) (version - 1))
 
 abbrev pub content_of : Option Revision → Option Value
 content_of None = None
@@ -51,7 +52,8 @@ content_of (Some r) = kept r.content
 -- its document had the key before it, or has it with it
 abbrev pub changes_key : State → List ℕ → Key → Revision → Bool
 changes_key now field k r =
-    has_key_in field k (content_of (earlier now r.metadata.id.raw r.metadata.version)) || has_key_in field k (kept r.content)
+    has_key_in field k (content_of (earlier now r.metadata.id.raw r.metadata.version))
+    || has_key_in field k (kept r.content)
 
 abbrev pub revision_touches : State → Item → Recorded → Bool
 revision_touches now (item.TableName name) r = false
@@ -63,4 +65,5 @@ revision_touches now (item.IndexValue table field k) r = is_of table r && change
 -- ---- a block
 
 abbrev pub block_touches : State → Block → Item → Bool
-block_touches now b i = list_any (change_touches now.tables i) b.info.schema || list_any (revision_touches now i) (revisions_in b)
+block_touches now b i =
+    list_any (change_touches now.tables i) b.info.schema || list_any (revision_touches now i) (revisions_in b)

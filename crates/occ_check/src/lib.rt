@@ -21,8 +21,8 @@ use versions::Versions;
 
 /// The first block from `since` on that touches an item of the footprint, or None if there is none.
 ///
-/// The first such item comes with it. `now` stands for all blocks of the undamaged journal. Each block from `since` on is
-/// looked at once for each item; what stood before them is looked up.
+/// The first such item comes with it. `now` stands for all blocks of the undamaged journal. Each block from `since`
+/// on is looked at once for each item; what stood before them is looked up.
 pub fn first_conflict(
     alloc: Global,
     footprint: &[Item],

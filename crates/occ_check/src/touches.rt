@@ -90,7 +90,8 @@ fn revisions_touch(
     revisions: &[Revision],
     item: &Item,
 ) -> Result<bool, OutOfMemory>
-    ensures { IfOk result (λ touch. touch ≡ list_any (behind.revision_touches now.now item.now) (recorded_in tables.now revisions.now)) }
+    ensures { IfOk result (λ touch. touch ≡ list_any (behind.revision_touches now.now item.now)
+        (recorded_in tables.now revisions.now)) }
 {
     'revisions: for (at, revision) in revisions.iter().enumerate() {
         let Some(table) = tables.get(at) else {
@@ -110,7 +111,8 @@ fn revision_touches(
     revision: &Revision,
     item: &Item,
 ) -> Result<bool, OutOfMemory>
-    ensures { IfOk result (λ touches. touches ≡ behind.revision_touches now.now item.now (record { table = own; revision = revision.now })) }
+    ensures { IfOk result (λ touches. touches ≡ behind.revision_touches now.now item.now
+        (record { table = own; revision = revision.now })) }
 {
     match item {
         Item::TableName { .. } | Item::TableList => Ok(false),

@@ -3,7 +3,8 @@ use Rattle.std.specs.Prelude.{◌≡◌, ℕ, ◌<◌, ◌≤◌, Bool, true, fa
 use Rattle.outside.specs.declared.traits.OutFault.{OutFault}
 use Rattle.outside.specs.declared.traits.OutFault.TheVariants.{Failed, OutOfMemory}
 
--- The count of faults never falls. A call that succeeds or wants memory leaves it, and one that answers `Failed` raised it.
+-- The count of faults never falls. A call that succeeds or wants memory leaves it, and one that answers `Failed`
+-- raised it.
 pub record HasCause {T : Type 0} (before now : ℕ) (result : Result T OutFault) : Type 0 where
   pub later : before ≤ now
   pub fine : IsOk result → now ≡ before

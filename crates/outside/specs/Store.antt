@@ -5,8 +5,8 @@ use Rattle.outside.specs.declared.traits.OutFault.TheVariants.{Failed, OutOfMemo
 
 -- ---- the content
 
--- One moment of a store: the length at the last sync, lowered to the size of each cut below it that was asked for since, and
--- the byte lists that were held since that sync, those within an append or a cut included.
+-- One moment of a store: the length at the last sync, lowered to the size of each cut below it that was asked for
+-- since, and the byte lists that were held since that sync, those within an append or a cut included.
 pub record Moment : Type 0 where
   pub synced : ℕ
   pub since : List (List ℕ)

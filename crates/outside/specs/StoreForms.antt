@@ -70,7 +70,8 @@ unless_due store answer = if is_some (due store.plan) then Err Failed else Ok an
 
 -- the store after a call that leaves this content
 abbrev pub called : StoreHeld → Content → StoreHeld
-called store content = record { content = content; last_failed = is_some (due store.plan); plan = after_call store.plan }
+called store content =
+    record { content = content; last_failed = is_some (due store.plan); plan = after_call store.plan }
 
 -- the store after a call that wanted memory
 abbrev pub unserved : StoreHeld → StoreHeld

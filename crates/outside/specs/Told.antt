@@ -12,7 +12,8 @@ pub record SinkTold : Type 0 where
   pub written : Option (List ℕ)
   pub faults : ℕ
 
--- the content, where the store tells it, whether the last call by `&mut` answered `Failed`, and how often the store failed
+-- the content, where the store tells it, whether the last call by `&mut` answered `Failed`, and how often the store
+-- failed
 pub record StoreTold : Type 0 where
   pub content : Option Content
   pub last_failed : Bool

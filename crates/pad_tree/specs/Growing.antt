@@ -80,5 +80,7 @@ HasRoom levels = (level : ℕ) (d : KeptLevel) → level < length levels → 1 �
 -- the same nodes and pads, whatever room there is
 pub record SameNodes (a b : List KeptLevel) : Type 0 where
   pub long : length a ≡ length b
-  pub nodes : (level : ℕ) (d : KeptLevel) → level < length a → (slice_index_or a level d).nodes ≡ (slice_index_or b level d).nodes
-  pub pads : (level : ℕ) (d : KeptLevel) → level < length a → (slice_index_or a level d).pad ≡ (slice_index_or b level d).pad
+  pub nodes : (level : ℕ) (d : KeptLevel) → level < length a →
+      (slice_index_or a level d).nodes ≡ (slice_index_or b level d).nodes
+  pub pads : (level : ℕ) (d : KeptLevel) → level < length a →
+      (slice_index_or a level d).pad ≡ (slice_index_or b level d).pad

@@ -13,7 +13,8 @@ sibling_of place = if place % 2 == 0 then place + 1 else place - 1
 -- the siblings on the way up from a place of a level, for each level on the way
 unfoldable pub siblings : Hash32 → List Hash32 → ℕ → ℕ → ℕ → List Hash32
 siblings pad leaves level zero place = []
-siblings pad leaves level (suc levels) place = node pad leaves level (sibling_of place) ∷ siblings pad leaves (suc level) levels (place / 2)
+siblings pad leaves level (suc levels) place =
+    node pad leaves level (sibling_of place) ∷ siblings pad leaves (suc level) levels (place / 2)
 
 -- the siblings from a leaf up to the root, the pad standing at the places without a leaf
 abbrev pub path_over : Hash32 → List Hash32 → ℕ → List Hash32

@@ -15,8 +15,8 @@ use std::marker::Model;
 /// How many levels a tree of 2^32 leaves has.
 const LEVELS: usize = 33;
 
-/// The padded tree over a list of at most 2^32 leaves, to which leaves are added at the end. Contracts see it as `leaves`,
-/// and beside them `spare`, the number of leaves for which there is room already.
+/// The padded tree over a list of at most 2^32 leaves, to which leaves are added at the end. Contracts see it as
+/// `leaves`, and beside them `spare`, the number of leaves for which there is room already.
 #[derive(Drop)]
 pub struct Grow {
     levels: Vec<Level>,
@@ -44,8 +44,8 @@ impl Grow {
         Ok(grow)
     }
 
-    /// The tree over these leaves, made level by level. It hashes a pair for each node above the leaves, and beside them
-    /// the pads of the levels, which aren't counted.
+    /// The tree over these leaves, made level by level. It hashes a pair for each node above the leaves, and beside
+    /// them the pads of the levels, which aren't counted.
     #[tactic(auto, using(crate::proofs::AtOnce::few_nodes))]
     pub fn of(alloc: Global, leaves: Hashes, steps: &mut Steps) -> Result<Grow, OutOfMemory>
         requires { length leaves ≤ 2 ^ 32 }
@@ -103,8 +103,8 @@ impl Grow {
         root_in(&self.levels)
     }
 
-    /// The path of the leaf at place `i`, counted from 0: the siblings on the way from the leaf up to the root, the lowest
-    /// first. It hashes nothing.
+    /// The path of the leaf at place `i`, counted from 0: the siblings on the way from the leaf up to the root, the
+    /// lowest first. It hashes nothing.
     pub fn path(&self, alloc: Global, i: u64) -> Result<Hashes, OutOfMemory>
         requires { i < length self.now.leaves }
         ensures siblings { IfOk result (λ path. path ≡ path_of self.now.leaves i) }

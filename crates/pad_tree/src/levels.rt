@@ -9,8 +9,8 @@ use ql_types::{Hash32, Steps};
 use std::alloc::Global;
 use std::marker::Model;
 
-/// The nodes of one level that have leaves below them, in order, and the hash at each other place. Contracts see them as
-/// `nodes` and `pad`, and beside them `spare`, the number of nodes for which there is room already.
+/// The nodes of one level that have leaves below them, in order, and the hash at each other place. Contracts see them
+/// as `nodes` and `pad`, and beside them `spare`, the number of nodes for which there is room already.
 #[derive(Drop)]
 pub(crate) struct Level {
     nodes: Vec<Hash32>,

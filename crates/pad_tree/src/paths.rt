@@ -48,9 +48,9 @@ pub fn fold_hashes(start: &Hash32, list: &[Hash32]) -> Hash32
         .fold(*start, |so_far, next| dot_full(&so_far, next))
 }
 
-/// What a leaf comes to with the hashes of its path in turn: the root of the tree, where the path is that of leaf `i` of
-/// `n` leaves. None comes exactly where there is no leaf `i` among `n`, where `n` is above 2^32, or where the path hasn't
-/// a hash for each level of a tree of `n` leaves.
+/// What a leaf comes to with the hashes of its path in turn: the root of the tree, where the path is that of leaf `i`
+/// of `n` leaves. None comes exactly where there is no leaf `i` among `n`, where `n` is above 2^32, or where the path
+/// hasn't a hash for each level of a tree of `n` leaves.
 pub fn fold_path(leaf: Hash32, i: u64, n: u64, path: &[Hash32]) -> Option<Hash32>
     ensures { SomeIff result (FitsTree i n path.now) (folded leaf path.now) }
 {

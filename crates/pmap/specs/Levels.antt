@@ -52,13 +52,15 @@ module _ {K V : Type 0} (order : K → K → Ordering) where
     pub levels : AreLevels (rows_of upper)
 
   -- the leaf with others in the place of the key's pair, in one or two rows or none
-  pub record IsChangedLeaf (key : K) (put : List (K × V)) (leaf : List (K × V)) (new : List (K × List (K × V))) : Type 0 where
+  pub record IsChangedLeaf (key : K) (put : List (K × V)) (leaf : List (K × V))
+      (new : List (K × List (K × V))) : Type 0 where
     pub pairs : pairs_in new ≡ with_put order key put leaf
     pub few : length new ≤ 2
     pub sizes : AreRows new
 
   -- the same of the leaves of a middle row
-  pub record IsChangedMiddle (key : K) (put : List (K × V)) (middle : List (K × List (K × V))) (new : List (K × List (K × List (K × V)))) : Type 0 where
+  pub record IsChangedMiddle (key : K) (put : List (K × V)) (middle : List (K × List (K × V)))
+      (new : List (K × List (K × List (K × V)))) : Type 0 where
     pub pairs : pairs_of new ≡ with_put order key put (pairs_in middle)
     pub few : length new ≤ 2
     pub middles : AreRows new

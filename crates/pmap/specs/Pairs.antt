@@ -31,7 +31,8 @@ module _ {K X : Type 0} (order : K → K → Ordering) where
   cut_at key [] = ([], None, [])
   cut_at key (pair ∷ pairs) =
       let rest = cut_at key pairs in
-      match_ordering (order key pair.0) ([], None, pair ∷ pairs) ([], Some pair.1, pairs) (pair ∷ rest.0, rest.1, rest.2)
+      match_ordering (order key pair.0) ([], None, pair ∷ pairs) ([], Some pair.1, pairs)
+      (pair ∷ rest.0, rest.1, rest.2)
 
   -- the pairs with others in the place of the key's
   abbrev pub with_put : K → List (K × X) → List (K × X) → List (K × X)

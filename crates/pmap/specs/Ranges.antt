@@ -21,8 +21,10 @@ module _ {K V : Type 0} where
     pub lower : Each (λ row. AreRows row.1) upper
 
   -- the same pairs, with a leaf in front where there are any
-  pub record IsFilled (leaf : List (K × V)) (middle : List (K × List (K × V))) (upper : List (K × List (K × List (K × V))))
-      (new_leaf : List (K × V)) (new_middle : List (K × List (K × V))) (new_upper : List (K × List (K × List (K × V)))) : Type 0 where
+  pub record IsFilled (leaf : List (K × V)) (middle : List (K × List (K × V)))
+      (upper : List (K × List (K × List (K × V))))
+      (new_leaf : List (K × V)) (new_middle : List (K × List (K × V)))
+      (new_upper : List (K × List (K × List (K × V)))) : Type 0 where
     pub same : left_of new_leaf new_middle new_upper ≡ left_of leaf middle upper
     pub behind : AreBehind new_middle new_upper
     pub ends : new_leaf ≡ [] → left_of leaf middle upper ≡ []
@@ -38,7 +40,8 @@ module _ {K V : Type 0} (order : K → K → Ordering) where
   up_to high pairs = filter (λ pair. is_within order high pair.0) pairs
 
   -- what an iterator over pairs keeps
-  pub record IsLeft (leaf : List (K × V)) (middle : List (K × List (K × V))) (upper : List (K × List (K × List (K × V)))) : Type 0 where
+  pub record IsLeft (leaf : List (K × V)) (middle : List (K × List (K × V)))
+      (upper : List (K × List (K × List (K × V)))) : Type 0 where
     pub behind : AreBehind middle upper
     pub ascending : Ascends order (left_of leaf middle upper)
 

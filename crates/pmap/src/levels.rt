@@ -27,7 +27,8 @@ fn value_in<'a, K: Keyed, V>(
 
 /// The value at a place where there is one.
 fn value_at<'a, K, V>(leaf: &'a [Shared<Entry<K, V>>], place: Place) -> Option<&'a V>
-    ensures { option_copied result ≡ (if place.is_there then option_map (λ pair. pair.1) (slice_get leaf.now place.at) else None) }
+    ensures { option_copied result ≡ (if place.is_there
+        then option_map (λ pair. pair.1) (slice_get leaf.now place.at) else None) }
 {
     if !place.is_there {
         return None;
@@ -94,8 +95,8 @@ fn guided<K: Drop, X: Drop>(
     Ok(entry)
 }
 
-/// Where a row is parted that is too long: behind as many members as a row has at most where it is the last one, so that
-/// keys that only grow leave full rows behind them, and in the middle otherwise.
+/// Where a row is parted that is too long: behind as many members as a row has at most where it is the last one, so
+/// that keys that only grow leave full rows behind them, and in the middle otherwise.
 fn cut_in(len: usize, is_last: bool) -> usize
     requires long { 64 < len }
     requires short { len ≤ 128 }

@@ -20,8 +20,8 @@ use std::alloc::Global;
 use std::marker::Model;
 use std::sync::Arc;
 
-/// One version of an ordered map, which contracts see as its pairs with ascending keys. It shares with other versions the
-/// rows that are the same.
+/// One version of an ordered map, which contracts see as its pairs with ascending keys. It shares with other versions
+/// the rows that are the same.
 #[derive(Drop)]
 pub struct PMap<K: Keyed, V> {
     alloc: Global,
@@ -62,11 +62,12 @@ impl<K: Keyed, V> PMap<K, V> {
         self.len
     }
 
-    /// The key's value, or None where no pair has the key. It counts its comparisons: at most three times as many as the
-    /// number of pairs and one has binary digits. It takes no memory.
+    /// The key's value, or None where no pair has the key. It counts its comparisons: at most three times as many as
+    /// the number of pairs and one has binary digits. It takes no memory.
     pub fn get(&self, key: &K, steps: &mut Steps) -> Option<&V>
         ensures value { option_copied result ≡ lookup (is_at (K.order key.now)) self.now }
-        ensures counted { (digits : ℕ) → length self.now + 1 < 2 ^ digits → steps.new.taken ≤ steps.old.taken + 3 * digits }
+        ensures counted { (digits : ℕ) → length self.now + 1 < 2 ^ digits →
+            steps.new.taken ≤ steps.old.taken + 3 * digits }
     {
         value_of(self.upper_rows(), key, steps)
     }
@@ -142,7 +143,8 @@ impl<K: Keyed + Drop, V: Drop> PMap<K, V> {
 
     /// The number of pairs with one of the key as well.
     fn len_with(&self, key: &K) -> Result<u64, OutOfMemory>
-        ensures { IfOk result (λ len. len + (if is_some (cut_at K.order key.now self.now).1 then 1 else 0) ≡ length self.now + 1) }
+        ensures { IfOk result (λ len. len + (if is_some (cut_at K.order key.now self.now).1 then 1 else 0)
+            ≡ length self.now + 1) }
     {
         if self.has(key) {
             return Ok(self.len());
@@ -159,7 +161,8 @@ impl<K: Keyed + Drop, V: Drop> PMap<K, V> {
         len: u64,
     ) -> Result<PMap<K, V>, OutOfMemory>
         requires put { IsPut key.now put.now }
-        requires counted { len + (if is_some (cut_at K.order key.now self.now).1 then 1 else 0) ≡ length self.now + length put.now }
+        requires counted { len + (if is_some (cut_at K.order key.now self.now).1 then 1 else 0)
+            ≡ length self.now + length put.now }
         ensures { IfOk result (λ new. new ≡ with_put K.order key.now put.now self.now) }
     {
         let rows = rows_with(self.alloc, self.upper_rows(), key, put)?;

@@ -165,7 +165,8 @@ impl<'a, K: Keyed, V> Range<'a, K, V> {
     /// The pairs of these rows up to the high key, if there is one.
     pub(crate) fn new(left: Left<'a, K, V>, high: Option<&'a K>) -> Range<'a, K, V>
         requires { IsLeft K.order left.leaf.now left.middle.now left.upper.now }
-        ensures pairs { result ≡ up_to K.order (option_copied high.entry) (left_of left.entry.leaf.now left.entry.middle.now left.entry.upper.now) }
+        ensures pairs { result ≡ up_to K.order (option_copied high.entry)
+            (left_of left.entry.leaf.now left.entry.middle.now left.entry.upper.now) }
         ensures ascending { Ascends K.order result }
     {
         let Left {

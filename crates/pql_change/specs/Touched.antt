@@ -16,7 +16,8 @@ target_of (alteration.Remove target) = target.now
 
 abbrev pub alteration_of : Context → Alteration → changes.Alteration
 alteration_of c (alteration.Set s) = changes.setting c s.now
-alteration_of c (alteration.Insert target value at) = record { target = target.now; made = changes.insert_by c target.now value.now at.now }
+alteration_of c (alteration.Insert target value at) =
+    record { target = target.now; made = changes.insert_by c target.now value.now at.now }
 alteration_of c (alteration.Remove target) = record { target = target.now; made = changes.remove_by c target.now }
 
 abbrev pub document_of : DocId → Value → Row

@@ -9,7 +9,7 @@ by_length passes (c ∷ cs) = by_length passes cs ++ passes (c ∷ cs) ∷ []
 abbrev pub takes : ℕ → ℕ → Bool
 takes p c = (p == 95) || (p == c)
 
--- whether the characters from c on fit the pattern from p on: here, whether they fit the pattern behind p; behind, whether those
--- behind c do; last, whether those behind c fit the pattern from p on
+-- whether the characters from c on fit the pattern from p on: here, whether they fit the pattern behind p; behind,
+-- whether those behind c do; last, whether those behind c fit the pattern from p on
 abbrev pub longer : ℕ → ℕ → Bool → Bool → Bool → Bool
 longer p c here behind last = if p == 37 then here || last else takes p c && behind

@@ -34,10 +34,12 @@ operator_in _ = λ _. None
 
 -- whether an expression in brackets begins with the token
 abbrev pub begins_bracket : Token → Bool
-begins_bracket t = is_symbol (codes "(") t || is_symbol (codes "[") t || is_symbol (codes "<<") t || is_symbol (codes "{") t
+begins_bracket t =
+    is_symbol (codes "(") t || is_symbol (codes "[") t || is_symbol (codes "<<") t || is_symbol (codes "{") t
 
 -- whether a call begins with it
 abbrev pub begins_call : Token → Bool
 begins_call t =
-    is_word (codes "COALESCE") t || is_word (codes "SIZE") t || is_word (codes "CHAR_LENGTH") t || is_word (codes "COUNT") t || is_word (codes "SUM") t
+    is_word (codes "COALESCE") t || is_word (codes "SIZE") t || is_word (codes "CHAR_LENGTH") t
+    || is_word (codes "COUNT") t || is_word (codes "SUM") t
     || is_word (codes "MIN") t || is_word (codes "MAX") t

@@ -16,7 +16,8 @@ use Rattle.pql_expr_parser.specs.declared.primaries.Function.TheVariants as func
 abbrev pub step : ℕ → Production (Tall Expr) → Production (Option (Tall PathStep))
 step below index =
     choose (is_symbol (codes ".")) (past (any_name >>= (λ text. give (Some (tall (step'.Field text) 0)))))
-    (choose (is_symbol (codes "[")) (deeper below (past (index >>= (λ x. symbol "]" (give (Some (tall (step'.Index x.tree) x.height)))))))
+    (choose (is_symbol (codes "["))
+    (deeper below (past (index >>= (λ x. symbol "]" (give (Some (tall (step'.Index x.tree) x.height)))))))
     (give None))
 
 -- parts up to the closing bracket that is spelled so, or none

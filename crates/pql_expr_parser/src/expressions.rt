@@ -116,7 +116,8 @@ fn chain(
     below: usize,
 ) -> Result<MeasuredExpr, ParseAnswer>
     requires { below < 64 }
-    ensures exact { GivesTall result parser.new (spec.chain below (operator_in operators) (layer_of operands below) (layer_of operands (below + 1)) (seen parser.old)) }
+    ensures exact { GivesTall result parser.new (spec.chain below (operator_in operators) (layer_of operands below)
+        (layer_of operands (below + 1)) (seen parser.old)) }
     ensures height { IfOk result (λ m. m.height ≤ below + 1) }
 {
     let mut left = read_layer(parser, operands, below + 1)?;

@@ -220,7 +220,11 @@ impl<'a> Parser<'a> {
 
     /// Sets a mark at this offset.
     pub fn mark_at(&mut self, at: usize, role: Role) -> Result<(), OutOfMemory>
-        ensures { OnOk result (seen self.new ≡ record { rest = self.old.rest.now; place = self.old.place; marks = self.old.marks ++ record { at = at; place = self.old.place; role = role } ∷ [] }) }
+        ensures { OnOk result (seen self.new ≡ record {
+          rest = self.old.rest.now;
+          place = self.old.place;
+          marks = self.old.marks ++ record { at = at; place = self.old.place; role = role } ∷ [];
+        }) }
     {
         self.marks.push(Mark {
             at,
@@ -231,7 +235,15 @@ impl<'a> Parser<'a> {
 
     /// Sets a mark at the token in front.
     pub fn mark(&mut self, role: Role) -> Result<(), OutOfMemory>
-        ensures { OnOk result (seen self.new ≡ record { rest = self.old.rest.now; place = self.old.place; marks = self.old.marks ++ record { at = (front (seen self.old)).at; place = self.old.place; role = role } ∷ [] }) }
+        ensures { OnOk result (seen self.new ≡ record {
+          rest = self.old.rest.now;
+          place = self.old.place;
+          marks = self.old.marks ++ record {
+            at = (front (seen self.old)).at;
+            place = self.old.place;
+            role = role;
+          } ∷ [];
+        }) }
     {
         self.mark_at(self.at(), role)
     }

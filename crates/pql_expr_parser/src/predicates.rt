@@ -247,7 +247,8 @@ fn upper_bound(
     requires below { below < 64 }
     requires left { left.height ≤ below }
     requires low { low.height ≤ below }
-    ensures exact { GivesTall result parser.new (closed.upper_bound below (tall_of left) (tall_of low) (seen parser.old)) }
+    ensures exact { GivesTall result parser.new (closed.upper_bound below (tall_of left) (tall_of low)
+        (seen parser.old)) }
     ensures height { IfOk result (λ m. m.height ≤ below + 1) }
 {
     let high = read_layer(parser, Layer::Concatenation, below)?;
@@ -262,7 +263,10 @@ fn is_in(
 ) -> Result<MeasuredExpr, OutOfMemory>
     requires left { left.height ≤ 64 }
     requires right { right.height ≤ 64 }
-    ensures { IfOk result (λ m. tall_of m ≡ record { tree = expr.IsIn left.tree right.tree; height = max left.height right.height + 1 }) }
+    ensures { IfOk result (λ m. tall_of m ≡ record {
+      tree = expr.IsIn left.tree right.tree;
+      height = max left.height right.height + 1;
+    }) }
 {
     let height = above(left.height, right.height);
     let tree = Expr::IsIn {
@@ -279,7 +283,10 @@ fn like(
 ) -> Result<MeasuredExpr, OutOfMemory>
     requires left { left.height ≤ 64 }
     requires right { right.height ≤ 64 }
-    ensures { IfOk result (λ m. tall_of m ≡ record { tree = expr.Like left.tree right.tree; height = max left.height right.height + 1 }) }
+    ensures { IfOk result (λ m. tall_of m ≡ record {
+      tree = expr.Like left.tree right.tree;
+      height = max left.height right.height + 1;
+    }) }
 {
     let height = above(left.height, right.height);
     let tree = Expr::Like {

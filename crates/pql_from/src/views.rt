@@ -88,21 +88,28 @@ pub fn table_rows<T: Tables>(alloc: Global, tables: &T, name: &Text) -> Result<R
     view_rows(alloc, tables, &table, &view_named(name))
 }
 
+/// The bounds of a history, as they are written.
+#[derive(Clone, Copy)]
+pub struct Bounds<'a> {
+    pub start: &'a Option<Expr>,
+    pub end: &'a Option<Expr>,
+}
+
 /// The rows of the table's history between the two moments.
 pub fn history_rows<T: Tables>(
     alloc: Global,
     tables: &T,
     table: &Text,
-    start: &Option<Expr>,
-    end: &Option<Expr>,
+    bounds: Bounds<'_>,
     params: &[Value],
 ) -> Result<Rows, OutOfMemory>
     ensures { IfOk result (λ rows. rows ≡ T.view_rows tables.now table.now
-        (view.History (from.bound_of params.now start.now) (from.bound_of params.now end.now))) }
+        (view.History (from.bound_of params.now bounds.entry.start.now)
+        (from.bound_of params.now bounds.entry.end.now))) }
 {
     let view = View::History {
-        start: bound_of(alloc, start, params)?,
-        end: bound_of(alloc, end, params)?,
+        start: bound_of(alloc, bounds.start, params)?,
+        end: bound_of(alloc, bounds.end, params)?,
     };
     view_rows(alloc, tables, table, &view)
 }

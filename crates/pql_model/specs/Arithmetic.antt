@@ -1,6 +1,6 @@
--- Arithmetic (PartiQL, arithmetic operators; the rules for results out of range are the ledger's own): MISSING where an operand is
--- MISSING, else NULL where one is null, else MISSING where one is no number, where the divisor is zero and where the result is out of
--- range. With a decimal on one side the int is a decimal of exponent 0.
+-- Arithmetic (PartiQL, arithmetic operators; the rules for results out of range are the ledger's own): MISSING where
+-- an operand is MISSING, else NULL where one is null, else MISSING where one is no number, where the divisor is zero
+-- and where the result is out of range. With a decimal on one side the int is a decimal of exponent 0.
 use Rattle.std.specs.Prelude.{ℤ, ◌+ℤ◌, ◌-ℤ◌, ◌*ℤ◌, pos, int_div, int_rem, if◌then◌else◌}
 use Rattle.std.specs.declared.option.Option.{Option}
 use Rattle.std.specs.declared.option.Option.TheVariants.{None, Some}

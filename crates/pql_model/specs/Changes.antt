@@ -1,5 +1,6 @@
--- What a change makes of a document (SET, INSERT and REMOVE as in Amazon QLDB's PartiQL; what changes nothing is the ledger's own).
--- Where a path leads nowhere, or the value is MISSING, the document stays as it is. A container that is rebuilt keeps its annotations.
+-- What a change makes of a document (SET, INSERT and REMOVE as in Amazon QLDB's PartiQL; what changes nothing is the
+-- ledger's own). Where a path leads nowhere, or the value is MISSING, the document stays as it is. A container that
+-- is rebuilt keeps its annotations.
 use Rattle.std.specs.Prelude.{ℕ, ℤ, pos, negsuc, not, nat_le, nat_lt, List, [], ◌∷◌, ◌++◌, map, length, slice_set, zero, suc, if◌then◌else◌}
 use Rattle.std.specs.List.{filter, insert, position_from, remove}
 use Rattle.std.specs.Option.{option_map, option_map_or}
@@ -174,7 +175,8 @@ set_by c target value = unless_missing (λ new. changed (set_member new) (select
 
 abbrev pub insert_by : Context → Path → Expr → Option Expr → Value → Value
 insert_by c target value at =
-    unless_missing (λ new. changed (inside (put_in_list new (option_map (λ e. meaning e c) at))) (selectors c target)) (meaning value c)
+    unless_missing (λ new. changed (inside (put_in_list new (option_map (λ e. meaning e c) at))) (selectors c target))
+    (meaning value c)
 
 abbrev pub remove_by : Context → Path → Value → Value
 remove_by c target = changed remove_member (selectors c target)

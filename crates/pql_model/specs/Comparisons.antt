@@ -1,5 +1,5 @@
--- Comparisons (PartiQL, comparison operators; which kinds compare, and how, is the ledger's own): MISSING where a side is MISSING,
--- else NULL where a side is null, else what the two values say.
+-- Comparisons (PartiQL, comparison operators; which kinds compare, and how, is the ledger's own): MISSING where a
+-- side is MISSING, else NULL where a side is null, else what the two values say.
 use Rattle.std.specs.Prelude.{Bool, true, false, ◌&&◌, ◌||◌, if◌then◌else◌}
 use Rattle.std.specs.Option.{option_map_or}
 use Rattle.std.specs.declared.cmp.Ordering.{Ordering}

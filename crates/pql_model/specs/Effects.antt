@@ -1,5 +1,6 @@
--- What a statement that writes does to documents (UPDATE, FROM with a change, and DELETE as in Amazon QLDB's PartiQL; in which order
--- documents are touched is the ledger's own). Its rows stand as they were before it; what it changes is the document as it is by then.
+-- What a statement that writes does to documents (UPDATE, FROM with a change, and DELETE as in Amazon QLDB's PartiQL;
+-- in which order documents are touched is the ledger's own). Its rows stand as they were before it; what it changes
+-- is the document as it is by then.
 use Rattle.std.specs.Prelude.{ℕ, ◌==◌, Bool, List, [], ◌∷◌, ◌++◌, map, codes, slice_get, if◌then◌else◌}
 use Rattle.std.specs.List.{list_any}
 use Rattle.std.specs.Option.{option_and_then, option_map, option_map_or}
@@ -52,9 +53,11 @@ touched_in scope touched (a ∷ more) = touched_in scope (touched_by scope touch
 
 abbrev pub touched_from : List Value → Change → List Row → List Combined → List Row
 touched_from params c touched [] = touched
-touched_from params c touched (scope ∷ rows) = touched_from params c (touched_in scope touched (alterations (under scope params) c)) rows
+touched_from params c touched (scope ∷ rows) =
+    touched_from params c (touched_in scope touched (alterations (under scope params) c)) rows
 
--- the documents that the rows name, each once, in order of its first row and, within one row, of its first change, with their changed content
+-- the documents that the rows name, each once, in order of its first row and, within one row, of its first change,
+-- with their changed content
 abbrev pub changed_documents : List Value → Change → List Combined → List Row
 changed_documents params c rows = touched_from params c [] rows
 

@@ -1,6 +1,7 @@
--- The grammar of expressions and paths (PartiQL Specification, expressions), layer by layer from the tightest binding to the
--- loosest: paths and brackets; unary -; * / %; + -; ||; comparisons, IN, LIKE, BETWEEN and IS; NOT; AND; OR. Expressions nest by
--- a bounded number of levels. Each layer is given how many levels may stand below its own, and the layers with a level less.
+-- The grammar of expressions and paths (PartiQL Specification, expressions), layer by layer from the tightest binding
+-- to the loosest: paths and brackets; unary -; * / %; + -; ||; comparisons, IN, LIKE, BETWEEN and IS; NOT; AND; OR.
+-- Expressions nest by a bounded number of levels. Each layer is given how many levels may stand below its own, and
+-- the layers with a level less.
 use Prim.Native.String.{String}
 use Rattle.std.specs.Prelude.{ℕ, zero, suc, ◌+◌, ◌||◌, max, Bool, true, false, nat_le, List, [], ◌∷◌, ◌++◌, length, codes, Option, Some, None, is_some, if◌then◌else◌}
 use Rattle.std.specs.Str.{str_eq_ignore_ascii_case}
@@ -96,9 +97,13 @@ path_of first steps = record { first = first; steps = steps }
 abbrev pub steps : ℕ → ℕ → Production (Tall Expr) → Tall (List PathStep) → Production (Tall (List PathStep))
 steps zero below index so_far = give so_far
 steps (suc more) below index so_far =
-    let then_step = λ (s : PathStep) (height : ℕ). steps more below index (tall (so_far.tree ++ s ∷ []) (max so_far.height height)) in
-    choose (is_symbol (codes ".")) (past (λ r. by_name (λ text. past (then_step (step.Field text) 0)) (any_name_of (token_of r)) r))
-    (choose (is_symbol (codes "[")) (deeper below (past (index >>= (λ x. symbol "]" (then_step (step.Index x.tree) x.height)))))
+    let then_step =
+    λ (s : PathStep) (height : ℕ). steps more below index
+    (tall (so_far.tree ++ s ∷ []) (max so_far.height height)) in
+    choose (is_symbol (codes ".")) (past (λ r. by_name (λ text. past (then_step (step.Field text) 0))
+    (any_name_of (token_of r)) r))
+    (choose (is_symbol (codes "["))
+    (deeper below (past (index >>= (λ x. symbol "]" (then_step (step.Index x.tree) x.height)))))
     (give so_far))
 
 -- a path behind its first name
@@ -127,7 +132,8 @@ count inner =
 
 abbrev pub member_named : ℕ → Layers → Token → Production (Tall Member)
 member_named below inner (token.String text) =
-    deeper below (past (symbol ":" (inner.whole >>= (λ x. give (tall (record { name = text; value = x.tree }) x.height)))))
+    deeper below
+    (past (symbol ":" (inner.whole >>= (λ x. give (tall (record { name = text; value = x.tree }) x.height)))))
 member_named below inner _ = refuse kind.Unexpected
 
 abbrev pub member : ℕ → Layers → Production (Tall Member)
@@ -136,7 +142,8 @@ member below inner r = member_named below inner (token_of r) r
 -- a path in an expression
 abbrev pub named : ℕ → Layers → Production (Tall Expr)
 named below inner =
-    with_name (λ first. marked (role.Name first) (past (path_from below inner.whole first >>= (λ p. give (above expr.Path p)))))
+    with_name (λ first. marked (role.Name first) (past (path_from below inner.whole first
+    >>= (λ p. give (above expr.Path p)))))
 
 -- Aggregates have a mark at their word.
 abbrev pub aggregate : ℕ → Layers → Production (Tall Expr)
@@ -208,13 +215,15 @@ abbrev pub operated : ℕ → Tall Expr → (Operator → Production (Tall Expr)
 operated below x next None = give x
 operated below x next (Some o) = if nat_le x.height below then past (next o) else refuse kind.TooDeep
 
--- Operators of one layer behind the operand x, which group to the left. Each is a level, so there is a bound on their number.
+-- Operators of one layer behind the operand x, which group to the left. Each is a level, so there is a bound on their
+-- number.
 abbrev pub operators : ℕ → ℕ → (Token → Option Operator) → Production (Tall Expr) → Tall Expr → Production (Tall Expr)
 operators zero below which right x r = give x r
 operators (suc more) below which right x r =
     operated below x (λ o. right >>= (λ y. operators more below which right (binary o x y))) (which (token_of r)) r
 
-abbrev pub chain : ℕ → (Token → Option Operator) → Production (Tall Expr) → Production (Tall Expr) → Production (Tall Expr)
+abbrev pub chain : ℕ → (Token → Option Operator) → Production (Tall Expr) → Production (Tall Expr) →
+    Production (Tall Expr)
 chain below which right left = left >>= operators (below + 1) below which right
 
 -- ---- comparisons, IN, LIKE, BETWEEN and IS, one of which may stand behind the operand x
@@ -229,12 +238,16 @@ between x low high = tall (expr.Between x.tree low.tree high.tree) (max x.height
 -- IN, LIKE or BETWEEN
 abbrev pub matched : Layers → Tall Expr → Production (Tall Expr)
 matched inner x =
-    choose (is_word (codes "IN")) (past (inner.concatenation >>= (λ y. give (tall (expr.IsIn x.tree y.tree) (max x.height y.height + 1)))))
-    (choose (is_word (codes "LIKE")) (past (inner.concatenation >>= (λ y. give (tall (expr.Like x.tree y.tree) (max x.height y.height + 1)))))
-    (word "BETWEEN" (inner.concatenation >>= (λ low. word "AND" (inner.concatenation >>= (λ high. give (between x low high)))))))
+    choose (is_word (codes "IN")) (past (inner.concatenation
+    >>= (λ y. give (tall (expr.IsIn x.tree y.tree) (max x.height y.height + 1)))))
+    (choose (is_word (codes "LIKE")) (past (inner.concatenation
+    >>= (λ y. give (tall (expr.Like x.tree y.tree) (max x.height y.height + 1)))))
+    (word "BETWEEN" (inner.concatenation >>= (λ low.
+    word "AND" (inner.concatenation >>= (λ high. give (between x low high)))))))
 
 abbrev pub null_or_missing : Tall Expr → Production (Tall Expr)
-null_or_missing x = choose (is_word (codes "NULL")) (past (give (above expr.IsNull x))) (word "MISSING" (give (above expr.IsMissing x)))
+null_or_missing x =
+    choose (is_word (codes "NULL")) (past (give (above expr.IsNull x))) (word "MISSING" (give (above expr.IsMissing x)))
 
 -- behind IS
 abbrev pub is_tested : Tall Expr → Production (Tall Expr)
@@ -247,10 +260,13 @@ predicate inner x =
     (matched inner x))
 
 abbrev pub begins_predicate : Token → Bool
-begins_predicate t = is_word (codes "IS") t || is_word (codes "NOT") t || is_word (codes "IN") t || is_word (codes "LIKE") t || is_word (codes "BETWEEN") t
+begins_predicate t =
+    is_word (codes "IS") t || is_word (codes "NOT") t || is_word (codes "IN") t || is_word (codes "LIKE") t
+    || is_word (codes "BETWEEN") t
 
 abbrev pub predicated : ℕ → Layers → Tall Expr → Production (Tall Expr)
-predicated below inner x = choose begins_predicate (if nat_le x.height below then predicate inner x else refuse kind.TooDeep) (give x)
+predicated below inner x =
+    choose begins_predicate (if nat_le x.height below then predicate inner x else refuse kind.TooDeep) (give x)
 
 abbrev pub compared : ℕ → Layers → Tall Expr → Option Operator → Production (Tall Expr)
 compared below inner x None = predicated below inner x
@@ -263,7 +279,8 @@ related below inner x r = compared below inner x (comparing (token_of r)) r
 
 abbrev pub unary : ℕ → Layers → Production (Tall Expr)
 unary below inner =
-    choose (is_symbol (codes "-")) (deeper below (past (inner.unary >>= (λ x. give (above expr.Negate x))))) (primary below inner)
+    choose (is_symbol (codes "-")) (deeper below (past (inner.unary >>= (λ x. give (above expr.Negate x)))))
+    (primary below inner)
 
 abbrev pub product : ℕ → Layers → Production (Tall Expr)
 product below inner = chain below multiplicative inner.unary (unary below inner)
@@ -279,7 +296,8 @@ comparison below inner = concatenation below inner >>= related below inner
 
 abbrev pub negation : ℕ → Layers → Production (Tall Expr)
 negation below inner =
-    choose (is_word (codes "NOT")) (deeper below (past (inner.negation >>= (λ x. give (above expr.Not x))))) (comparison below inner)
+    choose (is_word (codes "NOT")) (deeper below (past (inner.negation >>= (λ x. give (above expr.Not x)))))
+    (comparison below inner)
 
 abbrev pub conjunction : ℕ → Layers → Production (Tall Expr)
 conjunction below inner = chain below (by_word (codes "AND") op.And) inner.negation (negation below inner)
@@ -292,8 +310,10 @@ disjunction below inner = chain below (by_word (codes "OR") op.Or) inner.conjunc
 -- whether an expression begins with the token
 abbrev pub begins_expression : Token → Bool
 begins_expression t =
-    is_some (constant_of t) || is_some (name_of t) || is_symbol (codes "(") t || is_symbol (codes "[") t || is_symbol (codes "<<") t || is_symbol (codes "{") t
-    || is_symbol (codes "-") t || is_word (codes "NOT") t || is_word (codes "COALESCE") t || is_word (codes "SIZE") t || is_word (codes "CHAR_LENGTH") t
+    is_some (constant_of t) || is_some (name_of t) || is_symbol (codes "(") t || is_symbol (codes "[") t
+    || is_symbol (codes "<<") t || is_symbol (codes "{") t
+    || is_symbol (codes "-") t || is_word (codes "NOT") t || is_word (codes "COALESCE") t || is_word (codes "SIZE") t
+    || is_word (codes "CHAR_LENGTH") t
     || is_word (codes "COUNT") t || is_word (codes "SUM") t || is_word (codes "MIN") t || is_word (codes "MAX") t
 
 abbrev pub no_level : Production (Tall Expr)

@@ -74,7 +74,8 @@ abbrev pub table_or_path : List Source → Path → SourceKind
 table_or_path earlier path = kind_by earlier path path.steps
 
 abbrev pub begins_history : List Located → Bool
-begins_history tokens = is_word (codes "HISTORY") (front_of tokens).token && is_symbol (codes "(") (front_of (drop 1 tokens)).token
+begins_history tokens =
+    is_word (codes "HISTORY") (front_of tokens).token && is_symbol (codes "(") (front_of (drop 1 tokens)).token
 
 abbrev pub end_bound : Production (Option Expr)
 end_bound = optional (is_symbol (codes ",")) (symbol "," const)
@@ -118,7 +119,8 @@ own_name (source'.History table start end) = table
 own_name (source'.Path p) = last_name p.first p.steps
 
 abbrev pub source_of : SourceKind → Option (List ℕ) → Option (List ℕ) → Source
-source_of from variable id = record { from = from; variable = unwrap_or variable (own_name from); id_name = id; on = None }
+source_of from variable id =
+    record { from = from; variable = unwrap_or variable (own_name from); id_name = id; on = None }
 
 abbrev pub source : List Source → Production Source
 source earlier =
@@ -133,7 +135,9 @@ abbrev pub sources_behind : ℕ → List Source → Production (List Source)
 sources_behind zero so_far = give so_far
 sources_behind (suc more) so_far =
     let another = source so_far >>= (λ s. sources_behind more (so_far ++ s ∷ [])) in
-    let joined = word "JOIN" (source so_far >>= (λ s. word "ON" (expression >>= (λ e. sources_behind more (so_far ++ conditioned s e ∷ []))))) in
+    let joined =
+    word "JOIN" (source so_far >>= (λ s. word "ON"
+    (expression >>= (λ e. sources_behind more (so_far ++ conditioned s e ∷ []))))) in
     choose (is_symbol (codes ",")) (past another)
     (choose (is_word (codes "CROSS")) (past (word "JOIN" another))
     (choose (is_word (codes "INNER")) (past joined)
@@ -182,7 +186,8 @@ item r = item_from (front r).at (length r.marks) r
 abbrev pub items_behind : ℕ → List SelectItem → Production (List SelectItem)
 items_behind zero so_far = refuse kind.Unexpected
 items_behind (suc more) so_far =
-    item >>= (λ i. choose (is_symbol (codes ",")) (past (items_behind more (so_far ++ i ∷ []))) (give (so_far ++ i ∷ [])))
+    item >>= (λ i. choose (is_symbol (codes ",")) (past (items_behind more (so_far ++ i ∷ [])))
+    (give (so_far ++ i ∷ [])))
 
 abbrev pub items : Production (List SelectItem)
 items r = items_behind (length r.rest) [] r
@@ -200,7 +205,8 @@ abbrev pub begins_step : Token → Bool
 begins_step t = is_symbol (codes ".") t || is_symbol (codes "[") t
 
 abbrev pub target : Production Path
-target = with_name (λ first r. marked (role.Target first (begins_step (token_of (advanced r)))) (past (free_path first)) r)
+target =
+    with_name (λ first r. marked (role.Target first (begins_step (token_of (advanced r)))) (past (free_path first)) r)
 
 abbrev pub setting : Production Setting
 setting = target >>= (λ p. symbol "=" (expression >>= (λ e. give (record { target = p; value = e }))))
@@ -209,7 +215,8 @@ setting = target >>= (λ p. symbol "=" (expression >>= (λ e. give (record { tar
 abbrev pub settings_behind : ℕ → List Setting → Production (List Setting)
 settings_behind zero so_far = refuse kind.Unexpected
 settings_behind (suc more) so_far =
-    setting >>= (λ s. choose (is_symbol (codes ",")) (past (settings_behind more (so_far ++ s ∷ []))) (give (so_far ++ s ∷ [])))
+    setting >>= (λ s. choose (is_symbol (codes ",")) (past (settings_behind more (so_far ++ s ∷ [])))
+    (give (so_far ++ s ∷ [])))
 
 abbrev pub settings : Production (List Setting)
 settings r = settings_behind (length r.rest) [] r
@@ -219,7 +226,9 @@ at_place = optional (is_word (codes "AT")) (word "AT" expression)
 
 -- behind INSERT
 abbrev pub insertion : Production Change
-insertion = word "INTO" (target >>= (λ p. word "VALUE" (expression >>= (λ e. at_place >>= (λ at. give (change'.Insert p e at))))))
+insertion =
+    word "INTO" (target >>= (λ p. word "VALUE" (expression
+    >>= (λ e. at_place >>= (λ at. give (change'.Insert p e at))))))
 
 abbrev pub change : Production Change
 change =
@@ -257,10 +266,12 @@ abbrev pub delete : Production Statement
 delete = word "FROM" (table >>= (λ s. filter_of >>= (λ f. give (statement'.Delete (of_one s f)))))
 
 abbrev pub index : Production Statement
-index = word "ON" (name >>= (λ table. symbol "(" (name >>= (λ field. symbol ")" (give (statement'.Index table field))))))
+index =
+    word "ON" (name >>= (λ table. symbol "(" (name >>= (λ field. symbol ")" (give (statement'.Index table field))))))
 
 abbrev pub create : Production Statement
-create = choose (is_word (codes "INDEX")) (past index) (word "TABLE" (name >>= (λ table. give (statement'.Create table))))
+create =
+    choose (is_word (codes "INDEX")) (past index) (word "TABLE" (name >>= (λ table. give (statement'.Create table))))
 
 abbrev pub drop_table : Production Statement
 drop_table = word "TABLE" (name >>= (λ table. give (statement'.Drop table)))

@@ -1,4 +1,5 @@
--- Lists and structs (PartiQL, IN, BETWEEN, constructors, COALESCE and SIZE; the rules for MISSING are the ledger's own).
+-- Lists and structs (PartiQL, IN, BETWEEN, constructors, COALESCE and SIZE; the rules for MISSING are the ledger's
+-- own).
 use Rattle.std.specs.Prelude.{ℕ, pos, Bool, true, false, List, [], ◌∷◌, map, length, if◌then◌else◌}
 use Rattle.std.specs.Option.{option_map_or}
 use Rattle.std.specs.List.{list_any, flat_map}
@@ -26,7 +27,8 @@ is_null_answer (Found v) = is_null v
 -- true where one of the answers is, else NULL where one is null, else false
 abbrev pub any_of : List Evaluated → Evaluated
 any_of answers =
-    if list_any (λ e. is_true (truth_in e)) answers then truth true else if list_any is_null_answer answers then null else truth false
+    if list_any (λ e. is_true (truth_in e)) answers then truth true else if list_any is_null_answer answers then null
+    else truth false
 
 -- what `=` says of an element
 abbrev pub is_equal_to : Evaluated → Value → Evaluated

@@ -1,5 +1,5 @@
--- What expressions answer (PartiQL, "values": MISSING, NULL and the truth values; the profile is the ledger's own). A value that an
--- expression makes has no annotations, and a made NULL is the plain one. Every typed null is null.
+-- What expressions answer (PartiQL, "values": MISSING, NULL and the truth values; the profile is the ledger's own). A
+-- value that an expression makes has no annotations, and a made NULL is the plain one. Every typed null is null.
 use Rattle.std.specs.Prelude.{Bool, true, false, []}
 use Rattle.std.specs.declared.option.Option.{Option}
 use Rattle.std.specs.declared.option.Option.TheVariants.{None, Some}

@@ -1,5 +1,5 @@
--- The meaning of an expression under one row and the parameters (PartiQL; the profile is the ledger's own): MISSING or a value, and
--- never an error.
+-- The meaning of an expression under one row and the parameters (PartiQL; the profile is the ledger's own): MISSING
+-- or a value, and never an error.
 use Rattle.std.specs.Prelude.{Bool, true, false, not, List, [], ◌∷◌, map, slice_get}
 use Rattle.std.specs.Ordering.{is_lt, is_le, is_gt, is_ge}
 use Rattle.ion_values.specs.declared.value.Value.{Value}
@@ -63,7 +63,8 @@ of_values op.Times v w = product v w
 of_values op.Divide v w = quotient v w
 of_values op.Remainder v w = remainder v w
 
--- OR and AND take MISSING and null for neither true nor false; with any other operator MISSING gives MISSING, and else null gives NULL
+-- OR and AND take MISSING and null for neither true nor false; with any other operator MISSING gives MISSING, and
+-- else null gives NULL
 abbrev pub operate : Operator → Evaluated → Evaluated → Evaluated
 operate op.Or left right = disjunction (truth_in left) (truth_in right)
 operate op.And left right = conjunction (truth_in left) (truth_in right)

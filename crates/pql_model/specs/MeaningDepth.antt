@@ -1,5 +1,5 @@
--- How deep the value of an expression can be (own): at most as much deeper than the deepest of its row, its parameters and its
--- literals as its list and struct constructors nest.
+-- How deep the value of an expression can be (own): at most as much deeper than the deepest of its row, its
+-- parameters and its literals as its list and struct constructors nest.
 use Rattle.std.specs.Prelude.{ℕ, ◌+◌, ◌≤◌, max, map}
 use Rattle.ion_values.specs.Depth.{depth_of, deepest}
 use Rattle.ion_values.specs.declared.value.Value.{Value}
@@ -63,4 +63,5 @@ abbrev pub nesting : Expr → ℕ
 nesting = fold-Expr ℕ ℕ ℕ ℕ (greatest (λ v. 0) 1) of_step of_member of_path
 
 abbrev pub DepthIsBounded : Type 0
-DepthIsBounded = (e : Expr) (c : Context) → depth_in (meaning e c) ≤ max (deepest_given c) (deepest_literal e) + nesting e
+DepthIsBounded =
+    (e : Expr) (c : Context) → depth_in (meaning e c) ≤ max (deepest_given c) (deepest_literal e) + nesting e

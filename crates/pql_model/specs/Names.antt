@@ -1,5 +1,6 @@
--- Which source a name means (PartiQL Specification, scoping of names; BY names as in Amazon QLDB's PartiQL, and which of several counts is
--- the ledger's own). Of the sources that are spelt alike the last is meant, a BY name counting after the variable of its source.
+-- Which source a name means (PartiQL Specification, scoping of names; BY names as in Amazon QLDB's PartiQL, and which
+-- of several counts is the ledger's own). Of the sources that are spelt alike the last is meant, a BY name counting
+-- after the variable of its source.
 use Rattle.std.specs.Prelude.{ℕ, ◌+◌, Bool, false, List, [], ◌∷◌, if◌then◌else◌}
 use Rattle.std.specs.Str.{bytes_eq}
 use Rattle.std.specs.declared.option.Option.{Option}

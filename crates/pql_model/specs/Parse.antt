@@ -1,5 +1,5 @@
--- The statement that a text is, or the first fault: in the text's length, in its tokens and its grammar, and then in the rules
--- behind the grammar.
+-- The statement that a text is, or the first fault: in the text's length, in its tokens and its grammar, and then in
+-- the rules behind the grammar.
 use Rattle.std.specs.Prelude.{ℕ, nat_lt, List, [], length, Option, Some, None, Result, Ok, Err, if◌then◌else◌}
 use Rattle.pql_model.specs.declared.ParseKind.TheVariants as kind
 use Rattle.pql_model.specs.declared.mark.Place.TheVariants as place
@@ -25,4 +25,5 @@ abbrev pub read_statement : List ℕ → Result Statement Fault
 read_statement text = ruled (whole_statement (start (tokens text)))
 
 unfoldable pub parsed : List ℕ → Result Statement Fault
-parsed text = if nat_lt 100_000 (length text) then Err (record { at = 100_000; kind = kind.TooLong }) else read_statement text
+parsed text =
+    if nat_lt 100_000 (length text) then Err (record { at = 100_000; kind = kind.TooLong }) else read_statement text

@@ -1,5 +1,6 @@
--- What the productions of the grammar are made of. A production reads the tokens in front and gives what they mean, or the fault:
--- the first token that it can't take, and why. The rest of the tokens is kept in a reader, with the marks that were set so far.
+-- What the productions of the grammar are made of. A production reads the tokens in front and gives what they mean,
+-- or the fault: the first token that it can't take, and why. The rest of the tokens is kept in a reader, with the
+-- marks that were set so far.
 use Prim.Native.String.{String}
 use Rattle.std.specs.Prelude.{ℕ, Bool, List, [], ◌∷◌, ◌++◌, drop, codes, Option, Some, None, Result, Ok, Err, if◌then◌else◌}
 use Rattle.pql_model.specs.declared.ParseKind.{ParseKind}
@@ -108,7 +109,12 @@ name = with_name (λ text. past (give text))
 
 -- sets a mark at this offset
 abbrev pub mark_at : {A : Type 0} → ℕ → Role → Production A → Production A
-mark_at at role next r = next (record { rest = r.rest; marks = r.marks ++ record { at = at; place = r.place; role = role } ∷ []; place = r.place })
+mark_at at role next r =
+    next (record {
+      rest = r.rest;
+      marks = r.marks ++ record { at = at; place = r.place; role = role } ∷ [];
+      place = r.place;
+    })
 
 -- at the token in front
 abbrev pub marked : {A : Type 0} → Role → Production A → Production A

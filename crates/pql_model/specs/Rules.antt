@@ -1,5 +1,6 @@
--- What a statement owes beyond its grammar (PartiQL Specification, scoping of names, and aggregation; the placement of BY and of
--- the targets of changes as in Amazon QLDB's PartiQL). The rules judge the marks that were set in reading the statement, in text order.
+-- What a statement owes beyond its grammar (PartiQL Specification, scoping of names, and aggregation; the placement
+-- of BY and of the targets of changes as in Amazon QLDB's PartiQL). The rules judge the marks that were set in
+-- reading the statement, in text order.
 use Rattle.std.specs.Prelude.{ℕ, ◌==◌, ◌&&◌, ◌||◌, not, Bool, true, false, nat_lt, List, [], ◌∷◌, length, map, take, drop, codes, is_some, Option, Some, None, if◌then◌else◌}
 use Rattle.std.specs.List.{list_any}
 use Rattle.ion_model.specs.Blanks.{begins}
@@ -52,7 +53,8 @@ unless holds k = if holds then None else Some k
 
 -- A name is that of a source that the expression sees, or of a field of the only source.
 abbrev pub judged_name : Place → List ℕ → List Source → Option ParseKind
-judged_name p name sources = unless (is_some (resolved name (seen_from p sources)) || is_single sources) kind.UnknownName
+judged_name p name sources =
+    unless (is_some (resolved name (seen_from p sources)) || is_single sources) kind.UnknownName
 
 abbrev pub is_path : SourceKind → Bool
 is_path (source.Table name) = false
@@ -65,7 +67,8 @@ is_path_at _ sources = false
 
 -- The root of a path source is a variable of an earlier source.
 abbrev pub judged_root : Place → List ℕ → List Source → Option ParseKind
-judged_root p name sources = unless (not (is_path_at p sources) || is_variable (seen_from p sources) name) kind.UnknownName
+judged_root p name sources =
+    unless (not (is_path_at p sources) || is_variable (seen_from p sources) name) kind.UnknownName
 
 -- BY stands behind a table or a history.
 abbrev pub judged_by : Place → List Source → Option ParseKind
@@ -140,4 +143,5 @@ earlier None b = b
 
 abbrev pub broken : List Source → List Mark → Option Fault
 broken sources marks =
-    earlier (first_fault (λ m. judged m.place m.role sources) marks) (first_fault (λ m. mixed (has_whole marks) m.place m.role) marks)
+    earlier (first_fault (λ m. judged m.place m.role sources) marks)
+    (first_fault (λ m. mixed (has_whole marks) m.place m.role) marks)

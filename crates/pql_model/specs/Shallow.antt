@@ -1,5 +1,5 @@
--- Statements that make no deep value (own): no expression of theirs nests list and struct constructors more than 64 deep, and none has a
--- literal that is deeper than 64.
+-- Statements that make no deep value (own): no expression of theirs nests list and struct constructors more than 64
+-- deep, and none has a literal that is deeper than 64.
 use Rattle.std.specs.Prelude.{ℕ, ◌≡◌, ◌≤◌, max, List, map, Ok, ◌+◌}
 use Rattle.std.specs.declared.option.Option.{Option}
 use Rattle.std.specs.declared.option.Option.TheVariants.{None, Some}
@@ -118,8 +118,9 @@ rows_depth rows = deepest (map (λ r. depth_of r.value) rows)
 abbrev pub AreWithin : ℕ → Viewed → Type 0
 AreWithin depth views = (name : List ℕ) (view : View) → rows_depth (views name view) ≤ depth
 
--- What a SELECT answers, from whichever rows, is at most 65 deeper than the views, the parameters and 64: 64 of constructors, and the
--- struct of items. So it is at most 129 deep where the views and the parameters are at most 64 deep.
+-- What a SELECT answers, from whichever rows, is at most 65 deeper than the views, the parameters and 64: 64 of
+-- constructors, and the struct of items. So it is at most 129 deep where the views and the parameters are at most 64
+-- deep.
 abbrev pub AnswersAreShallow : Type 0
 AnswersAreShallow =
     (depth : ℕ) (views : Viewed) (params : List Value) (from : FromClause) (select : Select)

@@ -1,5 +1,5 @@
--- Paths (PartiQL, path navigation; what a name means is the ledger's own). A name means what it is of the sources; else, where the
--- statement has exactly one source, the field of that source.
+-- Paths (PartiQL, path navigation; what a name means is the ledger's own). A name means what it is of the sources;
+-- else, where the statement has exactly one source, the field of that source.
 use Rattle.std.specs.Prelude.{ℕ, ℤ, pos, negsuc, Bool, true, List, [], ◌∷◌, map, slice_get}
 use Rattle.std.specs.Option.{option_map, option_map_or}
 use Rattle.std.specs.List.{find}

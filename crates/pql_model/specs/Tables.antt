@@ -1,5 +1,5 @@
--- What the name of a source says of its table and its view, and which rows a probe asks for (the views of Amazon QLDB's user view and
--- committed view; probes are the ledger's own).
+-- What the name of a source says of its table and its view, and which rows a probe asks for (the views of Amazon
+-- QLDB's user view and committed view; probes are the ledger's own).
 use Rattle.std.specs.Prelude.{ℕ, ◌==◌, Bool, true, false, List, drop, length, codes, if◌then◌else◌}
 use Rattle.std.specs.List.{filter}
 use Rattle.std.specs.declared.option.Option.{Option}

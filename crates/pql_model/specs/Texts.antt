@@ -1,5 +1,5 @@
--- Texts (PartiQL, `||`, LIKE and CHAR_LENGTH; that symbols and strings alike are texts is the ledger's own). Characters are Unicode code
--- points. In a pattern `%` is any run of characters and `_` one character.
+-- Texts (PartiQL, `||`, LIKE and CHAR_LENGTH; that symbols and strings alike are texts is the ledger's own).
+-- Characters are Unicode code points. In a pattern `%` is any run of characters and `_` one character.
 use Rattle.std.specs.Prelude.{ℕ, pos, ◌==◌, ◌&&◌, ◌||◌, Bool, true, false, List, [], ◌∷◌, ◌++◌, length, if◌then◌else◌}
 use Rattle.std.specs.Option.{option_map_or}
 use Rattle.std.specs.declared.option.Option.{Option}
@@ -56,7 +56,8 @@ like v w = of_two (λ text pattern. truth (fits (chars pattern) (chars text))) (
 -- NULL for null, the number of characters of a text, else MISSING
 abbrev pub length_of : Value → Evaluated
 length_of v =
-    if is_null v then null else option_map_or (λ text. answer (body.Int (pos (length (chars text))))) (text_of v) Missing
+    if is_null v then null else option_map_or (λ text. answer (body.Int (pos (length (chars text)))))
+    (text_of v) Missing
 
 abbrev pub char_length : Evaluated → Evaluated
 char_length = onward length_of

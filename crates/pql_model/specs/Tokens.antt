@@ -1,5 +1,5 @@
--- The tokens of a statement with their offsets (PartiQL Specification, lexical structure; names, strings and numbers as in SQL-92).
--- White space is that of Ion text, and `--` begins a comment to the line's end.
+-- The tokens of a statement with their offsets (PartiQL Specification, lexical structure; names, strings and numbers
+-- as in SQL-92). White space is that of Ion text, and `--` begins a comment to the line's end.
 use Rattle.std.specs.Prelude.{ℕ, zero, suc, pos, neg_ℤ, ◌+◌, ◌-◌, ◌^◌, ◌==◌, ◌&&◌, ◌||◌, Bool, true, false, not, nat_lt, nat_le, List, [], ◌∷◌, take, drop, slice_index, codes, Option, Some, None, option_map, Ok, if◌then◌else◌}
 use Rattle.std.specs.Char.{is_ascii_digit}
 use Rattle.std.specs.List.{filter, find, position, prefix_len}
@@ -30,8 +30,8 @@ lex_word z = let len = prefix_len is_word_char z in lexed.Token (token.Word (tak
 
 -- ---- texts between quotes, in which a doubled quote stands for one
 
--- How many bytes there are to the end of the closing quote, or None where it is missing. `after` tells whether the byte before
--- is a quote that the next one may double.
+-- How many bytes there are to the end of the closing quote, or None where it is missing. `after` tells whether the
+-- byte before is a quote that the next one may double.
 abbrev pub to_quote : ℕ → Bool → List ℕ → Option ℕ
 to_quote quote false [] = None
 to_quote quote true [] = Some 0
@@ -54,7 +54,8 @@ text_token made more text = if is_utf8 text then lexed.Token (made text) more el
 
 -- behind an opening quote
 abbrev pub quoted : (List ℕ → Token) → ℕ → List ℕ → Lexed
-quoted made quote z = closed (λ len. text_token made len (undoubled quote false (take (len - 1) z))) (to_quote quote false z)
+quoted made quote z =
+    closed (λ len. text_token made len (undoubled quote false (take (len - 1) z))) (to_quote quote false z)
 
 -- ---- Ion values between backquotes, which end at the next backquote
 
@@ -81,12 +82,14 @@ plain content = record { annotations = []; body = content }
 
 abbrev pub number : ℕ → ℕ → Body
 number digits zero = body.Int (pos digits)
-number digits places = body.Decimal (record { coefficient = pos digits; exponent = neg_ℤ (pos places); negative_zero = false })
+number digits places =
+    body.Decimal (record { coefficient = pos digits; exponent = neg_ℤ (pos places); negative_zero = false })
 
 -- with as many digits behind the point, within 128 bits and the least exponent
 abbrev pub number_token : ℕ → ℕ → ℕ → Lexed
 number_token more digits places =
-    if nat_lt digits (2 ^ 127) && nat_le places 32_767 then lexed.Token (token.Value (plain (number digits places))) more
+    if nat_lt digits (2 ^ 127) && nat_le places 32_767
+    then lexed.Token (token.Value (plain (number digits places))) more
     else lexed.Refused kind.TooWide
 
 abbrev pub is_float_mark : ℕ → Bool
@@ -136,11 +139,15 @@ spelling symbol.At = codes "@"
 
 -- those of two bytes
 abbrev pub pairs : List Symbol
-pairs = symbol.BagOpen ∷ symbol.BagClose ∷ symbol.LessGreater ∷ symbol.BangEqual ∷ symbol.LessEqual ∷ symbol.GreaterEqual ∷ symbol.Bars ∷ []
+pairs =
+    symbol.BagOpen ∷ symbol.BagClose ∷ symbol.LessGreater ∷ symbol.BangEqual ∷ symbol.LessEqual ∷ symbol.GreaterEqual
+    ∷ symbol.Bars ∷ []
 
 -- those of one byte
 abbrev pub singles : List Symbol
-singles = symbol.Equal ∷ symbol.Less ∷ symbol.Greater ∷ symbol.Plus ∷ symbol.Minus ∷ symbol.Star ∷ symbol.Slash ∷ symbol.Percent
+singles =
+    symbol.Equal ∷ symbol.Less ∷ symbol.Greater ∷ symbol.Plus ∷ symbol.Minus ∷ symbol.Star ∷ symbol.Slash
+    ∷ symbol.Percent
     ∷ symbol.Open ∷ symbol.Close ∷ symbol.ListOpen ∷ symbol.ListClose ∷ symbol.StructOpen ∷ symbol.StructClose
     ∷ symbol.Comma ∷ symbol.Colon ∷ symbol.Semicolon ∷ symbol.Point ∷ symbol.At ∷ []
 
@@ -185,8 +192,8 @@ turn asked at rest (lexed.Token (token.Parameter n) more) = located at (token.Pa
 turn asked at rest (lexed.Token t more) = located at t (rest more asked)
 turn asked at rest (lexed.Refused k) = located at (token.Bad k) []
 
--- The tokens of the bytes from `at` on, up to the first that is refused or to the text's end. The first `left` bytes belong to
--- what was read, and `asked` marks `?` stood before.
+-- The tokens of the bytes from `at` on, up to the first that is refused or to the text's end. The first `left` bytes
+-- belong to what was read, and `asked` marks `?` stood before.
 abbrev pub tokens_from : ℕ → ℕ → ℕ → List ℕ → List Located
 tokens_from left asked at [] = located at token.End []
 tokens_from (suc left) asked at (b ∷ z) = tokens_from left asked (at + 1) z

@@ -1,4 +1,5 @@
--- Words and names in statements (PartiQL Specification, lexical structure): words are read without regard to case, and names exactly.
+-- Words and names in statements (PartiQL Specification, lexical structure): words are read without regard to case,
+-- and names exactly.
 use Rattle.std.specs.Prelude.{ℕ, Bool, false, List, [], ◌∷◌, codes, Option, Some, None, if◌then◌else◌}
 use Rattle.std.specs.List.{list_any}
 use Rattle.std.specs.Str.{bytes_eq, str_eq_ignore_ascii_case}
@@ -7,10 +8,15 @@ use Rattle.pql_model.specs.declared.token.Token.TheVariants as token
 use Rattle.pql_model.specs.Tokens.{spelling}
 
 abbrev pub reserved : List (List ℕ)
-reserved = codes "SELECT" ∷ codes "FROM" ∷ codes "WHERE" ∷ codes "VALUE" ∷ codes "AS" ∷ codes "BY" ∷ codes "AT" ∷ codes "IN" ∷ codes "IS"
-    ∷ codes "AND" ∷ codes "OR" ∷ codes "NOT" ∷ codes "NULL" ∷ codes "MISSING" ∷ codes "TRUE" ∷ codes "FALSE" ∷ codes "LIKE" ∷ codes "BETWEEN"
-    ∷ codes "JOIN" ∷ codes "INNER" ∷ codes "CROSS" ∷ codes "ON" ∷ codes "INSERT" ∷ codes "INTO" ∷ codes "UPDATE" ∷ codes "SET" ∷ codes "REMOVE"
-    ∷ codes "DELETE" ∷ codes "CREATE" ∷ codes "DROP" ∷ codes "TABLE" ∷ codes "INDEX" ∷ codes "COUNT" ∷ codes "SUM" ∷ codes "MIN" ∷ codes "MAX"
+reserved =
+    codes "SELECT" ∷ codes "FROM" ∷ codes "WHERE" ∷ codes "VALUE" ∷ codes "AS" ∷ codes "BY" ∷ codes "AT"
+    ∷ codes "IN" ∷ codes "IS"
+    ∷ codes "AND" ∷ codes "OR" ∷ codes "NOT" ∷ codes "NULL" ∷ codes "MISSING" ∷ codes "TRUE" ∷ codes "FALSE"
+    ∷ codes "LIKE" ∷ codes "BETWEEN"
+    ∷ codes "JOIN" ∷ codes "INNER" ∷ codes "CROSS" ∷ codes "ON" ∷ codes "INSERT" ∷ codes "INTO" ∷ codes "UPDATE"
+    ∷ codes "SET" ∷ codes "REMOVE"
+    ∷ codes "DELETE" ∷ codes "CREATE" ∷ codes "DROP" ∷ codes "TABLE" ∷ codes "INDEX" ∷ codes "COUNT" ∷ codes "SUM"
+    ∷ codes "MIN" ∷ codes "MAX"
     ∷ codes "COALESCE" ∷ codes "SIZE" ∷ codes "CHAR_LENGTH" ∷ []
 
 unfoldable pub is_reserved : List ℕ → Bool

@@ -9,8 +9,8 @@ use ion_values::{Key, OutOfMemory, Value, Values};
 use ql_types::DocId;
 use std::alloc::Global;
 
-/// What of a table is seen: its documents, their latest committed revisions, or all committed revisions that were active
-/// between two moments. A bound of a history that isn't given is None; one that is no timestamp shows nothing.
+/// What of a table is seen: its documents, their latest committed revisions, or all committed revisions that were
+/// active between two moments. A bound of a history that isn't given is None; one that is no timestamp shows nothing.
 #[derive(Drop)]
 pub enum View {
     User,

@@ -32,11 +32,13 @@ history_of = symbol "(" (name >>= bounds)
 
 -- a source with its AS and BY names
 abbrev pub source_there : List Source → Production Source
-source_there earlier = source_kind earlier >>= (λ from. alias >>= (λ variable. id_name >>= (λ id. give (source_of from variable id))))
+source_there earlier =
+    source_kind earlier >>= (λ from. alias >>= (λ variable. id_name >>= (λ id. give (source_of from variable id))))
 
 -- a source with its condition, from JOIN on
 abbrev pub conditioned_source : List Source → Production Source
-conditioned_source so_far = word "JOIN" (source so_far >>= (λ s. word "ON" (expression >>= (λ e. give (conditioned s e)))))
+conditioned_source so_far =
+    word "JOIN" (source so_far >>= (λ s. word "ON" (expression >>= (λ e. give (conditioned s e)))))
 
 abbrev pub some_source : Production Source → Production (Option Source)
 some_source p = p >>= (λ s. give (Some s))
@@ -50,7 +52,8 @@ inner_joined so_far =
 
 -- the sources so far, or one more after CROSS JOIN
 abbrev pub joined : List Source → Production (Option Source)
-joined so_far = choose (is_word (codes "CROSS")) (past (word "JOIN" (some_source (source so_far)))) (inner_joined so_far)
+joined so_far =
+    choose (is_word (codes "CROSS")) (past (word "JOIN" (some_source (source so_far)))) (inner_joined so_far)
 
 -- the source that follows these, where one does
 abbrev pub another : List Source → Production (Option Source)
@@ -58,11 +61,14 @@ another so_far = choose (is_symbol (codes ",")) (past (some_source (source so_fa
 
 -- a DELETE, or a statement on tables themselves
 abbrev pub data_or_table : Production Statement
-data_or_table = choose (is_word (codes "DELETE")) (past delete) (choose (is_word (codes "CREATE")) (past create) (word "DROP" drop_table))
+data_or_table =
+    choose (is_word (codes "DELETE")) (past delete)
+    (choose (is_word (codes "CREATE")) (past create) (word "DROP" drop_table))
 
 -- an UPDATE or a FROM, or one of these
 abbrev pub change_or_table : Production Statement
-change_or_table = choose (is_word (codes "UPDATE")) (past update) (choose (is_word (codes "FROM")) (past from) data_or_table)
+change_or_table =
+    choose (is_word (codes "UPDATE")) (past update) (choose (is_word (codes "FROM")) (past from) data_or_table)
 
 -- the value of an INSERT, with VALUE before it or not
 abbrev pub inserted : Production Expr

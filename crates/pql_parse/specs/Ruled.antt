@@ -35,7 +35,8 @@ has_variable name s = bytes_eq s.variable name
 
 -- The table has the first source of each name that passes the test.
 abbrev pub HasFirsts : (List ℕ → Source → Bool) → BTreeMap (Bor (List ℕ)) ℕ → List Source → Type 0
-HasFirsts test table sources = (name : List ℕ) (n : ℕ) → list_any (test name) (take n sources) ≡ is_below n (found name table)
+HasFirsts test table sources =
+    (name : List ℕ) (n : ℕ) → list_any (test name) (take n sources) ≡ is_below n (found name table)
 
 -- what a name means of a source
 pub data Meant : Type 0 where
@@ -43,7 +44,8 @@ pub data Meant : Type 0 where
   Id : Meant
 
 abbrev pub meant_by : List ℕ → Source → Option Meant
-meant_by name s = if is_id name s.id_name then Some Id else (if bytes_eq s.variable name then Some (Variable s.from) else None)
+meant_by name s =
+    if is_id name s.id_name then Some Id else (if bytes_eq s.variable name then Some (Variable s.from) else None)
 
 abbrev pub or_else : Option Meant → Option Meant → Option Meant
 or_else (Some m) before = Some m

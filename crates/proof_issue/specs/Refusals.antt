@@ -11,7 +11,8 @@ past_end blocks number = if nat_le (length blocks) number then Some (none_such.B
 -- no revision of the block has this index
 abbrev pub past_revisions : Option Block → ℕ → Option NoSuch
 past_revisions None index = None
-past_revisions (Some b) index = if nat_le b.header.revisions index then Some (none_such.Revision index b.header.revisions) else None
+past_revisions (Some b) index =
+    if nat_le b.header.revisions index then Some (none_such.Revision index b.header.revisions) else None
 
 abbrev pub or_then : Option NoSuch → Option NoSuch → Option NoSuch
 or_then None next = next
@@ -22,7 +23,8 @@ or_then (Some refused) next = Some refused
 abbrev pub refusal : List Block → ℕ → ℕ → ℕ → Option NoSuch
 refusal blocks sequence index tip =
     or_then (past_end blocks tip) (or_then (past_end blocks sequence)
-    (if nat_lt tip sequence then Some (none_such.PastTip sequence tip) else past_revisions (slice_get blocks sequence) index))
+    (if nat_lt tip sequence then Some (none_such.PastTip sequence tip)
+    else past_revisions (slice_get blocks sequence) index))
 
 -- the same with the last block as the tip, and where there are no blocks, no block has the number
 abbrev pub refusal_at_end : List Block → ℕ → ℕ → Option NoSuch

@@ -34,8 +34,8 @@ fn block_at(blocks: &Blocks, sequence: u64, index: u32) -> Result<&Block, NoSuch
 
 /// The proof of a revision of a chained journal by the tree that grew with it.
 ///
-/// The tree's leaves are the hashes of its blocks. The proof is that of `prove` with the last block as the tip, and where there is none the refusal is that one's; on
-/// no blocks it is `Block`.
+/// The tree's leaves are the hashes of its blocks. The proof is that of `prove` with the last block as the tip, and
+/// where there is none the refusal is that one's; on no blocks it is `Block`.
 pub fn prove_grown(
     alloc: Global,
     blocks: &Blocks,

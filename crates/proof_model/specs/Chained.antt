@@ -1,5 +1,5 @@
--- When blocks make a chain: each stands at its place in the strand of the first, names the hash of the block before it, and
--- has the hashes of its contents (QLDB Developer Guide, "Data verification in Amazon QLDB").
+-- When blocks make a chain: each stands at its place in the strand of the first, names the hash of the block before
+-- it, and has the hashes of its contents (QLDB Developer Guide, "Data verification in Amazon QLDB").
 use Rattle.std.specs.Prelude.{List, [], ◌∷◌, ◌++◌, IsTrue}
 use Rattle.ledger_model.specs.declared.block.Block.{Block}
 use Rattle.ledger_model.specs.Whole.{IsWhole}

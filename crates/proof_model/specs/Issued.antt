@@ -43,5 +43,6 @@ IsAccepted blocks sequence index tip p = (b : Block) (r : Revision) (d : Digest)
 
 -- what a chained journal gives as the proof of a revision is accepted
 abbrev pub ProofsVerify : Type 0
-ProofsVerify = (blocks : List Block) (b : Block) (sequence index tip : ℕ) → Chained blocks → tip < length blocks → sequence ≤ tip
+ProofsVerify =
+    (blocks : List Block) (b : Block) (sequence index tip : ℕ) → Chained blocks → tip < length blocks → sequence ≤ tip
     → slice_get blocks sequence ≡ Some b → IsAccepted blocks sequence index tip (proof_for blocks b sequence index tip)

@@ -1,5 +1,5 @@
--- Digests and proofs as Ion values (QLDB Developer Guide, "Data verification in Amazon QLDB", for the digest; the form of a
--- proof is the ledger's own).
+-- Digests and proofs as Ion values (QLDB Developer Guide, "Data verification in Amazon QLDB", for the digest; the
+-- form of a proof is the ledger's own).
 use Rattle.std.specs.Prelude.{◌^◌, ◌&&◌, Bool, nat_lt, [], ◌∷◌, map, codes}
 use Rattle.std.specs.List.{list_all}
 use Rattle.ion_values.specs.declared.value.Value.{Value}
@@ -10,7 +10,9 @@ use Rattle.proof_model.specs.declared.Digest.{Digest}
 use Rattle.proof_model.specs.declared.Proof.{Proof}
 
 abbrev pub digest_value : Digest → Value
-digest_value d = structure (field (codes "digest") (hash_value d.digest) ∷ field (codes "digestTipAddress") (address_value d.tip) ∷ [])
+digest_value d =
+    structure (field (codes "digest") (hash_value d.digest)
+    ∷ field (codes "digestTipAddress") (address_value d.tip) ∷ [])
 
 abbrev pub proof_value : Proof → Value
 proof_value p = structure (

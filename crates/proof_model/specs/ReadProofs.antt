@@ -1,5 +1,5 @@
--- Digests and proofs read back from values (Ion 1.0, "The Ion data model"): each reading gives the part whose value it is
--- given, and None for a value of no part. Fields stand in the written order, with none beside them.
+-- Digests and proofs read back from values (Ion 1.0, "The Ion data model"): each reading gives the part whose value
+-- it is given, and None for a value of no part. Fields stand in the written order, with none beside them.
 use Rattle.std.specs.Prelude.{ℕ, ◌^◌, List, [], ◌∷◌, codes, Option, Some, None}
 use Rattle.ion_values.specs.declared.value.Value.{Value}
 use Rattle.ion_values.specs.declared.value.Field.{Field}
@@ -25,7 +25,8 @@ digest_in v = and_then (fields_in v) digest_of
 -- the fields in front of the count are those in front of a block's hashes
 abbrev pub header_of : List Field → Option Header
 header_of (f ∷ g ∷ h ∷ i ∷ []) =
-    and_then (and_then (named (codes "revisionCount") i) (number_in (2 ^ 32))) (λ revisions. front_of revisions (f ∷ g ∷ h ∷ []))
+    and_then (and_then (named (codes "revisionCount") i) (number_in (2 ^ 32)))
+    (λ revisions. front_of revisions (f ∷ g ∷ h ∷ []))
 header_of _ = None
 
 abbrev pub header_in : Value → Option Header

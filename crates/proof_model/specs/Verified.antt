@@ -1,6 +1,6 @@
 -- When a proof shows that a revision is in the journal of a digest (QLDB Developer Guide, "Data verification in Amazon
--- QLDB"; FIPS 180-4 for SHA-256, Ion Hash for values). Where the hashes of the header and of what the transaction did stand
--- is the ledger's own rule.
+-- QLDB"; FIPS 180-4 for SHA-256, Ion Hash for values). Where the hashes of the header and of what the transaction did
+-- stand is the ledger's own rule.
 use Rattle.std.specs.Prelude.{ℕ, ◌+◌, ◌<◌, ◌≤◌, ◌≡◌, List, ◌∷◌, ◌++◌, take, drop, length}
 use Rattle.ql_types.specs.declared.Hash32.{Hash32}
 use Rattle.hash_model.specs.Serialize.{hash_of}

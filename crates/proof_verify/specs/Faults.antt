@@ -1,5 +1,5 @@
--- The checks of a proof in order, and the first that fails (QLDB Developer Guide, "Data verification in Amazon QLDB"; the
--- order is the ledger's own).
+-- The checks of a proof in order, and the first that fails (QLDB Developer Guide, "Data verification in Amazon QLDB";
+-- the order is the ledger's own).
 use Rattle.std.specs.Prelude.{◌≡◌, ◌==◌, nat_lt, nat_le, length, Option, Some, None, if◌then◌else◌}
 use Rattle.ledger_model.specs.declared.block.Revision.{Revision}
 use Rattle.ledger_model.specs.Script.{or_else}
@@ -15,24 +15,29 @@ use Rattle.proof_verify.specs.declared.ProofFault.TheVariants as fault
 -- the header is of the digest's strand
 abbrev pub strand_fault : Digest → Proof → Option ProofFault
 strand_fault d p =
-    if p.header.address.strand.raw == d.tip.strand.raw then None else Some (fault.WrongStrand p.header.address.strand d.tip.strand)
+    if p.header.address.strand.raw == d.tip.strand.raw then None
+    else Some (fault.WrongStrand p.header.address.strand d.tip.strand)
 
 -- the revision has the header's address
 abbrev pub address_fault : Revision → Proof → Option ProofFault
-address_fault r p = if same_address r.address p.header.address then None else Some (fault.AddressDiffers r.address p.header.address)
+address_fault r p =
+    if same_address r.address p.header.address then None else Some (fault.AddressDiffers r.address p.header.address)
 
 -- the block isn't past the tip
 abbrev pub tip_fault : Digest → Proof → Option ProofFault
 tip_fault d p =
-    if nat_le p.header.address.sequence d.tip.sequence then None else Some (fault.PastTip p.header.address.sequence d.tip.sequence)
+    if nat_le p.header.address.sequence d.tip.sequence then None
+    else Some (fault.PastTip p.header.address.sequence d.tip.sequence)
 
 -- the block has a revision of this index
 abbrev pub index_fault : Proof → Option ProofFault
-index_fault p = if nat_lt p.index p.header.revisions then None else Some (fault.IndexPastCount p.index p.header.revisions)
+index_fault p =
+    if nat_lt p.index p.header.revisions then None else Some (fault.IndexPastCount p.index p.header.revisions)
 
 -- the path has a hash for each step from the revision to the digest
 abbrev pub length_fault : Digest → Proof → Option ProofFault
-length_fault d p = if length p.path == path_length d p then None else Some (fault.PathLength (path_length d p) (length p.path))
+length_fault d p =
+    if length p.path == path_length d p then None else Some (fault.PathLength (path_length d p) (length p.path))
 
 -- the revision's hash is that of its parts
 abbrev pub hash_fault : Revision → Option ProofFault

@@ -194,8 +194,8 @@ fn fault_of(
 /// Whether the proof shows that the revision is in the journal of the digest.
 ///
 /// A fault comes exactly by the first of these checks that fails: the strands agree; the revision's address is the
-/// header's; the block isn't past the tip; the index is that of a revision; the path has its length; the revision's hash
-/// is that of its parts; and the path leads to the digest.
+/// header's; the block isn't past the tip; the index is that of a revision; the path has its length; the revision's
+/// hash is that of its parts; and the path leads to the digest.
 pub fn verify(
     alloc: Global,
     digest: &Digest,

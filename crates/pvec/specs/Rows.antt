@@ -38,6 +38,7 @@ pub record IsGrown {X : Type 0} (upper : List (List (List X))) (item : X) (new :
   pub levelled : IsLevelled new
 
 -- new rows for the same items, but another one at a place
-pub record IsChanged {X : Type 0} (upper : List (List (List X))) (i : ℕ) (item : X) (new : List (List (List X))) : Type 0 where
+pub record IsChanged {X : Type 0} (upper : List (List (List X))) (i : ℕ) (item : X)
+    (new : List (List (List X))) : Type 0 where
   pub items : items_of new ≡ slice_set (items_of upper) i item
   pub levelled : IsLevelled new

@@ -153,8 +153,8 @@ fn first<T: Drop>(alloc: Global, item: Shared<T>) -> Result<Upper<T>, OutOfMemor
     single(alloc, middle)
 }
 
-/// The rows with one item more: in the last leaf, or in a new one where that is full, which begins a new middle row where
-/// the last one is full.
+/// The rows with one item more: in the last leaf, or in a new one where that is full, which begins a new middle row
+/// where the last one is full.
 fn grown<T: Drop>(
     alloc: Global,
     upper: &[Shared<Row<Row<T>>>],

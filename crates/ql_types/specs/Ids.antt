@@ -42,7 +42,8 @@ value_of byte =
 -- the values of digits; None where a byte isn't a digit
 unfoldable pub values_of : List ℕ → Option (List ℕ)
 values_of [] = Some []
-values_of (byte ∷ bytes) = option_and_then (λ value. option_map (λ values. value ∷ values) (values_of bytes)) (value_of byte)
+values_of (byte ∷ bytes) =
+    option_and_then (λ value. option_map (λ values. value ∷ values) (values_of bytes)) (value_of byte)
 
 -- the number of digits with these values, most significant first
 abbrev pub number_of : List ℕ → ℕ

@@ -84,10 +84,13 @@ pub fn id_raw(mask: IdMask, n: u64, i: u32) -> u128
     (u128::from(n) * (1 << 24) + u128::from(i)) ^ mask.bits
 }
 
-/// What `id_raw` made the id's number of: the transaction and the thing. None comes where the transaction's number would
-/// not fit 64 bits.
+/// What `id_raw` made the id's number of: the transaction and the thing. None comes where the transaction's number
+/// would not fit 64 bits.
 pub fn id_parts(mask: IdMask, raw: u128) -> Option<(u64, u32)>
-    ensures parts { SomeIff result (transaction_in mask.bits raw < 2 ^ 64) (transaction_in mask.bits raw, thing_in mask.bits raw) }
+    ensures parts { SomeIff result (transaction_in mask.bits raw < 2 ^ 64) (
+      transaction_in mask.bits raw,
+      thing_in mask.bits raw,
+    ) }
     ensures made { IfSome result (λ parts. raw ≡ raw_id mask.bits parts.0 parts.1) }
     ensures undoes { (n i : ℕ) → n < 2 ^ 64 → i < 2 ^ 24 → raw ≡ raw_id mask.bits n i → result ≡ Some (n, i) }
 {
@@ -166,7 +169,8 @@ fn id_in(text: &[u8]) -> Option<u128>
 /// 128 bits.
 pub fn id_read(text: &[u8]) -> Result<u128, NotAnId>
     ensures value { result_ok result ≡ id_in text.now }
-    ensures text { MatchResult result (λ raw. id_text raw ≡ text.now) (λ _. (raw : ℕ) → raw < 2 ^ 128 → id_text raw ≢ text.now) }
+    ensures text { MatchResult result (λ raw. id_text raw ≡ text.now) (λ _. (raw : ℕ) → raw < 2 ^ 128 →
+        id_text raw ≢ text.now) }
 {
     id_in(text).ok_or(NotAnId)
 }

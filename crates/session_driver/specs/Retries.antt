@@ -9,7 +9,8 @@ abbrev pub is_conflict : Outcome → Bool
 is_conflict (Conflict tx since named) = true
 is_conflict _ = false
 
--- from the link before to the link after there is a number of attempts of the job in a chain, and each returned a conflict
+-- from the link before to the link after there is a number of attempts of the job in a chain, and each returned a
+-- conflict
 abbrev pub Conflicted : {L : Type 0} → (L → Job → Place → Outcome → L → Type 0) → Job → Place → ℕ → L → L → Type 0
 Conflicted {L} Attempted job place zero before after = before ≡ after
 Conflicted {L} Attempted job place (suc n) before after =

@@ -5,9 +5,9 @@ use std::alloc::Global;
 use std::sync::Wait;
 use std::thread::Threads;
 
-/// What a command is run on: its words in a line, its input, what its store holds, and the calls that fail, with a space between
-/// them. A call is `r` of the source, `w` of the sink or `s` of the store, behind it how many calls pass before it, and behind a
-/// colon how much a store keeps of what it was to take.
+/// What a command is run on: its words in a line, its input, what its store holds, and the calls that fail, with a
+/// space between them. A call is `r` of the source, `w` of the sink or `s` of the store, behind it how many calls
+/// pass before it, and behind a colon how much a store keeps of what it was to take.
 #[derive(Clone, Copy)]
 pub struct Given<'a> {
     pub line: &'a str,

@@ -13,8 +13,8 @@ verify|@FIRST@||r0|4 {status:4,faults:1}|=
 frobnicate|@FIRST@||w0|1|=
 audit|@FIRST@||r0 w0|6|="#;
 
-/// Stores that fail at their size, at the append, at the sync, at the cut behind one of these, which is done or not, and at the
-/// sync behind the cut; and a question that isn't answered. Where nothing fails the script is committed.
+/// Stores that fail at a call, and a question that isn't answered. The call is the size, the append, the sync, the cut
+/// after one of these, which is done or not, or the sync after the cut. If nothing fails the script is committed.
 pub const STORES: &str = r#"@RUN@|@FIRST@||s0 s9|5 {status:5,faults:1}|=
 @RUN@|@FIRST@||s1 s9|0 @STORE_FAULT@|=
 @RUN@|@FIRST@||s1:10 s9|0 @STORE_FAULT@|=

@@ -44,8 +44,8 @@ impl Flag {
     }
 }
 
-/// A gate at which session 2 begins once session 1 stands before its commit, and session 1 commits once session 2 stands
-/// before its second begin.
+/// A gate at which session 2 begins once session 1 stands before its commit, and session 1 commits once session 2
+/// stands before its second begin.
 #[derive(Drop)]
 struct Crossing {
     first_commits: Flag,

@@ -1,7 +1,7 @@
 //! Digests, proofs and counts of journals, and words that ask for none.
 
-/// Questions to no block, and to three, of which the last has one revision; the input isn't read. Then words that are refused,
-/// with which nothing is touched.
+/// Questions to no block, and to three, of which the last has one revision; the input isn't read. Then words that are
+/// refused, with which nothing is touched.
 pub const QUESTIONS: &str = r#"audit||||0 {blocks:0,revisions:0}|=
 digest||||2 {status:2,fault:{kind:NoSuchBlock,sequence:0,blocks:0}}|=
 digest --tip 7||||2 {status:2,fault:{kind:NoSuchBlock,sequence:7,blocks:0}}|=

@@ -41,8 +41,8 @@ fn is_accepted<R: Threads + Wait + Sync>(rt: &R, alloc: Global, proof: &str) -> 
     Some(verdict.as_str() == "0 {verified:true}\n")
 }
 
-/// Whether the registration is reported so, its journal counts these blocks and revisions, and the proof of the change is
-/// accepted.
+/// Whether the registration is reported so, its journal counts these blocks and revisions, and the proof of the
+/// change is accepted.
 fn is_registered<R: Threads + Wait + Sync>(rt: &R, alloc: Global) -> Option<bool> {
     let left = run(rt, alloc, &unfailing(RUN, REGISTRATION, b""))?;
     let is_asked_right = is_asked_right(rt, alloc, left.held.as_slice());

@@ -1,9 +1,10 @@
-//! Rows of commands. A row has the words, the input, what the store holds, the calls that fail, what is told, and what the store
-//! holds then, with `|` between them.
+//! Rows of commands. A row has the words, the input, what the store holds, the calls that fail, what is told, and
+//! what the store holds then, with `|` between them.
 //!
-//! Between two `@` stands the name of a text, with changes of it behind `~`, or a count, `*` and what is repeated. What is told is
-//! the status, with one line of output or nothing behind it, or `*` for anything. What the store holds then is `=` for what it
-//! held, `!` for anything else, `*` for anything, `#` with a count of lines, `^` with its beginning, or all of it.
+//! Between two `@` stands the name of a text, with changes of it behind `~`, or a count, `*` and what is repeated.
+//! What is told is the status, with one line of output or nothing behind it, or `*` for anything. What the store
+//! holds then is `=` for what it held, `!` for anything else, `*` for anything, `#` with a count of lines, `^` with
+//! its beginning, or all of it.
 use crate::commands::{Given, Left, run};
 use crate::damaged::DAMAGED;
 use crate::digests::SENT;

@@ -23,16 +23,16 @@ pub const FOUR_OUTCOMES: &str =
 {session:2,transaction:1,outcome:committed,tx:"000000000000000003PBYm",block:1,answers:[[{documentId:"000000000000000003PBYn"}]]}
 {session:2,transaction:2,outcome:committed,tx:"000000000000000004Xa52",block:2,answers:[[{a:2}]]}"#;
 
-/// What runs report: of no script, of the first one, of it with a select of what is committed, which shows nothing yet, of the two
-/// sessions, and of a table that is there already.
+/// What runs report: of no script, of the first one, of it with a select of what is committed, which shows nothing
+/// yet, of the two sessions, and of a table that is there already.
 pub const REPORTS: &str = r#"@RUN@||||0|=
 @RUN@|@FIRST@|||0 @COMMITTED@|*
 @RUN@|[{statements:["CREATE TABLE t",{text:"INSERT INTO t ?",params:[{a:5}]},"SELECT * FROM t","SELECT * FROM _ql_committed_t"]}]|||0 {session:1,transaction:1,outcome:committed,tx:"0000000000000000018OWG",block:0,answers:[[{tableId:"0000000000000000018OWH"}],[{documentId:"0000000000000000018OWI"}],[{a:5}],[]]}|*
 @RUN@|@SESSIONS@|||0 @FOUR_OUTCOMES@|*
 @RUN@|@FIRST@|@FIRST_LINE@||0 {session:1,transaction:1,outcome:refused,tx:"000000000000000002Gn2W",since:1,statement:1,cause:{code:3,name:"t"}}|*"#;
 
-/// The first line is made by any number of workers, and with the time that the clock answers. A rest that is no whole line is
-/// cut.
+/// The first line is made by any number of workers, and with the time that the clock answers. A rest that is no whole
+/// line is cut.
 pub const LINES: &str = r#"run --plain-ids --at 2020-01-01T00:00:00.000Z|@FIRST@|||*|@FIRST_LINE@
 run --workers 1 --plain-ids --at 2020-01-01T00:00:00.000Z|@FIRST@|||*|@FIRST_LINE@
 run --plain-ids --workers 64 --at 2020T|@FIRST@|||*|@FIRST_LINE@

@@ -47,7 +47,7 @@ fn changed(alloc: Global, text: &str, changes: &str) -> Option<String> {
     Some(text)
 }
 
-/// What stands for a name, with its changes behind `~` where it has any, or for a count and a part behind `*`.
+/// The text that a name stands for. Changes stand after `~`; a count before `*` repeats the part after it.
 fn text_of(alloc: Global, name: &str) -> Option<String> {
     if let Some((name, changes)) = name.split_once('~') {
         return changed(alloc, named(name)?, changes);

@@ -1,5 +1,5 @@
-//! Runs by several workers: whatever order their transactions take, each has one line, in the script's order, and the blocks
-//! that are told are those of the journal.
+//! Runs by several workers: whatever order their transactions take, each has one line, in the script's order, and the
+//! blocks that are told are those of the journal.
 use crate::commands::{Left, run, unfailing};
 use std::alloc::Global;
 use std::sync::Wait;

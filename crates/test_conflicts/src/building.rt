@@ -3,8 +3,8 @@
 //! - `create NAME TABLE`, `index FIELD TABLE` and `drop NAME TABLE` change the schema,
 //! - `put CONTENT TABLE DOCUMENT VERSION` adds a revision, and a content of `-` is a deletion's.
 //!
-//! The blocks are of the transactions 1, 2 and so on of the strand 0, all made when 2020 began in UTC. An id is the number
-//! of its transaction, and a digit, the number of the thing in it.
+//! The blocks are of the transactions 1, 2 and so on of the strand 0, all made when 2020 began in UTC. An id is the
+//! number of its transaction, and a digit, the number of the thing in it.
 ghost use Rattle.std.specs.Prelude.{⊤};
 
 use block_form::{revision_hash, seal, strand_hash};

@@ -47,8 +47,8 @@ SELECT * FROM t AS x, x.a AS y WHERE x.a = 5 > name t, key 11 a 5
 UPDATE t SET a = 6 WHERE a = 5 > name t, key 11 a 5
 DELETE FROM t WHERE a = 5 > name t, key 11 a 5";
 
-/// The version that a journal stands for. Clauses see nothing of it, and it is dropped by a call, which keeps the proofs of the
-/// table small.
+/// The version that a journal stands for. Clauses see nothing of it, and it is dropped by a call, which keeps the
+/// proofs of the table small.
 #[derive(Drop)]
 struct Version {
     held: Boxed<Versions>,
@@ -114,7 +114,7 @@ fn first_failing(alloc: Global) -> Option<Option<&'static str>> {
     Some(failing(alloc, &version))
 }
 
-/// The same, or that there was no memory for the version.
+/// The first failing row, or that there was no memory for the version.
 pub(crate) fn failing_row(alloc: Global) -> Option<&'static str> {
     first_failing(alloc).unwrap_or(Some("no memory"))
 }

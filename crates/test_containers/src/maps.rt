@@ -9,13 +9,15 @@ use std::test::Fail;
 /// The steps change the map:
 ///
 /// - `fill COUNT FACTOR FLIP` makes it that of `COUNT` pairs, a number times the factor with the bits flipped first;
-/// - `put KEY VALUE` and `drop KEY` change a pair; `clear COUNT` drops the keys below the count, each of which is then gone;
+/// - `put KEY VALUE` and `drop KEY` change a pair; `clear COUNT` drops the keys below the count, each of which is
+///   then gone;
 /// - `new` makes it empty, and `share` one that is shared.
 ///
 /// The other lines tell what it is:
 ///
 /// - `now` and `before`: its pairs with keys below 10, all of them, and those before the last step,
-/// - `len` how many it has, `get KEY VALUE` a pair that is found in 36 steps, `none KEY` a key it has not,
+/// - `len` how many it has;
+/// - `get KEY VALUE` a pair that is found in 36 steps, `none KEY` a key it has not;
 /// - `range LOW HIGH` the keys in a range, `keys COUNT` that the keys are the numbers below the count.
 const LINES: &str = "# pairs of many rows: 3,001 has 12 binary digits
 fill 3000 1 1

@@ -5,8 +5,8 @@ use std::alloc::Global;
 use std::mem;
 use std::test::Fail;
 
-/// `change POSITION OLD NEW` changes the key of a position, `-` being none. `now KEY` and `before KEY` tell the positions of a key,
-/// in order, now and before the last change.
+/// `change POSITION OLD NEW` changes the key of a position, `-` being none. `now KEY` and `before KEY` tell the
+/// positions of a key, in order, now and before the last change.
 const LINES: &str = "change 4 - 5
 change 1 - 5
 change 3 - 5

@@ -277,7 +277,7 @@ fn put_repeated(out: &mut String, part: &str, count: usize) -> Option<()> {
     Some(())
 }
 
-/// A container in so many others.
+/// A container in `count` others.
 fn nested(alloc: Global, open: &str, close: &str, innermost: &str, count: usize) -> Option<String> {
     let mut text = String::new(alloc);
     put_repeated(&mut text, open, count)?;

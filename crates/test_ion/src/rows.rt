@@ -1,8 +1,8 @@
 //! Tables of texts, a row a line. The first line says how the rows are read:
 //!
-//! - `depth` and a number: a row is a text whose containers nest at most so deep, ` => ` and what the text gives, its values as
-//!   they are written with ` | ` between them, `no values`, or the kind of its fault and the place. In the text `%` and two
-//!   digits stand for a byte.
+//! - `depth` and a number: a row is a text whose containers nest at most so deep, ` => ` and what the text gives, its
+//!   values as they are written with ` | ` between them, `no values`, or the kind of its fault and the place. In the
+//!   text `%` and two digits stand for a byte.
 //! - `all` and what a text gives: each word of the rows is such a text.
 //! - `cut`: each row is a text that is cut off.
 use ion_text::{ReadFault, read_stream, write};

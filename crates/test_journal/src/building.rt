@@ -1,17 +1,17 @@
-//! Journals of three lines. The first transaction creates the tables `t` and `w` and inserts two documents into `t`. The
-//! second one makes an index on the field `a` of `t`, drops `w`, changes the first document, deletes the second one, and
-//! inserts a third one. What the last one does is the test's. Each is told in steps, with `, ` between them:
+//! Journals of three lines. The first transaction creates the tables `t` and `w` and inserts two documents into `t`.
+//! The second one makes an index on the field `a` of `t`, drops `w`, changes the first document, deletes the second
+//! one, and inserts a third one. What the last one does is the test's. Each is told in steps, with `, ` between them:
 //!
 //! - `create NAME TABLE`, `index FIELD TABLE` and `drop NAME TABLE` change the schema,
 //! - `put CONTENT TABLE DOCUMENT VERSION` adds a revision of the address, the time and the transaction so far, and a
 //!   content of `-` is a deletion's,
-//! - `strand`, `sequence`, `tx`, `second` and `microsecond` set a part of the header: the last two set the second of the
-//!   year 2020 in UTC, of two digits, with three and with six digits behind it,
-//! - `table TABLE` adds a table of no revision, `forget table` takes the last table away, and `forget hash` makes the last
-//!   revision's hash zeros.
+//! - `strand`, `sequence`, `tx`, `second` and `microsecond` set a part of the header: the last two set the second of
+//!   the year 2020 in UTC, of two digits, with three and with six digits behind it,
+//! - `table TABLE` adds a table of no revision, `forget table` takes the last table away, and `forget hash` makes the
+//!   last revision's hash zeros.
 //!
-//! An id is the number of its transaction, and a digit, the number of the thing in it. Each part of a block is what the steps
-//! make of it by themselves.
+//! An id is the number of its transaction, and a digit, the number of the thing in it. Each part of a block is what
+//! the steps make of it by themselves.
 use block_form::{revision_hash, seal, strand_hash};
 use containers::{Sequence, Text};
 use ion_text::read_stream;
@@ -38,8 +38,8 @@ const SECOND: &str = "tx 20, sequence 1, second 20, \
 /// The first steps of the last transaction.
 pub const THIRD: &str = "tx 30, sequence 2, second 30";
 
-/// Further steps of the last transaction, with nothing wrong: it creates the table `w` again and inserts into it, changes
-/// the first document and deletes the third one.
+/// Further steps of the last transaction, with nothing wrong: it creates the table `w` again and inserts into it,
+/// changes the first document and deletes the third one.
 pub const RIGHT: &str =
     "create w 31, index b 11, put {a:5} 31 32 0, put {a:6} 11 13 2, put - 11 21 1";
 

@@ -18,7 +18,7 @@ fn name(damage: Damage) -> &'static str {
     }
 }
 
-/// The check that the last line fails, of a journal of which no other line is damaged, or that the journal is read.
+/// The check that the last line fails, or that the journal is read. No other line may be damaged.
 fn told(alloc: Global, text: &str) -> &'static str {
     match read_journal(alloc, text.as_bytes()) {
         Ok(_) => "read",
@@ -136,8 +136,8 @@ fn altered(alloc: Global, line: &str, change: &str) -> Option<String> {
     format!(in alloc; "{front}{hash}}}}}{back}").ok()
 }
 
-/// What takes the place of the last line of the journal with nothing wrong: the line with a change, with another hash behind
-/// marks, or another line.
+/// What takes the place of the last line of the journal with nothing wrong: the line with a change, with another hash
+/// behind marks, or another line.
 const LAST_LINES: &str = "form {blockAddress> {blockAddress
 form sequenceNo:2>sequenceNo: 2
 form sequenceNo:2>sequenceNo:0x2

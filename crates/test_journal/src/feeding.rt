@@ -12,7 +12,7 @@ fn read(alloc: Global, bytes: &[u8]) -> Result<(u64, u64), JournalFault> {
     Ok((blocks.len(), rest))
 }
 
-/// The same where they are fed in pieces of this length.
+/// How many blocks the bytes hold and the offset of the rest, if they are fed in pieces of `long` bytes.
 fn fed(alloc: Global, bytes: &[u8], long: usize) -> Result<(u64, u64), JournalFault>
     requires { 0 < long }
 {
@@ -33,7 +33,7 @@ fn is_fed_alike(alloc: Global, bytes: &[u8]) -> bool {
 /// A last transaction whose text has characters of two and three bytes.
 const CHARACTERS: &str = "create w 31, put {a:\"\u{df}\u{6771}\"} 31 32 0";
 
-/// Whether the journal of these last steps is fed alike where so many bytes are cut off.
+/// Whether the journal of these last steps is fed alike without its last `less` bytes.
 fn is_cut_alike(alloc: Global, steps: &str, less: usize) -> Option<bool> {
     let text = journal(alloc, steps)?;
     let bytes = text.as_str().as_bytes();

@@ -3,7 +3,7 @@ use crate::building::{RIGHT, journal, last_line};
 use journal_text::read_journal;
 use std::alloc::Global;
 
-/// Whether the bytes are read as so many blocks and a rest behind so many bytes.
+/// Whether the bytes are read as `count` blocks and a rest after `whole` bytes.
 fn is_read(alloc: Global, bytes: &[u8], count: u64, whole: usize) -> bool {
     match read_journal(alloc, bytes) {
         Ok((blocks, end)) => blocks.len() == count && end == whole as u64,
@@ -17,8 +17,8 @@ fn are_three_read(alloc: Global) -> Option<bool> {
     Some(is_read(alloc, bytes, 3, bytes.len()))
 }
 
-/// Whether the journal is read as two blocks and a rest where it is cut behind so many bytes of its last line, or in front of
-/// its last line feed where there are less.
+/// Whether the journal, cut in its last line, is read as two blocks and a rest. The cut stands after `more` bytes of
+/// that line, or before its line feed if it has fewer.
 fn is_cut_read(alloc: Global, more: usize) -> Option<bool> {
     let text = journal(alloc, RIGHT)?;
     let (front, _) = last_line(text.as_str())?;

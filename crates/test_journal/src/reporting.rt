@@ -1,5 +1,5 @@
-//! Lines of reports. A row of the table is an outcome, a cause of a refusal, an item of a conflict or a key of an index's value, and
-//! behind ` => ` what the line says of it.
+//! Lines of reports. A row of the table is an outcome, a cause of a refusal, an item of a conflict or a key of an
+//! index's value, and behind ` => ` what the line says of it.
 use crate::building::first_block;
 use containers::{Sequence, Text};
 use ion_values::{Key, Kind};

@@ -69,14 +69,14 @@ fn told(alloc: Global, text: &str) -> Option<String> {
     }
 }
 
-/// Whether a row's text tells what the row says, behind so many empty sessions.
+/// Whether a row's text, after `empty` empty sessions, tells what the row says.
 fn row_is_told(alloc: Global, empty: usize, row: &str) -> Option<bool> {
     let (text, wanted) = row.split_once(" => ")?;
     let text = repeated(alloc, "[]", empty, text)?;
     Some(told(alloc, text.as_str())?.as_str() == wanted)
 }
 
-/// A part so many times, and a text behind it.
+/// A part `count` times, and a text after it.
 fn repeated(alloc: Global, part: &str, count: usize, text: &str) -> Option<String> {
     let mut out = String::new(alloc);
     for _ in 0..count {

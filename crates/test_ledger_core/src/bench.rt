@@ -30,7 +30,8 @@ pub(crate) const NO_HASH: Hash32 = Hash32 { bytes: [0; 32] };
 /// The beginning of 2020 in UTC.
 const START: i64 = 1_577_836_800_000;
 
-/// A tail over a store in memory. It stands on the heap, so that what lets a bench go doesn't let each part of a tail go.
+/// A tail over a store in memory. It stands on the heap, so that what lets a bench go doesn't let each part of a tail
+/// go.
 #[derive(Drop)]
 pub(crate) struct Bench {
     tail: Box<Tail<MemoryStore, SetClock>>,
@@ -79,7 +80,7 @@ fn own_digest(alloc: Global, tx: TxId, asked: &[Request]) -> Option<Hash32> {
     Some(digest)
 }
 
-/// The same, or `NO_HASH` for want of memory.
+/// The digest of the transaction of this id, or `NO_HASH` if memory runs out.
 fn digest_of(alloc: Global, tx: TxId, asked: &[Request]) -> Hash32 {
     match own_digest(alloc, tx, asked) {
         Some(digest) => digest,
@@ -123,14 +124,14 @@ fn committed_around(
     Some(Ends { later, first })
 }
 
-/// The bench with this tail. None comes for want of memory alone.
+/// The bench with this tail, or None if memory runs out.
 fn bench_with(alloc: Global, tail: Tail<MemoryStore, SetClock>) -> Option<Bench> {
     let tail = Box::new(alloc, tail).ok()?;
     Some(Bench { tail })
 }
 
 impl Bench {
-    /// The bench with what the store holds, or why there is none. None comes for want of memory alone.
+    /// The bench with what the store holds, or why there is none. None comes only if memory runs out.
     pub(crate) fn load(
         alloc: Global,
         store: MemoryStore,
@@ -199,7 +200,7 @@ pub(crate) fn bench_of(alloc: Global, store: MemoryStore) -> Option<Bench> {
     Bench::load(alloc, store, clock)?.ok()
 }
 
-/// The bench of an empty store, of which the call after so many fails.
+/// The bench of an empty store, whose call after `passes` fails.
 pub(crate) fn empty_bench(alloc: Global, passes: u64) -> Option<Bench> {
     let store = store_of(alloc, "", passes, 0)?;
     bench_of(alloc, store)

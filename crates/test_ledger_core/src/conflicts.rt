@@ -57,7 +57,7 @@ fn end_of_first(alloc: Global, bench: &mut Bench, read: &str, write: &str) -> Op
     ends_text(alloc, &ends)
 }
 
-/// The same behind these statements.
+/// How the commit of the first transaction ends, after the statements `before`.
 fn end_behind(alloc: Global, before: &str, read: &str, write: &str) -> Option<String> {
     let mut bench = bench_behind(alloc, before)?;
     end_of_first(alloc, &mut bench, read, write)

@@ -18,7 +18,7 @@ fn told(alloc: Global, bench: &Bench) -> Option<String> {
     hex::encode(alloc, digest.digest.bytes.as_slice()).ok()
 }
 
-/// The bench of so many blocks: the first one creates a table, and each other one selects from it.
+/// The bench of `blocks` blocks: the first one creates a table, and each other one selects from it.
 fn bench_of_blocks(alloc: Global, blocks: u64) -> Option<Bench> {
     let mut bench = bench_behind(alloc, "CREATE TABLE t")?;
     for _ in 1..blocks {

@@ -92,8 +92,8 @@ fn is_given_back(fault: LoadFault<MemoryStore, SetClock>) -> bool {
         && clock.now() == 7
 }
 
-/// Whether the load of a line fails by its store, whose call after so many fails, and gives the store and the clock
-/// back.
+/// Whether the load of a line fails by its store, whose call after `passes` fails. The store and the clock have to
+/// come back.
 fn fails(alloc: Global, passes: u64) -> Option<bool> {
     let store = store_of(alloc, THREE_STATEMENTS, passes, 0)?;
     match Bench::load(alloc, store, clock_at(alloc, 7)?)? {

@@ -7,7 +7,8 @@ use std::alloc::Global;
 use std::test::Fail;
 use test_fixtures::THREE_STATEMENTS;
 
-/// The store behind so many settlings, if the last of them is done, or fails by the store's first failure.
+/// The store after `times` settlings, if the last one ends as `is_done` says: done, or failed by the store's first
+/// failure.
 fn settled(alloc: Global, store: MemoryStore, times: u32, is_done: bool) -> Option<MemoryStore> {
     let mut bench = bench_of(alloc, store)?;
     let mut last = Ok(());

@@ -3,12 +3,12 @@ use outside::{Failing, MemoryStore};
 use std::alloc::Global;
 use test_fixtures::THREE_STATEMENTS;
 
-/// A store of a text, of which the call after so many fails; a failing append leaves so many bytes.
+/// A store of a text, whose call after `passes` fails; a failing append leaves `kept` bytes.
 pub(crate) fn store_of(alloc: Global, text: &str, passes: u64, kept: u64) -> Option<MemoryStore> {
     store_of_bytes(alloc, text.as_bytes(), passes, kept)
 }
 
-/// The same of bytes.
+/// A store of bytes, which fails as `store_of` says.
 pub(crate) fn store_of_bytes(
     alloc: Global,
     bytes: &[u8],
@@ -21,7 +21,7 @@ pub(crate) fn store_of_bytes(
     Some(MemoryStore::new(alloc, held, fails))
 }
 
-/// The same of a line and this rest.
+/// A store of a line and this rest, which fails as `store_of` says.
 pub(crate) fn store_behind(
     alloc: Global,
     rest: &str,
@@ -32,8 +32,8 @@ pub(crate) fn store_behind(
     store_of(alloc, text.as_str(), passes, kept)
 }
 
-/// The store that a row tells: what it holds, after how many calls one fails, and how many bytes a failing append leaves.
-/// It holds nothing, or a line and behind it none or this rest.
+/// The store that a row tells: what it holds, after how many calls one fails, and how many bytes a failing append
+/// leaves. It holds nothing, or a line and behind it none or this rest.
 pub(crate) fn store_told(alloc: Global, told: &str) -> Option<MemoryStore> {
     let (held, told) = told.split_once(' ')?;
     let (passes, kept) = told.split_once(' ')?;

@@ -115,7 +115,7 @@ fn are_refused<S: JournalStore + Send + Drop, R: Threads + Wait + Sync>(
     Some(begun == last && told_behind(&ran.outcomes) == last && ran.tail.blocks().len() == 1)
 }
 
-/// The same of the tail of the journal of the line.
+/// Whether this holds of the tail of the journal of the line.
 fn is_last<R: Threads + Wait + Sync>(rt: &R, alloc: Global) -> Option<bool> {
     are_refused(rt, alloc, tail_of(alloc)?)
 }

@@ -1,5 +1,5 @@
-//! What expressions mean. A row of the table is an expression, ` of ` and its sources where it has any, and behind ` is ` its
-//! meaning: a value of Ion text, or `missing`.
+//! What expressions mean. A row of the table is an expression, ` of ` and its sources where it has any, and behind `
+//! is ` its meaning: a value of Ion text, or `missing`.
 use crate::reading::{expression_of, selecting, values};
 use containers::{Sequence, Text};
 use ion_values::{Body, Value, equivalent};
@@ -55,7 +55,7 @@ fn found(alloc: Global, row: &str) -> Option<Evaluated> {
     evaluated(alloc, expression_of(&statement)?, names)
 }
 
-/// Whether two values are the same, where each null is as good as the plain one.
+/// Whether two values are equivalent, any two nulls being equal.
 fn is_same(found: &Value, wanted: &Value) -> bool {
     match (&found.body, &wanted.body) {
         (Body::Null(_), Body::Null(_)) => true,
@@ -75,8 +75,8 @@ fn row_holds(alloc: Global, row: &str) -> Option<bool> {
     is_meant(alloc, &found(alloc, given)?, wanted)
 }
 
-/// Comparisons, logic, arithmetic, texts, lists, aggregates outside of an answer, paths, and a list whose struct has the second
-/// parameter, MISSING, and a parameter that isn't there.
+/// Comparisons, logic, arithmetic, texts, lists, aggregates outside of an answer, paths, and a list whose struct has
+/// the second parameter, MISSING, and a parameter that isn't there.
 const ROWS: &str = "1 = 1 is true
 1 = 2 is false
 1 = `10d-1` is true

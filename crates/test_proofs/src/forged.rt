@@ -15,7 +15,8 @@ const HONEST: &str = "{digest:{{6ecoHgO6SIVYzcXRz9Jw8GjmO3xolGUu6RVwx1wwXGM=}},\
     {{tR4yi4u37WUd4m1WyskOFlHvj+fi2TqpI84wAWGyB8w=}},{{DAPm1KFu7J582n3dYWnrI9CFF5CVqqStEFZiUdvm+uQ=}},\
     {{lxbo5TCB+ad2SYI7q9XoAwcHPtqMB7N2ThZWk3nVmjI=}}]}";
 
-/// What is changed in the bundle, and how the verdict is told. A change is what stands there, `>`, and what takes its place.
+/// What is changed in the bundle, and how the verdict is told. A change is what stands there, `>`, and what takes its
+/// place.
 const ROWS: &str = "|accepted
 4},transactionId>5},transactionId|AddressDiffers
 4},hash>5},hash;4},transactionId>5},transactionId|RootDiffers

@@ -1,5 +1,5 @@
-//! Committed views, histories and document ids. Of the table `t1` document 2 is changed on the second day and twice on the
-//! fourth, 3 is deleted on the third, 4 is made on the fifth, and 5 is made and deleted on the fifth.
+//! Committed views, histories and document ids. Of the table `t1` document 2 is changed on the second day and twice
+//! on the fourth, 3 is deleted on the third, 4 is made on the fifth, and 5 is made and deleted on the fifth.
 
 pub(crate) const HISTORIES: &str =
     r#"on tables 2 / put 1 2 0 1 {n:"A0"} / put 1 3 0 1 {n:"B0"} / put 1 2 1 2 {n:"A1"} / put 1 3 1 3 - / put 1 2 2 4 {n:"A2"} / put 1 2 3 4 {n:"A3"} / put 1 4 0 5 {n:"C0"} / put 1 5 0 5 {n:"D0"} / put 1 5 1 5 -

@@ -7,8 +7,8 @@ use std::alloc::Global;
 use std::marker::Model;
 use versions::Versions;
 
-/// The version that a list of blocks stands for. Clauses see nothing of it, and it is dropped by a call, which keeps the proofs
-/// of the tables small.
+/// The version that a list of blocks stands for. Clauses see nothing of it, and it is dropped by a call, which keeps
+/// the proofs of the tables small.
 #[derive(Drop)]
 pub(crate) struct Version {
     held: Boxed<Versions>,

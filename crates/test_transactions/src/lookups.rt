@@ -17,13 +17,13 @@ use view_rows::view_rows;
 ///
 /// - how many tables are active, how many documents there are with those that are deleted, how many indexes and
 ///   documents a table has, the version of a document's latest revision, and its table,
-/// - whether a table was made with a name, is the active one of a name, and has an index on a field,
-/// - the ids of a table's documents, in order of first insertion, and the first of those with a number in a field,
+/// - whether a table was made with a name, is a name's active one, and has an index on a field,
+/// - a table's document ids in order of first insertion; the first of those with a number in a field;
 /// - the document and the version of a table's revision, and how many rows of a view meet a probe,
 /// - whether copies of the tables and of the indexes are changed by a block, and the version isn't.
 ///
-/// In the first journal the table `t0` is dropped, and `t1` has an index on `a`, a deleted document and another one. In the second
-/// one document 2 has four revisions.
+/// In the first journal the table `t0` is dropped, and `t1` has an index on `a`, a deleted document and another one.
+/// In the second one document 2 has four revisions.
 pub(crate) const LOOKUPS: &str =
     "on tables 2, drop t0 0 / index a 1 / put 1 2 0 1 {a:1}, put 1 3 0 1 {a:2} / put 1 2 1 1 -
 ? active 0 = 1
@@ -199,7 +199,7 @@ fn met(
     }
 }
 
-/// Whether so many rows of the view meet the probe.
+/// Whether as many rows of the view meet the probe as `end` says.
 fn meet(
     alloc: Global,
     version: &Version,

@@ -1,5 +1,5 @@
-//! What transactions read and how their statements end, one by one, also behind one that is refused. The first thing that the
-//! transaction makes has the id 16777217.
+//! What transactions read and how their statements end, one by one, also behind one that is refused. The first thing
+//! that the transaction makes has the id 16777217.
 use crate::journals::Version;
 use crate::probes::put_number;
 use crate::transactions::{Open, Reply};

@@ -8,7 +8,8 @@ use ql_types::Hash32;
 use std::alloc::Global;
 use txn_core::Finished;
 
-/// Of each transaction its number, its statements with `;` between them, and behind ` => ` their answers, a bar behind each.
+/// Of each transaction its number, its statements with `;` between them, and behind ` => ` their answers, a bar
+/// behind each.
 pub(crate) const REGISTRATION: &str =
     "commits 1 CREATE TABLE Vehicle;CREATE TABLE VehicleRegistration;CREATE INDEX ON Vehicle (VIN);\
 CREATE INDEX ON VehicleRegistration (VIN) => \

@@ -1,17 +1,17 @@
 //! Rows, one behind another, of what is asked on a journal's version and what transactions on it do:
 //!
 //! - `on JOURNAL` goes over to the version of a journal, and `then BLOCKS` makes a later one of more blocks,
-//! - `does STATEMENTS` takes what the first transaction did for what pends, and `commits NUMBER STATEMENTS => ANSWERS` goes on
-//!   to the version behind the transaction of this number,
-//! - `? QUESTION = ANSWER` asks the version and a share of it, also once there is a later one, and `then? QUESTION = ANSWER`
-//!   asks that one,
+//! - `does STATEMENTS` takes what the first transaction did for what pends, and `commits NUMBER STATEMENTS =>
+//!   ANSWERS` goes on to the version behind the transaction of this number,
+//! - `? QUESTION = ANSWER` asks the version and a share of it, also once there is a later one, and `then? QUESTION =
+//!   ANSWER` asks that one,
 //! - `sees VIEW TABLE PROBE = ROWS` asks what a transaction with what pends sees,
 //! - the other rows are statements, with `;` between them.
 //!
-//! A statement is a text, and behind a bar its parameters. Between two signs `^` stand a count and a text that is repeated.
-//! `history` and bounds stand for a select of the history of `t1`. Behind ` = ` stands how they end: the last one's rows,
-//! `none`, or how many; the number of the one that is refused and the cause; `drafts` and what is left to commit; `read` and
-//! what they read; or `each` and how each of them ends.
+//! A statement is a text, and behind a bar its parameters. Between two signs `^` stand a count and a text that is
+//! repeated. `history` and bounds stand for a select of the history of `t1`. Behind ` = ` stands how they end: the
+//! last one's rows, `none`, or how many; the number of the one that is refused and the cause; `drafts` and what is
+//! left to commit; `read` and what they read; or `each` and how each of them ends.
 use crate::journals::{Version, continued, version_of};
 use crate::lookups::answers_so;
 use crate::probes::are_seen;
@@ -226,7 +226,7 @@ fn first_failing<'a>(alloc: Global, scene: &mut Scene, rows: &'a str) -> Option<
     None
 }
 
-/// The same, on the version of no block.
+/// The first row that doesn't come out as it says, on the version of no block.
 pub(crate) fn failing(alloc: Global, rows: &str) -> Option<&str> {
     match empty(alloc) {
         Some(mut scene) => first_failing(alloc, &mut scene, rows),

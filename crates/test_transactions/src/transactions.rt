@@ -9,9 +9,13 @@ use ql_types::{IdMask, Place};
 use script_form::put_cause;
 use std::alloc::Global;
 use std::marker::Model;
-use txn_core::{Finished, Stopped, Txn, start_txn};
+use txn_core::{Drawn, Finished, Stopped, Txn, start_txn};
 
 const MASK: IdMask = IdMask { bits: 0 };
+
+fn drawn(number: u64) -> Drawn {
+    Drawn { mask: MASK, number }
+}
 
 const PLACE: Place = Place {
     session: 1,
@@ -38,8 +42,8 @@ pub(crate) fn requests(alloc: Global, statements: &str) -> Option<Asked> {
     Some(asked)
 }
 
-/// What a transaction becomes a block of. Clauses see nothing of it, and it is dropped by a call, which keeps the proofs of the
-/// tables small.
+/// What a transaction becomes a block of. Clauses see nothing of it, and it is dropped by a call, which keeps the
+/// proofs of the tables small.
 #[derive(Drop)]
 pub(crate) struct Work {
     finished: Boxed<Finished>,
@@ -101,7 +105,7 @@ fn refused(alloc: Global, statement: u32, cause: &Refusal) -> Option<End> {
     Some(End::Refused(told))
 }
 
-/// Does the statements one after another, as a worker does. None comes for want of memory alone.
+/// Does the statements one after another, as a worker does. None comes only if memory runs out.
 fn performed(alloc: Global, txn: Txn, asked: &[Request]) -> Option<End> {
     let mut txn = txn;
     let mut statement: u32 = 0;
@@ -126,7 +130,7 @@ pub(crate) fn ended(
     let Ok(base) = version.get().share() else {
         return None;
     };
-    let txn = start_txn(alloc, base, 0, MASK, number, PLACE);
+    let txn = start_txn(alloc, base, 0, drawn(number), PLACE);
     performed(alloc, txn, asked)
 }
 
@@ -170,7 +174,7 @@ impl Open {
         let Ok(base) = version.get().share() else {
             return None;
         };
-        let txn = start_txn(alloc, base, 0, MASK, 1, PLACE);
+        let txn = start_txn(alloc, base, 0, drawn(1), PLACE);
         Some(Open { txn })
     }
 

@@ -36,7 +36,8 @@ module _ {E : Type 0} where
   -- the own list, from this place on, is a part of the list in order
   abbrev pub IsPartFrom : ℕ → List E → List (Placed E) → Type 0
   IsPartFrom low seen [] = Unit {0}
-  IsPartFrom low seen (x ∷ own) = (low ≤ x.place) × (slice_get seen x.place ≡ Some x.entry) × IsPartFrom (x.place + 1) seen own
+  IsPartFrom low seen (x ∷ own) =
+      (low ≤ x.place) × (slice_get seen x.place ≡ Some x.entry) × IsPartFrom (x.place + 1) seen own
 
   abbrev pub IsPart : Known E → Type 0
   IsPart k = IsPartFrom 0 k.seen k.own
@@ -56,7 +57,8 @@ module _ {E : Type 0} where
   OwnedOnce entries people =
       (p : ℕ) (e : E) → slice_get entries p ≡ Some e
       → (i : ℕ) × (k : Known E) × (slice_get people i ≡ Some k) × Stands (placed p e) k.own
-      × ((j : ℕ) (other : Known E) (x : Placed E) → slice_get people j ≡ Some other → Stands x other.own → x.place ≡ p → j ≡ i)
+      × ((j : ℕ) (other : Known E) (x : Placed E) → slice_get people j ≡ Some other → Stands x other.own →
+      x.place ≡ p → j ≡ i)
 
   -- the same pass, which may have seen more
   pub record Grows (k later : Known E) : Type 0 where
@@ -88,7 +90,8 @@ module _ {E : Type 0} (opens uses : E → Option ℕ) where
 
   -- each entry of the history that uses a number which the own list opened stands in the own list
   abbrev pub UsesStand : List E → List (Placed E) → Type 0
-  UsesStand seen own = (p n : ℕ) (e : E) → slice_get seen p ≡ Some e → uses e ≡ Some n → Opened own n → Stands (placed p e) own
+  UsesStand seen own =
+      (p n : ℕ) (e : E) → slice_get seen p ≡ Some e → uses e ≡ Some n → Opened own n → Stands (placed p e) own
 
   -- the entry may be added: a number that it opens was opened by no entry before, and one that it uses
   -- was opened in the own list, where no entry uses it

@@ -52,7 +52,8 @@ module _ {E : Type 0} where
   -- the entries that this name made, with their places, the first one's place being p
   abbrev pub made_by : List ℕ → ℕ → List (Signed E) → List (Placed E)
   made_by name p [] = []
-  made_by name p (s ∷ log) = cond (same_name s.by name) (placed p s.entry ∷ made_by name (p + 1) log) (made_by name (p + 1) log)
+  made_by name p (s ∷ log) =
+      cond (same_name s.by name) (placed p s.entry ∷ made_by name (p + 1) log) (made_by name (p + 1) log)
 
   -- 1 where it has this name
   abbrev pub is : List ℕ → Known E → ℕ
@@ -93,13 +94,16 @@ module _ {E O : Type 0} where
 module _ {E : Type 0} (opens uses : E → Option ℕ) where
   -- each number is opened once; an entry that uses one was made by who opened it, and is the only one that uses it
   pub record IsFair (log : List (Signed E)) : Type 0 where
-    pub once : (p q n : ℕ) (x y : Signed E) → get_elem? log p ≡ some x → get_elem? log q ≡ some y → opens x.entry ≡ Some n → opens y.entry ≡ Some n → p ≡ q
+    pub once : (p q n : ℕ) (x y : Signed E) → get_elem? log p ≡ some x → get_elem? log q ≡ some y →
+        opens x.entry ≡ Some n → opens y.entry ≡ Some n → p ≡ q
     pub opener : (p n : ℕ) (x : Signed E) → get_elem? log p ≡ some x → uses x.entry ≡ Some n
         → (q : ℕ) × (y : Signed E) × (get_elem? log q ≡ some y) × (opens y.entry ≡ Some n) × (y.by ≡ x.by)
-    pub single : (p q n : ℕ) (x y : Signed E) → get_elem? log p ≡ some x → get_elem? log q ≡ some y → uses x.entry ≡ Some n → uses y.entry ≡ Some n → p ≡ q
+    pub single : (p q n : ℕ) (x y : Signed E) → get_elem? log p ≡ some x → get_elem? log q ≡ some y →
+        uses x.entry ≡ Some n → uses y.entry ≡ Some n → p ≡ q
 
 module _ {E O : Type 0} (right : O → List E → Type 0) (o : O) where
-  -- what is known fits the history: a beginning of it was seen, which is right, and the own list has the entries of its name
+  -- what is known fits the history: a beginning of it was seen, which is right, and the own list has the entries of
+  -- its name
   pub record Fits (log : List (Signed E)) (k : Known E) : Type 0 where
     pub seen : IsPrefix k.seen (history log)
     pub fitting : right o k.seen
@@ -122,13 +126,15 @@ module _ {T E O : Type 0} (opening : T → O) (entries : T → List E) (o : O) w
   Stays list seen Shut homes = (seen ≡ list) × HoldsState list homes
 
   -- nobody holds the turn, word 1 is 0 and the slot holds the state
-  pub record NobodyHolds (list : List E) (number : ℕ) (homes : List (maybe.Option (Option T))) (views : List (View E O)) : Type 0 where
+  pub record NobodyHolds (list : List E) (number : ℕ) (homes : List (maybe.Option (Option T)))
+      (views : List (View E O)) : Type 0 where
     pub word : number ≡ 0
     pub slot : HoldsState list homes
     pub all_away : (j : ℕ) (u : View E O) → get_elem? views j ≡ some u → IsAway u.turn
 
   -- one seat holds the turn, and word 1 is 1
-  pub record OneHolds (list : List E) (number : ℕ) (homes : List (maybe.Option (Option T))) (views : List (View E O)) : Type 0 where
+  pub record OneHolds (list : List E) (number : ℕ) (homes : List (maybe.Option (Option T)))
+      (views : List (View E O)) : Type 0 where
     pub seat : ℕ
     pub view : View E O
     pub at : get_elem? views seat ≡ some view
@@ -136,7 +142,8 @@ module _ {T E O : Type 0} (opening : T → O) (entries : T → List E) (o : O) w
     pub stays : Stays list view.me.seen view.turn homes
     pub others_away : (j : ℕ) (u : View E O) → j ≢ seat → get_elem? views j ≡ some u → IsAway u.turn
 
-module _ {T E O : Type 0} (opening : T → O) (entries : T → List E) (right : O → List E → Type 0) (opens uses : E → Option ℕ) (o : O) where
+module _ {T E O : Type 0} (opening : T → O) (entries : T → List E) (right : O → List E → Type 0) (opens uses : E →
+    Option ℕ) (o : O) where
   -- The rule. Behind it stands one history, each entry with the name of the pass that made it
   pub record IsKept (s : State (Option T) (View E O)) : Type 0 where
     pub log : List (Signed E)
@@ -145,11 +152,13 @@ module _ {T E O : Type 0} (opening : T → O) (entries : T → List E) (right : 
     pub fitting : right o (history log)
     pub fair : IsFair opens uses log
     pub each_view : (j : ℕ) (v : View E O) → get_elem? s.views j ≡ some v → ViewFits right o log v
-    -- no two have one name, each entry's name is there, and each name but the empty one was split off by who has the name before it
+    -- no two have one name, each entry's name is there, and each name but the empty one was split off by who has the
+    -- name before it
     pub names : (name : List ℕ) → total (is name) s.views ≤ 1
     pub authors : (p : ℕ) (x : Signed E) → get_elem? log p ≡ some x → 1 ≤ total (is x.by) s.views
     pub lenders : (name : List ℕ) (k : ℕ) → total (is (name ++ k ∷ [])) s.views ≤ total (lends name k) s.views
-    pub turn : NobodyHolds opening entries o (history log) turn_word s.homes s.views ⊎ OneHolds opening entries o (history log) turn_word s.homes s.views
+    pub turn : NobodyHolds opening entries o (history log) turn_word s.homes s.views ⊎ OneHolds opening entries o
+        (history log) turn_word s.homes s.views
 
 module _ {E O : Type 0} (right : O → List E → Type 0) (opens uses : E → Option ℕ) (o : O) where
   -- what a look at the count tells of the history: all that the seat speaks for fits it
@@ -160,4 +169,5 @@ module _ {E O : Type 0} (right : O → List E → Type 0) (opens uses : E → Op
     pub fair : IsFair opens uses log
     pub each : Each (Fits right o log) (people v)
     pub names : (name : List ℕ) → weigh (is name) (people v) ≤ 1
-    pub authors : IsWhole (people v) → (p : ℕ) (x : Signed E) → get_elem? log p ≡ some x → 1 ≤ weigh (is x.by) (people v)
+    pub authors : IsWhole (people v) → (p : ℕ) (x : Signed E) → get_elem? log p ≡ some x →
+        1 ≤ weigh (is x.by) (people v)

@@ -24,7 +24,8 @@ module _ {T E O : Type 0} where
 
 module _ {T E O : Type 0} (right : O → List E → Type 0) (table : TableId) (o : O) where
   -- a pass of the lock: it shows the lock's opening, and what it has seen is right for it
-  pub record IsSeat (kept : List (Known E)) (turn : Turn E) (slots : List (ℕ × Option T)) (seat : Seat (Option T) (View E O)) : Type 0 where
+  pub record IsSeat (kept : List (Known E)) (turn : Turn E) (slots : List (ℕ × Option T))
+      (seat : Seat (Option T) (View E O)) : Type 0 where
     pub of_lock : seat.table_id ≡ table
     pub shows : seat.me.0 ≡ viewed (Some o) seat.me.0.me kept turn
     pub is_right : right o seat.me.0.me.seen
@@ -48,7 +49,8 @@ module _ {T E O : Type 0} (opening : T → O) (entries : T → List E) where
   -- the turn was taken, and the slot with the state; or nothing changed
   abbrev pub taken : Step (Option T) → Me (Option T) (View E O) → ℕ → Me (Option T) (View E O) → Type 0
   taken st m found m' =
-      (found ≡ 0 → (state : T) × (m'.1 ≡ (0, Some state) ∷ m.1) × (m'.0 ≡ viewed m.0.opening m.0.me m.0.kept (Got (entries state)))
+      (found ≡ 0 → (state : T) × (m'.1 ≡ (0, Some state) ∷ m.1)
+      × (m'.0 ≡ viewed m.0.opening m.0.me m.0.kept (Got (entries state)))
       × ((o : O) → m.0.opening ≡ Some o → opening state ≡ o))
       × (found ≢ 0 → m' ≡ m)
 
@@ -61,12 +63,14 @@ module _ {T E O : Type 0} (right : O → List E → Type 0) (opens uses : E → 
   -- a seat without the turn has seen the history so far
   abbrev pub tied : Step (Option T) → Me (Option T) (View E O) → ℕ → Me (Option T) (View E O) → Type 0
   tied st m found m' = (o : O) → m.0.opening ≡ Some o
-      → (list : List E) × (m' ≡ (viewed m.0.opening (with_seen m.0.me list) m.0.kept m.0.turn, m.1)) × IsTold right opens uses o m.0 list
+      → (list : List E) × (m' ≡ (viewed m.0.opening (with_seen m.0.me list) m.0.kept m.0.turn, m.1))
+      × IsTold right opens uses o m.0 list
 
 module _ {T E O : Type 0} where
   -- the noted entry was added to what the holder has seen and owns
   abbrev pub added : Option E → Step (Option T) → Me (Option T) (View E O) → ℕ → Me (Option T) (View E O) → Type 0
-  added noted st m found m' = (e : E) → noted ≡ Some e → m' ≡ (viewed m.0.opening (with_entry m.0.me e) m.0.kept m.0.turn, m.1)
+  added noted st m found m' =
+      (e : E) → noted ≡ Some e → m' ≡ (viewed m.0.opening (with_entry m.0.me e) m.0.kept m.0.turn, m.1)
 
   -- the turn was given back, and the slot
   abbrev pub given : Step (Option T) → Me (Option T) (View E O) → ℕ → Me (Option T) (View E O) → Type 0

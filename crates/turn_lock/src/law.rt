@@ -16,8 +16,8 @@ impl<T: Counted> TableRule<Option<T>, View<T::Entry, T::Opening>, Snapshot<T>> f
     ghost first = { λ key. newcomer (T.opening key.value) };
 }
 
-/// What a thread takes the turn with. It has no bytes. Contracts see in it which lock it is of, a beginning of the history
-/// that was seen, the entries that were made with it, its name, and whether it holds the turn.
+/// What a thread takes the turn with. It has no bytes. Contracts see in it which lock it is of, a beginning of the
+/// history that was seen, the entries that were made with it, its name, and whether it holds the turn.
 pub type Pass<T: Counted> = Seat<Option<T>, View<T::Entry, T::Opening>>;
 
 pub(crate) type Board<T: Counted> = Table<

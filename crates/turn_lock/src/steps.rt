@@ -54,7 +54,8 @@ pub(crate) fn open_table<T: Counted>(
     requires entries { T.entries state ≡ [] }
     requires right { T.is_right (T.opening state) (T.entries state) }
     requires about { about.now.value ≡ state }
-    ensures pass { IfOk result (λ made. Rests T.is_right made.0.shared.table_id (T.opening made.0.shared.key.value) made.1) }
+    ensures pass { IfOk result (λ made. Rests T.is_right made.0.shared.table_id
+        (T.opening made.0.shared.key.value) made.1) }
     ensures sized { IfOk result (λ made. IsSized made.0.shared.table_id) }
     ensures opening { IfOk result (λ made. T.opening made.0.shared.key.value ≡ T.opening state) }
     ensures known { IfOk result (λ made. known made.1 ≡ newborn) }
@@ -71,11 +72,18 @@ pub(crate) fn open_table<T: Counted>(
 fn receive<T: Counted>(top: &Top<T>, pass: &mut Pass<T>) -> T
     requires sized { IsSized top.now.table_id }
     requires pass { (pass.old.table_id ≡ top.now.table_id) × IsPart (known pass.old) }
-    requires got { (state : T) × (T.opening state ≡ T.opening top.now.key.value) × (pass.old.me ≡ (viewed (Some (T.opening top.now.key.value)) (known pass.old) pass.old.me.0.kept (Got (T.entries state)), (0, Some state) ∷ [])) }
-    ensures pass { IsSeat T.is_right top.now.table_id (T.opening top.now.key.value) pass.old.me.0.kept Held ((0, None) ∷ []) pass.new }
+    requires got { (state : T) × (T.opening state ≡ T.opening top.now.key.value)
+        × (pass.old.me ≡ (
+          viewed (Some (T.opening top.now.key.value)) (known pass.old) pass.old.me.0.kept
+              (Got (T.entries state)),
+          (0, Some state) ∷ [],
+        )) }
+    ensures pass { IsSeat T.is_right top.now.table_id (T.opening top.now.key.value) pass.old.me.0.kept Held
+        ((0, None) ∷ []) pass.new }
     ensures seen { known pass.new ≡ with_seen (known pass.old) (T.entries result) }
     ensures opening { T.opening result ≡ T.opening top.now.key.value }
-    ensures told { IsTold T.is_right T.opens T.uses (T.opening top.now.key.value) (viewed (Some (T.opening top.now.key.value)) (known pass.old) pass.old.me.0.kept Away) (T.entries result) }
+    ensures told { IsTold T.is_right T.opens T.uses (T.opening top.now.key.value)
+        (viewed (Some (T.opening top.now.key.value)) (known pass.old) pass.old.me.0.kept Away) (T.entries result) }
 {
     let state = top.exchange(pass, 0, None).unwrap();
     top.load::<Look>(pass, 0);
@@ -85,11 +93,14 @@ fn receive<T: Counted>(top: &Top<T>, pass: &mut Pass<T>) -> T
 // Waits for the turn, and takes it with the state.
 pub(crate) fn seize<T: Counted, R: Wait>(rt: &R, top: &Top<T>, pass: &mut Pass<T>) -> T
     requires sized { IsSized top.now.table_id }
-    requires pass { IsSeat T.is_right top.now.table_id (T.opening top.now.key.value) pass.old.me.0.kept Away [] pass.old }
-    ensures pass { IsSeat T.is_right top.now.table_id (T.opening top.now.key.value) pass.old.me.0.kept Held ((0, None) ∷ []) pass.new }
+    requires pass { IsSeat T.is_right top.now.table_id (T.opening top.now.key.value) pass.old.me.0.kept
+        Away [] pass.old }
+    ensures pass { IsSeat T.is_right top.now.table_id (T.opening top.now.key.value) pass.old.me.0.kept Held
+        ((0, None) ∷ []) pass.new }
     ensures seen { known pass.new ≡ with_seen (known pass.old) (T.entries result) }
     ensures opening { T.opening result ≡ T.opening top.now.key.value }
-    ensures told { IsTold T.is_right T.opens T.uses (T.opening top.now.key.value) (viewed (Some (T.opening top.now.key.value)) (known pass.old) pass.old.me.0.kept Away) (T.entries result) }
+    ensures told { IsTold T.is_right T.opens T.uses (T.opening top.now.key.value)
+        (viewed (Some (T.opening top.now.key.value)) (known pass.old) pass.old.me.0.kept Away) (T.entries result) }
 {
     'turns: for _ in rt.forever() {
         if top.compare_exchange::<Take>(pass, 1, 0, 1) == 0 {
@@ -104,7 +115,8 @@ pub(crate) fn seize<T: Counted, R: Wait>(rt: &R, top: &Top<T>, pass: &mut Pass<T
 pub(crate) fn note<T: Counted, N: Noted<T::Entry>>(top: &Top<T>, pass: &mut Pass<T>, state: &T)
     requires sized { IsSized top.now.table_id }
     requires pass { IsSeat T.is_right top.now.table_id (T.opening top.now.key.value) [] Held ((0, None) ∷ []) pass.old }
-    requires entry { (e : T.Entry) × (N.noted ≡ Some e) × (T.entries state.now ≡ seen pass.old ++ e ∷ []) × MayAdd T.opens T.uses (seen pass.old) (own pass.old) e }
+    requires entry { (e : T.Entry) × (N.noted ≡ Some e) × (T.entries state.now ≡ seen pass.old ++ e ∷ [])
+        × MayAdd T.opens T.uses (seen pass.old) (own pass.old) e }
     requires opening { T.opening state.now ≡ T.opening top.now.key.value }
     ensures pass { IsSeat T.is_right top.now.table_id (T.opening top.now.key.value) [] Held ((0, None) ∷ []) pass.new }
     ensures entry { (e : T.Entry) → N.noted ≡ Some e → known pass.new ≡ with_entry (known pass.old) e }
@@ -117,9 +129,11 @@ pub(crate) fn note<T: Counted, N: Noted<T::Entry>>(top: &Top<T>, pass: &mut Pass
 // Gives the turn back with the state, and wakes one that waits.
 pub(crate) fn hand_back<T: Counted>(top: &Top<T>, pass: &mut Pass<T>, state: T)
     requires sized { IsSized top.now.table_id }
-    requires pass { IsSeat T.is_right top.now.table_id (T.opening top.now.key.value) pass.old.me.0.kept Held ((0, None) ∷ []) pass.old }
+    requires pass { IsSeat T.is_right top.now.table_id (T.opening top.now.key.value) pass.old.me.0.kept Held
+        ((0, None) ∷ []) pass.old }
     requires state { (T.opening state ≡ T.opening top.now.key.value) × (T.entries state ≡ seen pass.old) }
-    ensures pass { IsSeat T.is_right top.now.table_id (T.opening top.now.key.value) pass.old.me.0.kept Away [] pass.new }
+    ensures pass { IsSeat T.is_right top.now.table_id (T.opening top.now.key.value) pass.old.me.0.kept
+        Away [] pass.new }
     ensures same { known pass.new ≡ known pass.old }
 {
     let empty = top.exchange(pass, 0, Some(state));
@@ -131,9 +145,11 @@ pub(crate) fn hand_back<T: Counted>(top: &Top<T>, pass: &mut Pass<T>, state: T)
 // Leaves the state in the slot, and keeps the turn for good.
 pub(crate) fn shut<T: Counted>(top: &Top<T>, pass: &mut Pass<T>, state: T)
     requires sized { IsSized top.now.table_id }
-    requires pass { IsSeat T.is_right top.now.table_id (T.opening top.now.key.value) pass.old.me.0.kept Held ((0, None) ∷ []) pass.old }
+    requires pass { IsSeat T.is_right top.now.table_id (T.opening top.now.key.value) pass.old.me.0.kept Held
+        ((0, None) ∷ []) pass.old }
     requires state { (T.opening state ≡ T.opening top.now.key.value) × (T.entries state ≡ seen pass.old) }
-    ensures pass { IsSeat T.is_right top.now.table_id (T.opening top.now.key.value) pass.old.me.0.kept Shut [] pass.new }
+    ensures pass { IsSeat T.is_right top.now.table_id (T.opening top.now.key.value) pass.old.me.0.kept
+        Shut [] pass.new }
     ensures same { known pass.new ≡ known pass.old }
 {
     let hole = top.exchange(pass, 0, Some(state));
@@ -148,7 +164,8 @@ pub(crate) fn level<T: Counted>(top: &Top<T>, a: &mut Pass<T>, b: &mut Pass<T>)
     requires b { Rests T.is_right top.now.table_id (T.opening top.now.key.value) b.old }
     ensures a { Rests T.is_right top.now.table_id (T.opening top.now.key.value) a.new }
     ensures b { Rests T.is_right top.now.table_id (T.opening top.now.key.value) b.new }
-    ensures both { (known a.new ≡ with_seen (known a.old) (seen b.new)) × (known b.new ≡ with_seen (known b.old) (seen b.new)) }
+    ensures both { (known a.new ≡ with_seen (known a.old) (seen b.new))
+        × (known b.new ≡ with_seen (known b.old) (seen b.new)) }
     ensures seen { IsPrefix (seen a.old) (seen b.new) × IsPrefix (seen b.old) (seen b.new) }
     ensures apart { ShareNothing (own a.old) (own b.old) }
 {
@@ -163,8 +180,10 @@ pub(crate) fn level<T: Counted>(top: &Top<T>, a: &mut Pass<T>, b: &mut Pass<T>)
 fn visit<T: Counted, R: Wait>(rt: &R, top: &Top<T>, last: &mut Pass<T>, mut pass: Pass<T>)
     requires sized { IsSized top.now.table_id }
     requires pass { Rests T.is_right top.now.table_id (T.opening top.now.key.value) pass }
-    requires last { IsSeat T.is_right top.now.table_id (T.opening top.now.key.value) last.old.me.0.kept Away [] last.old }
-    ensures last { IsSeat T.is_right top.now.table_id (T.opening top.now.key.value) last.new.me.0.kept Away [] last.new }
+    requires last { IsSeat T.is_right top.now.table_id (T.opening top.now.key.value) last.old.me.0.kept
+        Away [] last.old }
+    ensures last { IsSeat T.is_right top.now.table_id (T.opening top.now.key.value) last.new.me.0.kept
+        Away [] last.new }
     ensures same { known last.new ≡ known last.old }
     ensures kept { (k : Known T.Entry) × Grows (known pass) k × (last.new.me.0.kept ≡ k ∷ last.old.me.0.kept) }
 {
@@ -183,7 +202,8 @@ pub(crate) fn gather<T: Counted, R: Wait>(
     requires sized { IsSized top.now.table_id }
     requires each { Each (Rests T.is_right top.now.table_id (T.opening top.now.key.value)) passes.items }
     requires last { Rests T.is_right top.now.table_id (T.opening top.now.key.value) last.old }
-    ensures last { IsSeat T.is_right top.now.table_id (T.opening top.now.key.value) last.new.me.0.kept Away [] last.new }
+    ensures last { IsSeat T.is_right top.now.table_id (T.opening top.now.key.value) last.new.me.0.kept
+        Away [] last.new }
     ensures same { known last.new ≡ known last.old }
     ensures kept { AllGrow (map known passes.items) last.new.me.0.kept }
 {
@@ -195,7 +215,8 @@ pub(crate) fn gather<T: Counted, R: Wait>(
 // The state out of the table of a lock whose turn is held for good.
 pub(crate) fn take_out<T: Counted>(table: Board<T>, pass: Pass<T>) -> T
     requires sized { IsSized table.shared.table_id }
-    requires pass { IsSeat T.is_right table.shared.table_id (T.opening table.shared.key.value) pass.me.0.kept Shut [] pass }
+    requires pass { IsSeat T.is_right table.shared.table_id (T.opening table.shared.key.value) pass.me.0.kept
+        Shut [] pass }
     ensures opening { T.opening result ≡ T.opening table.shared.key.value }
     ensures entries { T.entries result ≡ seen pass }
 {

@@ -29,12 +29,14 @@ pub struct Turns<T: Counted> {
 }
 
 impl<T: Counted> Turns<T> {
-    /// A lock round the state, and its first pass. The state's list is empty, and its opening is the lock's from then on.
+    /// A lock round the state, and its first pass. The state's list is empty, and its opening is the lock's from then
+    /// on.
     ///
     /// Refused only if memory runs out.
     pub fn new(alloc: Global, state: T) -> Result<(Turns<T>, Pass<T>), Unmade<T>>
         requires { T.entries state ≡ [] }
-        ensures pass { IfOk result (λ made. Rests T.is_right made.0.table.shared.table_id (T.opening made.0.table.shared.key.value) made.1) }
+        ensures pass { IfOk result (λ made. Rests T.is_right made.0.table.shared.table_id
+            (T.opening made.0.table.shared.key.value) made.1) }
         ensures opening { IfOk result (λ made. T.opening made.0.table.shared.key.value ≡ T.opening state) }
         ensures known { IfOk result (λ made. known made.1 ≡ newborn) }
         ensures refused { IfErr result (λ e. e.state ≡ state) }
@@ -47,8 +49,10 @@ impl<T: Counted> Turns<T> {
 
     /// Takes the turn, with the state. It may wait.
     pub fn take<R: Wait>(&self, rt: &R, pass: &mut Pass<T>) -> T
-        requires { Rests T.is_right self.now.table.shared.table_id (T.opening self.now.table.shared.key.value) pass.old }
-        ensures pass { HoldsTurn T.is_right self.now.table.shared.table_id (T.opening self.now.table.shared.key.value) pass.new }
+        requires { Rests T.is_right self.now.table.shared.table_id
+            (T.opening self.now.table.shared.key.value) pass.old }
+        ensures pass { HoldsTurn T.is_right self.now.table.shared.table_id
+            (T.opening self.now.table.shared.key.value) pass.new }
         ensures opening { T.opening result ≡ T.opening self.now.table.shared.key.value }
         ensures entries { T.entries result ≡ seen pass.new }
         ensures known { known pass.new ≡ with_seen (known pass.old) (seen pass.new) }
@@ -60,21 +64,27 @@ impl<T: Counted> Turns<T> {
 
     /// Adds the state's last entry to the history. The pass holds the turn.
     pub fn step(&self, pass: &mut Pass<T>, state: &T)
-        requires pass { HoldsTurn T.is_right self.now.table.shared.table_id (T.opening self.now.table.shared.key.value) pass.old }
+        requires pass { HoldsTurn T.is_right self.now.table.shared.table_id
+            (T.opening self.now.table.shared.key.value) pass.old }
         requires opening { T.opening state.now ≡ T.opening self.now.table.shared.key.value }
-        requires entry { (e : T.Entry) × (T.entries state.now ≡ seen pass.old ++ e ∷ []) × MayAdd T.opens T.uses (seen pass.old) (own pass.old) e }
-        ensures pass { HoldsTurn T.is_right self.now.table.shared.table_id (T.opening self.now.table.shared.key.value) pass.new }
-        ensures known { (e : T.Entry) → T.entries state.now ≡ seen pass.old ++ e ∷ [] → known pass.new ≡ with_entry (known pass.old) e }
+        requires entry { (e : T.Entry) × (T.entries state.now ≡ seen pass.old ++ e ∷ [])
+            × MayAdd T.opens T.uses (seen pass.old) (own pass.old) e }
+        ensures pass { HoldsTurn T.is_right self.now.table.shared.table_id
+            (T.opening self.now.table.shared.key.value) pass.new }
+        ensures known { (e : T.Entry) → T.entries state.now ≡ seen pass.old ++ e ∷ [] →
+            known pass.new ≡ with_entry (known pass.old) e }
     {
         note::<T, Brand>(&self.table.shared, pass, state);
     }
 
     /// Gives the turn back, with the state.
     pub fn give(&self, pass: &mut Pass<T>, state: T)
-        requires pass { HoldsTurn T.is_right self.now.table.shared.table_id (T.opening self.now.table.shared.key.value) pass.old }
+        requires pass { HoldsTurn T.is_right self.now.table.shared.table_id
+            (T.opening self.now.table.shared.key.value) pass.old }
         requires opening { T.opening state ≡ T.opening self.now.table.shared.key.value }
         requires entries { T.entries state ≡ seen pass.old }
-        ensures pass { Rests T.is_right self.now.table.shared.table_id (T.opening self.now.table.shared.key.value) pass.new }
+        ensures pass { Rests T.is_right self.now.table.shared.table_id
+            (T.opening self.now.table.shared.key.value) pass.new }
         ensures known { known pass.new ≡ known pass.old }
     {
         hand_back(&self.table.shared, pass, state);
@@ -82,9 +92,12 @@ impl<T: Counted> Turns<T> {
 
     /// A further pass, which has seen as much and owns nothing.
     pub fn split(&self, pass: &mut Pass<T>) -> Result<Pass<T>, OutOfMemory>
-        requires { Rests T.is_right self.now.table.shared.table_id (T.opening self.now.table.shared.key.value) pass.old }
-        ensures pass { Rests T.is_right self.now.table.shared.table_id (T.opening self.now.table.shared.key.value) pass.new }
-        ensures further { IfOk result (λ other. Rests T.is_right self.now.table.shared.table_id (T.opening self.now.table.shared.key.value) other) }
+        requires { Rests T.is_right self.now.table.shared.table_id
+            (T.opening self.now.table.shared.key.value) pass.old }
+        ensures pass { Rests T.is_right self.now.table.shared.table_id
+            (T.opening self.now.table.shared.key.value) pass.new }
+        ensures further { IfOk result (λ other. Rests T.is_right self.now.table.shared.table_id
+            (T.opening self.now.table.shared.key.value) other) }
         ensures split { IfOk result (λ other. known other ≡ split_off (known pass.old)) }
         ensures known { OnOk result (known pass.new ≡ after_split (known pass.old)) }
         ensures refused { OnErr result (known pass.new ≡ known pass.old) }
@@ -109,11 +122,12 @@ impl<T: Counted> Turns<T> {
         Ok(())
     }
 
-    /// Ends the lock, and gives the state. It takes the turn with each pass but the last and gives it back, joins these passes
-    /// into the last one, and takes the turn with that one for good. There is a pass. It may wait.
+    /// Ends the lock, and gives the state. It takes the turn with each pass but the last and gives it back, joins
+    /// these passes into the last one, and takes the turn with that one for good. There is a pass. It may wait.
     pub fn close<R: Wait>(self, rt: &R, mut passes: Vec<Pass<T>>) -> T
         requires some { 0 < vec_len passes }
-        requires each { All (Rests T.is_right self.table.shared.table_id (T.opening self.table.shared.key.value)) passes.items }
+        requires each { All (Rests T.is_right self.table.shared.table_id (T.opening self.table.shared.key.value))
+            passes.items }
         ensures opening { T.opening result ≡ T.opening self.table.shared.key.value }
         ensures right { T.is_right (T.opening self.table.shared.key.value) (T.entries result) }
         ensures seen { Each (λ p. IsPrefix (seen p) (T.entries result)) passes.items }

@@ -5,7 +5,8 @@ use Rattle.turn_lock.specs.History.{Stands}
 use Rattle.turn_lock_example.specs.declared.tally.Mark.{Mark}
 use Rattle.turn_lock_example.specs.declared.tally.Mark.TheVariants.{Drawn, Back}
 
--- the next number behind the marks, the next one before them being n: each is drawn in order, and given back after it was drawn
+-- the next number behind the marks, the next one before them being n: each is drawn in order, and given back after it
+-- was drawn
 abbrev pub run : ℕ → List Mark → Option ℕ
 run n [] = Some n
 run n (Drawn m ∷ marks) = if m == n then run (n + 1) marks else None

@@ -42,7 +42,8 @@ impl Tally {
 
     /// Draws the next number.
     pub fn draw(&mut self) -> Result<u64, OutOfMemory>
-        ensures drawn { IfOk result (λ n. (n ≡ self.old.next) × (self.new.marks.items ≡ self.old.marks.items ++ Drawn n ∷ [])) }
+        ensures drawn { IfOk result (λ n. (n ≡ self.old.next)
+            × (self.new.marks.items ≡ self.old.marks.items ++ Drawn n ∷ [])) }
         ensures refused { OnErr result (self.new.marks.items ≡ self.old.marks.items) }
     {
         let number = self.next;

@@ -75,7 +75,8 @@ pub fn work<R: Wait>(rt: &R, lock: &Turns<Tally>, pass: &mut Pass<Tally>, rounds
 
 // The lock with two passes of it, which have met.
 fn two_passes(alloc: Global) -> Result<(Turns<Tally>, Vec<Pass<Tally>>), OutOfMemory>
-    ensures { IfOk result (λ made. All (Rests IsRun made.0.table.shared.table_id tt) made.1.items × (vec_len made.1 ≡ 2)) }
+    ensures { IfOk result (λ made. All (Rests IsRun made.0.table.shared.table_id tt) made.1.items
+        × (vec_len made.1 ≡ 2)) }
 {
     let Ok((lock, mut first)) = Turns::new(alloc, Tally::new(alloc)) else {
         return Err(OutOfMemory);

@@ -47,7 +47,8 @@ finished_of t = record {
 
 -- what is done with these parameters of a statement, or why it is refused
 abbrev pub effect_with : Opened → List Value → Result Statement Refusal → Result Effect Refusal
-effect_with t params read = if_read (λ st. if_shallow (first_deep params) (run.effect_of t.begun t.base t.done params st)) read
+effect_with t params read =
+    if_read (λ st. if_shallow (first_deep params) (run.effect_of t.begun t.base t.done params st)) read
 
 abbrev pub done_as : Opened → List Value → Statement → Result Effect Refusal
 done_as t params statement = effect_with t params (counted statement params)

@@ -20,5 +20,6 @@ so_far t e = changed_by t.done e
 
 -- the value is a document more behind those so far, or it isn't stored for this cause
 abbrev pub Stores : Opened → TableId → Value → Effect → Result (Unit {0}) Stopped → Effect → Type 0
-Stores t table v e (Ok done) now = (not_stored (so_far t e) v ≡ None) × (now ≡ both e (new_document (next_id t.begun (so_far t e)) table v))
+Stores t table v e (Ok done) now =
+    (not_stored (so_far t e) v ≡ None) × (now ≡ both e (new_document (next_id t.begun (so_far t e)) table v))
 Stores t table v e (Err stopped) now = StopsFor stopped (λ cause. not_stored (so_far t e) v ≡ Some cause)

@@ -22,8 +22,8 @@ use Rattle.ledger_model.specs.Run.{Begun, Effect, Progress, recorded, step}
 use Rattle.txn_core.specs.declared.stopped.Stopped.{Stopped}
 use Rattle.txn_core.specs.declared.stopped.Stopped.TheVariants as stopped
 
--- the mask of the ids and the transaction's number, its place in the script, the state on which it runs with the number of blocks
--- that it stands for, what its statements have done so far, and whether one of them was refused
+-- the mask of the ids and the transaction's number, its place in the script, the state on which it runs with the
+-- number of blocks that it stands for, what its statements have done so far, and whether one of them was refused
 pub record Opened : Type 0 where
   pub begun : Begun
   pub place : Place
@@ -33,21 +33,32 @@ pub record Opened : Type 0 where
   pub ended : Bool
 
 abbrev pub begun_code : Coded Begun
-begun_code = code_by (ℕ × ℕ) (coded× coded_ℕ coded_ℕ) (λ b. (b.mask, b.number)) (λ p. record { mask = p.0; number = p.1 }) (λ _. refl)
+begun_code =
+    code_by (ℕ × ℕ) (coded× coded_ℕ coded_ℕ) (λ b. (b.mask, b.number))
+    (λ p. record { mask = p.0; number = p.1 }) (λ _. refl)
 
 abbrev pub progress_code : Coded Progress
 progress_code =
     code_by (List Said × (List Schema × (List Draft × (ℕ × List Item))))
-    (coded× (coded_list said.the_row.coded) (coded× (coded_list schema.the_row.coded) (coded× (coded_list draft.the_row.coded) (coded× coded_ℕ (coded_list item.the_row.coded)))))
+    (coded× (coded_list said.the_row.coded) (coded× (coded_list schema.the_row.coded)
+    (coded× (coded_list draft.the_row.coded) (coded× coded_ℕ (coded_list item.the_row.coded)))))
     (λ p. (p.said, (p.schema, (p.log, (p.made, p.footprint)))))
     (λ t. record { said = t.0; schema = t.1.0; log = t.1.1.0; made = t.1.1.1.0; footprint = t.1.1.1.1 }) (λ _. refl)
 
 abbrev pub opened_code : Coded Opened
 opened_code =
     code_by (Begun × (Place × (State × (ℕ × (Progress × Bool)))))
-    (coded× begun_code (coded× place.the_row.coded (coded× state_code (coded× coded_ℕ (coded× progress_code coded_bool)))))
+    (coded× begun_code (coded× place.the_row.coded
+    (coded× state_code (coded× coded_ℕ (coded× progress_code coded_bool)))))
     (λ t. (t.begun, (t.place, (t.base, (t.since, (t.done, t.ended))))))
-    (λ p. record { begun = p.0; place = p.1.0; base = p.1.1.0; since = p.1.1.1.0; done = p.1.1.1.1.0; ended = p.1.1.1.1.1 }) (λ _. refl)
+    (λ p. record {
+      begun = p.0;
+      place = p.1.0;
+      base = p.1.1.0;
+      since = p.1.1.1.0;
+      done = p.1.1.1.1.0;
+      ended = p.1.1.1.1.1;
+    }) (λ _. refl)
 
 abbrev pub asked : List ℕ → List Value → Request
 asked text params = record { text = text; params = params }
@@ -80,15 +91,17 @@ Performed t r (Err why) now = IsStopped t r why now
 
 -- the statement stands last with these rows
 abbrev pub IsSaid : Opened → Request → List Value → Opened → Type 0
-IsSaid t r rows now = now.done.said ≡ t.done.said ++ record { text = r.text; params = r.params; answer = record { rows = rows } } ∷ []
+IsSaid t r rows now =
+    now.done.said ≡ t.done.said ++ record { text = r.text; params = r.params; answer = record { rows = rows } } ∷ []
 
 -- the same with the rows of the answer
 abbrev pub Told : Opened → Request → Result (List Value) Stopped → Opened → Type 0
 Told t r (Ok rows) now = Steps t r now × IsSaid t r rows now
 Told t r (Err why) now = IsStopped t r why now
 
--- An ended transaction returns Ended and is unchanged; so it is if memory runs out. Any other statement is a step of the run:
--- it is done, and its answer is the step's; or it is refused for the step's cause, and the transaction is ended.
+-- An ended transaction returns Ended and is unchanged; so it is if memory runs out. Any other statement is a step of
+-- the run: it is done, and its answer is the step's; or it is refused for the step's cause, and the transaction is
+-- ended.
 abbrev pub Executed : Opened → Request → Result Answer Refusal → Opened → Type 0
 Executed t r (Ok answer) now = (t.ended ≡ false) × Steps t r now × IsSaid t r answer.rows now
 Executed t r (Err cause) now =

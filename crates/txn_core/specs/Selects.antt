@@ -29,6 +29,8 @@ first_absent_in tables [] = None
 first_absent_in tables (x ∷ xs) = or_else (absent_in tables (table_in x.from)) (first_absent_in tables xs)
 
 -- the rows of the answer over a state and documents with their latest revisions
-abbrev pub answer_in : List state.Table → State → List Draft → List Value → Select → FromClause → Result (List Value) Refusal
+abbrev pub answer_in : List state.Table → State → List Draft → List Value → Select → FromClause →
+    Result (List Value) Refusal
 answer_in tables base documents params select from =
-    without (first_absent_in tables from.sources) (Ok (answered params (rows_of (views_among tables base documents) params from) select))
+    without (first_absent_in tables from.sources) (Ok
+    (answered params (rows_of (views_among tables base documents) params from) select))

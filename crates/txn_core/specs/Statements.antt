@@ -1,4 +1,5 @@
--- Why a text is no statement, which changes create a table, and why a value isn't stored behind a transaction's revisions so far.
+-- Why a text is no statement, which changes create a table, and why a value isn't stored behind a transaction's
+-- revisions so far.
 use Rattle.std.specs.Prelude.{Bool, true, false, List, [], Option, Result, Ok, Err}
 use Rattle.ion_values.specs.declared.value.Value.{Value}
 use Rattle.pql_model.specs.declared.statement.Statement.{Statement}

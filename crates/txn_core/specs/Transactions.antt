@@ -32,4 +32,5 @@ not_indexed indexes name field table = or_else (existing_index indexes name fiel
 
 -- why no table of this name is created
 abbrev pub not_created : List state.Table → List Schema → List ℕ → Option Refusal
-not_created tables changes name = or_else (reserved name) (or_else (existing name (active_table tables name)) (no_table_more tables changes))
+not_created tables changes name =
+    or_else (reserved name) (or_else (existing name (active_table tables name)) (no_table_more tables changes))

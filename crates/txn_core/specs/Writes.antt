@@ -40,7 +40,8 @@ writes (written.Roots roots) n = list_any (is_at n) roots
 -- ---- rows
 
 -- the rows of a FROM over a state and documents with their latest revisions, or why there are none
-abbrev pub rows_seen : List state.Table → state.State → List Draft → List Value → FromClause → Result (List Combined) Refusal
+abbrev pub rows_seen : List state.Table → state.State → List Draft → List Value → FromClause →
+    Result (List Combined) Refusal
 rows_seen tables base documents params from =
     without (first_absent_in tables from.sources) (Ok (rows_of (views_among tables base documents) params from))
 
@@ -74,7 +75,8 @@ pub record Stands (t : Opened) (now : Touching) : Type 0 where
 -- the document is touched behind those before
 pub record Touches (t : Opened) (id : DocId) (c : Content) (before now : Touching) : Type 0 where
   pub stands : Stands t now
-  pub effect : effect_of now.effect ≡ both (effect_of before.effect) (touching t.base (so_far t (effect_of before.effect)) id c)
+  pub effect : effect_of now.effect ≡ both (effect_of before.effect)
+      (touching t.base (so_far t (effect_of before.effect)) id c)
 
 -- why the document isn't given its content
 abbrev pub not_changed : Opened → Row → Touching → Option Refusal

@@ -17,8 +17,8 @@ use std::alloc::Global;
 use versions::active_table;
 
 impl Txn {
-    /// What creates a table of this name. It stops with `ReservedName` where the name is the ledger's own, with `TableExists`
-    /// where an active table has it, and with `TooManyTables` where there are as many as there may be.
+    /// What creates a table of this name. It stops with `ReservedName` where the name is the ledger's own, with
+    /// `TableExists` where an active table has it, and with `TooManyTables` where there are as many as there may be.
     pub(crate) fn create(&self, alloc: Global, name: &Text) -> Result<Effect, Stopped>
         ensures { Does result (created self.now.begun self.now.base self.now.done name.now) }
     {

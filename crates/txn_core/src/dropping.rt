@@ -11,8 +11,8 @@ use ledger_model::Schema;
 use std::alloc::Global;
 
 impl Txn {
-    /// What drops the table of this name. It stops with `ReservedName` where the name is the ledger's own, and with `NoSuchTable`
-    /// where no active table has it.
+    /// What drops the table of this name. It stops with `ReservedName` where the name is the ledger's own, and with
+    /// `NoSuchTable` where no active table has it.
     pub(crate) fn drop_table(&self, alloc: Global, name: &Text) -> Result<Effect, Stopped>
         ensures { Does result (dropped self.now.base self.now.done name.now) }
     {

@@ -20,8 +20,8 @@ use ql_types::{DocId, TableId};
 use std::alloc::Global;
 
 impl Txn {
-    /// What inserts what the expression means into the table of this name. It stops with `ReservedName` where the name is the
-    /// ledger's own, with `NoSuchTable` where no active table has it, and where a document isn't stored.
+    /// What inserts what the expression means into the table of this name. It stops with `ReservedName` where the
+    /// name is the ledger's own, with `NoSuchTable` where no active table has it, and where a document isn't stored.
     pub(crate) fn insert(
         &self,
         alloc: Global,

@@ -31,4 +31,4 @@ mod views;
 pub use runs::Ran;
 pub use stopped::Stopped;
 pub use table_views::TableViews;
-pub use transaction::{Finished, Txn, start_txn};
+pub use transaction::{Drawn, Finished, Txn, start_txn};

@@ -67,17 +67,17 @@ pub struct Finished {
     pub drafts: Drafts,
 }
 
+/// The number that a transaction drew, and the mask of its ledger's ids.
+#[derive(Clone, Copy)]
+pub struct Drawn {
+    pub mask: IdMask,
+    pub number: u64,
+}
+
 /// The transaction of this number and place of the script, on this version of `since` blocks. It takes no memory.
-pub fn start_txn(
-    alloc: Global,
-    base: Versions,
-    since: u64,
-    mask: IdMask,
-    number: u64,
-    place: Place,
-) -> Txn
+pub fn start_txn(alloc: Global, base: Versions, since: u64, drawn: Drawn, place: Place) -> Txn
     ensures { result ≡ record {
-      begun = record { mask = mask.bits; number = number };
+      begun = record { mask = drawn.mask.bits; number = drawn.number };
       place = place;
       base = base;
       since = since;
@@ -85,6 +85,7 @@ pub fn start_txn(
       ended = false;
     } }
 {
+    let Drawn { mask, number } = drawn;
     Txn {
         mask,
         number,
@@ -169,8 +170,8 @@ impl Txn {
         })
     }
 
-    /// The number of the next id after `more` further ones. `OutOfMemory` comes also if the transaction has made as many
-    /// as it can.
+    /// The number of the next id after `more` further ones. `OutOfMemory` comes also if the transaction has made as
+    /// many as it can.
     pub(crate) fn next_id(&self, more: u32) -> Result<u128, OutOfMemory>
         ensures id { IfOk result (λ raw. raw ≡ id_after self.now more) }
         ensures room { OnOk result (more + 1 < 2 ^ 24) }
@@ -214,8 +215,8 @@ impl Txn {
         }
     }
 
-    /// The table of this name, for a statement that changes its schema. It stops with `ReservedName` where the name is the ledger's
-    /// own, and with `NoSuchTable` where no active table has it.
+    /// The table of this name, for a statement that changes its schema. It stops with `ReservedName` where the name
+    /// is the ledger's own, and with `NoSuchTable` where no active table has it.
     pub(crate) fn table_changed(&self, alloc: Global, name: &Text) -> Result<TableId, Stopped>
         ensures { Comes result (found_unless (reserved name.now) name.now
             (table_now self.now.base self.now.done name.now)) }

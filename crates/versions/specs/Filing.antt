@@ -20,7 +20,8 @@ is_filed order key (Some own) = is_eq (order key own)
 
 -- each key has the places of the members with it
 abbrev pub AreFiled : {K X : Type 0} → (K → K → Ordering) → (X → Option K) → List (K × List ℕ) → List X → Type 0
-AreFiled {K} order key_of filed xs = (key : K) → positions_by order filed key ≡ places_from (λ x. is_filed order key (key_of x)) 0 xs
+AreFiled {K} order key_of filed xs =
+    (key : K) → positions_by order filed key ≡ places_from (λ x. is_filed order key (key_of x)) 0 xs
 
 -- the key of a member, where there is one
 abbrev pub old_key : {K X : Type 0} → (X → Option K) → Option X → Option K

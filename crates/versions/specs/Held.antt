@@ -53,4 +53,5 @@ abbrev pub state_code : Coded state.State
 state_code =
     code_by (List state.Recorded × (List state.Table × List state.Indexed))
     (coded× (coded_list recorded_code) (coded× (coded_list table_code) (coded_list indexed_code)))
-    (λ s. (s.revisions, (s.tables, s.indexes))) (λ p. record { revisions = p.0; tables = p.1.0; indexes = p.1.1 }) (λ _. refl)
+    (λ s. (s.revisions, (s.tables, s.indexes))) (λ p.
+    record { revisions = p.0; tables = p.1.0; indexes = p.1.1 }) (λ _. refl)

@@ -46,10 +46,12 @@ AreIndexes documents (i ∷ is) (p ∷ ps) = IsIndex documents i p × AreIndexes
 abbrev pub tree_on : List Indexed → List (List (Key × List ℕ)) → TableId → List ℕ → Option (List (Key × List ℕ))
 tree_on [] ps table field = None
 tree_on (i ∷ is) [] table field = None
-tree_on (i ∷ is) (p ∷ ps) table field = if (i.table.raw == table.raw) && bytes_eq i.field field then Some p else tree_on is ps table field
+tree_on (i ∷ is) (p ∷ ps) table field =
+    if (i.table.raw == table.raw) && bytes_eq i.field field then Some p else tree_on is ps table field
 
--- the ids of the table's documents that aren't deleted and whose latest content has the key in its first field of the name, in
--- order of first insertion
+-- the ids of the table's documents that aren't deleted and whose latest content has the key in its first field of the
+-- name, in order of first insertion
 abbrev pub documents_with : List state.Recorded → TableId → List ℕ → Key → List DocId
 documents_with revisions table field key =
-    map (λ row. row.id) (meeting (probe.Key field key) (filter_map (row_of table) (latest (map state.draft_of revisions))))
+    map (λ row. row.id) (meeting (probe.Key field key)
+    (filter_map (row_of table) (latest (map state.draft_of revisions))))

@@ -32,9 +32,10 @@ is_same_table (Some a) (Some b) = a.raw == b.raw
 abbrev pub AllFit : List state.Recorded → Type 0
 AllFit revisions = AllByRecursion (λ (r : state.Recorded). r.revision.metadata.id.raw < 2 ^ 128) revisions
 
--- beside all revisions stand the latest one and the history of each document, the revisions of each table, and the places of
--- its documents that aren't deleted
-pub record IsWhole (revisions latest : List Recorded) (kept : List (List Recorded)) (tables : List (TableId × List Recorded))
+-- beside all revisions stand the latest one and the history of each document, the revisions of each table, and the
+-- places of its documents that aren't deleted
+pub record IsWhole (revisions latest : List Recorded) (kept : List (List Recorded))
+    (tables : List (TableId × List Recorded))
     (live : List (TableId × List ℕ)) : Type 0 where
   pub newest_is : latest ≡ newest revisions
   pub kept_is : kept ≡ histories revisions

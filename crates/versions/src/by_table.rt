@@ -37,7 +37,8 @@ pub(crate) fn table_entered(
     tables: &ByTable,
     item: Arc<Recorded>,
 ) -> Result<ByTable, OutOfMemory>
-    ensures { IfOk result (λ new. (rs : List held.Recorded) → AreByTable tables.now rs → AreByTable new (rs ++ arc_value item ∷ [])) }
+    ensures { IfOk result (λ new. (rs : List held.Recorded) → AreByTable tables.now rs →
+        AreByTable new (rs ++ arc_value item ∷ [])) }
 {
     let table = item.table;
     let rows = had_with(alloc, tables, table, item)?;

@@ -117,7 +117,8 @@ impl Documents {
         tables: &[TableId],
         revisions: &[Revision],
     ) -> Result<Documents, OutOfMemory>
-        ensures revisions { IfOk result (λ new. map recorded_of new.0 ≡ map recorded_of self.now.0 ++ recorded_in tables.now revisions.now) }
+        ensures revisions { IfOk result (λ new. map recorded_of new.0 ≡ map recorded_of self.now.0
+            ++ recorded_in tables.now revisions.now) }
         ensures indexes { IfOk result (λ new. new.1 ≡ self.now.1) }
     {
         let mut new = self.share()?;
@@ -149,7 +150,8 @@ impl Documents {
     /// The documents with the indexes more that the changes make.
     pub(crate) fn indexed_all(&self, changes: &[Schema]) -> Result<Documents, OutOfMemory>
         ensures revisions { IfOk result (λ new. new.0 ≡ self.now.0) }
-        ensures indexes { IfOk result (λ new. map indexed_of new.1 ≡ all_indexed (map indexed_of self.now.1) changes.now) }
+        ensures indexes { IfOk result (λ new. map indexed_of new.1
+            ≡ all_indexed (map indexed_of self.now.1) changes.now) }
     {
         let mut new = self.share()?;
         'changes: for change in changes {
@@ -174,8 +176,8 @@ impl Documents {
         }
     }
 
-    /// The ids of the table's documents that aren't deleted and whose latest content has the key in its first field of the
-    /// name, in order of first insertion.
+    /// The ids of the table's documents that aren't deleted and whose latest content has the key in its first field
+    /// of the name, in order of first insertion.
     pub(crate) fn with_key(
         &self,
         table: TableId,

@@ -44,7 +44,8 @@ pub(crate) fn revision_in(
     place: Option<u64>,
     number: u64,
 ) -> Option<&Recorded>
-    ensures { (id : ℕ) → place ≡ place_in (owners histories.now) id → option_copied result ≡ slice_get (history_in histories.now id) number }
+    ensures { (id : ℕ) → place ≡ place_in (owners histories.now) id →
+        option_copied result ≡ slice_get (history_in histories.now id) number }
 {
     let history = histories.get(place?)?;
     history.get(number)

@@ -43,7 +43,8 @@ fn index_after(
     spot: &Spot<'_>,
     item: &Recorded,
 ) -> Result<Shared<Postings>, OutOfMemory>
-    ensures { IfOk result (λ new. (ds : List held.Recorded) → IsSpot ds (id_of item.now) spot.now.at (option_copied spot.now.old)
+    ensures { IfOk result (λ new. (ds : List held.Recorded) →
+        IsSpot ds (id_of item.now) spot.now.at (option_copied spot.now.old)
         → IsIndex ds index.now postings.now → IsIndex (put ds item.now) index.now new) }
 {
     let old = old_key(alloc, index, spot.old)?;

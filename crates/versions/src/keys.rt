@@ -34,7 +34,8 @@ pub(crate) fn old_key(
     index: &Indexed,
     old: Option<&Recorded>,
 ) -> Result<Option<Key>, OutOfMemory>
-    ensures { IfOk result (λ found. found ≡ old_key (held.key_on index.now.table index.now.field) (option_copied old.entry)) }
+    ensures { IfOk result (λ found. found ≡ old_key (held.key_on index.now.table index.now.field)
+        (option_copied old.entry)) }
 {
     match old {
         None => Ok(None),

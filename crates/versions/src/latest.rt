@@ -257,7 +257,8 @@ fn push_some<'a>(
     all: &mut Sequence<&'a Recorded>,
     document: Option<&'a Recorded>,
 ) -> Result<(), OutOfMemory>
-    ensures { OnOk result (map (λ r. r.now) all.new ≡ map (λ r. r.now) all.old ++ cons_option (option_copied document.entry) []) }
+    ensures { OnOk result (map (λ r. r.now) all.new ≡ map (λ r. r.now) all.old
+        ++ cons_option (option_copied document.entry) []) }
 {
     match document {
         None => Ok(()),

@@ -71,7 +71,8 @@ pub(crate) fn live_after(
     spot: &Spot<'_>,
     item: &Recorded,
 ) -> Result<Live, OutOfMemory>
-    ensures { IfOk result (λ new. (ds : List held.Recorded) → IsSpot ds (id_of item.now) spot.now.at (option_copied spot.now.old)
+    ensures { IfOk result (λ new. (ds : List held.Recorded) →
+        IsSpot ds (id_of item.now) spot.now.at (option_copied spot.now.old)
         → AreFiled by_table live_table live.now ds → AreFiled by_table live_table new (put ds item.now)) }
 {
     let old = old_table(spot.old);
@@ -92,7 +93,8 @@ pub(crate) fn ids_at(
     latest: &Latest,
     places: Positions<'_>,
 ) -> Result<DocIds, OutOfMemory>
-    ensures { IfOk result (λ ids. ids ≡ map (λ (r : held.Recorded). r.revision.metadata.id) (filter_map (λ at. slice_get latest.now at) places.entry)) }
+    ensures { IfOk result (λ ids. ids ≡ map (λ (r : held.Recorded). r.revision.metadata.id)
+        (filter_map (λ at. slice_get latest.now at) places.entry)) }
 {
     let mut places = places;
     let mut ids = Sequence::new(alloc);

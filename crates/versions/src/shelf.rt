@@ -120,7 +120,8 @@ impl Shelf {
     #[tactic(auto, using(crate::proofs::Newest::lent_newest, crate::proofs::LastOnes::lent_last))]
     pub(crate) fn newest(&self, alloc: Global) -> Result<Sequence<&Recorded>, OutOfMemory>
         ensures drafts { IfOk result (λ all. drafts_lent all ≡ latest (map draft_of (map recorded_of self.now))) }
-        ensures last { IfOk result (λ all. map (λ r. Some r) (recorded_lent all) ≡ last_of_each (map recorded_of self.now)) }
+        ensures last { IfOk result (λ all. map (λ r. Some r) (recorded_lent all)
+            ≡ last_of_each (map recorded_of self.now)) }
     {
         let all = self.latest.all(alloc)?;
         Ok(all)
@@ -132,8 +133,10 @@ impl Shelf {
         alloc: Global,
         ids: &[DocId],
     ) -> Result<Sequence<&Recorded>, OutOfMemory>
-        ensures drafts { IfOk result (λ all. drafts_lent all ≡ those_among ids.now (latest (map draft_of (map recorded_of self.now)))) }
-        ensures last { IfOk result (λ all. map (λ r. Some r) (recorded_lent all) ≡ last_among ids.now (map recorded_of self.now)) }
+        ensures drafts { IfOk result (λ all. drafts_lent all
+            ≡ those_among ids.now (latest (map draft_of (map recorded_of self.now)))) }
+        ensures last { IfOk result (λ all. map (λ r. Some r) (recorded_lent all)
+            ≡ last_among ids.now (map recorded_of self.now)) }
     {
         let all = self.latest.among(alloc, ids)?;
         Ok(all)
@@ -170,14 +173,16 @@ impl Shelf {
 
     /// The revision of this number of a document, counted from 0, or None where there is none.
     pub(crate) fn revision(&self, id: DocId, number: u64) -> Option<&Recorded>
-        ensures { option_map recorded_of (option_copied result) ≡ slice_get (revisions_of (map recorded_of self.now) id.raw) number }
+        ensures { option_map recorded_of (option_copied result)
+            ≡ slice_get (revisions_of (map recorded_of self.now) id.raw) number }
     {
         revision_in(&self.histories, self.latest.place_of(id), number)
     }
 
     /// The revision of this number of a table in block order, counted from 0, or None where it has no more.
     pub(crate) fn revision_at(&self, table: TableId, i: u64) -> Option<&Recorded>
-        ensures { option_map recorded_of (option_copied result) ≡ slice_get (revisions_in (map recorded_of self.now) table) i }
+        ensures { option_map recorded_of (option_copied result)
+            ≡ slice_get (revisions_in (map recorded_of self.now) table) i }
     {
         revision_of(&self.by_table, table, i)
     }
@@ -203,7 +208,8 @@ type Owner = Arc<Recorded>;
 
 /// Four owners of the revision.
 fn four(alloc: Global, item: Recorded) -> Result<(Owner, Owner, Owner, Owner), OutOfMemory>
-    ensures { IfOk result (λ all. (arc_value all.0 ≡ item) × (arc_value all.1 ≡ item) × (arc_value all.2 ≡ item) × (arc_value all.3 ≡ item)) }
+    ensures { IfOk result (λ all. (arc_value all.0 ≡ item) × (arc_value all.1 ≡ item) × (arc_value all.2 ≡ item)
+        × (arc_value all.3 ≡ item)) }
 {
     let one = Arc::new(alloc, item)?;
     let other = Arc::try_clone(&one)?;

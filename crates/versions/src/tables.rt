@@ -220,7 +220,8 @@ pub fn index_all(
     indexes: &mut Vec<Indexed>,
     changes: &[Schema],
 ) -> Result<(), OutOfMemory>
-    ensures { OnOk result (map indexed_of indexes.new.items ≡ all_indexed (map indexed_of indexes.old.items) changes.now) }
+    ensures { OnOk result (map indexed_of indexes.new.items
+        ≡ all_indexed (map indexed_of indexes.old.items) changes.now) }
 {
     'changes: for change in changes {
         index_one(alloc, indexes, change)?;

@@ -63,9 +63,9 @@ impl Versions {
         }
     }
 
-    /// The state after one block more, as a new version. The block's revisions are copied; all others are shared, but for
-    /// some hundred pointers a revision and, over many blocks, the square root of the number of documents. Tables and indexes are
-    /// copied where the block changes the schema.
+    /// The state after one block more, as a new version. The block's revisions are copied; all others are shared, but
+    /// for some hundred pointers a revision and, over many blocks, the square root of the number of documents. Tables
+    /// and indexes are copied where the block changes the schema.
     pub fn after(&self, block: &Block) -> Result<Versions, OutOfMemory>
         ensures { IfOk result (λ v. v ≡ after self.now block.now) }
     {
@@ -163,10 +163,11 @@ impl Versions {
         }
     }
 
-    /// The document's revision of this version, or None where there is none. A document's versions count its revisions from 0,
-    /// where blocks follow one another.
+    /// The document's revision of this version, or None where there is none. A document's versions count its
+    /// revisions from 0, where blocks follow one another.
     pub fn revision(&self, id: DocId, version: u64) -> Option<&Revision>
-        ensures { option_copied result ≡ option_map (λ r. r.revision) (slice_get (revisions_of self.now.revisions id.raw) version) }
+        ensures { option_copied result ≡ option_map (λ r. r.revision)
+            (slice_get (revisions_of self.now.revisions id.raw) version) }
     {
         match self.documents.shelf().revision(id, version) {
             Some(recorded) => Some(&recorded.revision),
@@ -186,7 +187,8 @@ impl Versions {
 
     /// The table's revision of this number in block order, counted from 0, or None where the table has no more.
     pub fn revision_at(&self, table: TableId, i: u64) -> Option<&Revision>
-        ensures { option_copied result ≡ option_map (λ r. r.revision) (slice_get (revisions_in self.now.revisions table) i) }
+        ensures { option_copied result ≡ option_map (λ r. r.revision)
+            (slice_get (revisions_in self.now.revisions table) i) }
     {
         match self.documents.shelf().revision_at(table, i) {
             Some(recorded) => Some(&recorded.revision),
@@ -201,8 +203,8 @@ impl Versions {
         self.documents.shelf().documents(table)
     }
 
-    /// The ids of the table's documents that aren't deleted and whose latest content has the key in its first field of the
-    /// name, in order of first insertion.
+    /// The ids of the table's documents that aren't deleted and whose latest content has the key in its first field
+    /// of the name, in order of first insertion.
     pub fn with_key(&self, table: TableId, field: &Text, key: &Key) -> Result<DocIds, OutOfMemory>
         requires { has_index self.now.indexes table field.now ≡ true }
         ensures { IfOk result (λ ids. ids ≡ documents_with self.now.revisions table field.now key.now) }
@@ -225,8 +227,10 @@ impl Versions {
         alloc: Global,
         ids: &[DocId],
     ) -> Result<Sequence<&Recorded>, OutOfMemory>
-        ensures drafts { IfOk result (λ all. drafts_lent all ≡ those_among ids.now (latest (map draft_of self.now.revisions))) }
-        ensures last { IfOk result (λ all. map (λ r. Some r) (recorded_lent all) ≡ last_among ids.now self.now.revisions) }
+        ensures drafts { IfOk result (λ all. drafts_lent all
+            ≡ those_among ids.now (latest (map draft_of self.now.revisions))) }
+        ensures last { IfOk result (λ all. map (λ r. Some r) (recorded_lent all)
+            ≡ last_among ids.now self.now.revisions) }
     {
         let all = self.documents.shelf().newest_among(alloc, ids)?;
         Ok(all)

@@ -1,6 +1,7 @@
--- A made workload, by the ledger's own rule. The transaction of session 0 makes a table with an index and runs first and
--- alone. Each transaction of the sessions from 1 on inserts a document of its session and counts the session's documents.
--- Its amount is a word of a key stream of ChaCha20 (RFC 8439, with a counter and a stream number of 64 bits).
+-- A made workload, by the ledger's own rule. The transaction of session 0 makes a table with an index and runs first
+-- and alone. Each transaction of the sessions from 1 on inserts a document of its session and counts the session's
+-- documents. Its amount is a word of a key stream of ChaCha20 (RFC 8439, with a counter and a stream number of 64
+-- bits).
 use Rattle.std.specs.Prelude.{ℕ, ◌-◌, ◌%◌, false, List, [], ◌∷◌, map, codes, None}
 use Rattle.std.specs.List.{range_with_len}
 use Rattle.rand_chacha.specs.ChaCha.{ChaCha, word_at, key_of}

@@ -131,9 +131,9 @@ fn made_session(
     Ok(jobs)
 }
 
-/// The sessions from 1 to `sessions`, each of `transactions` transactions. Their amounts are the words, modulo 1,000, of the
-/// key streams of ChaCha20 whose key is the seed in 8 bytes, the lowest first, and then zeros; a session's number is
-/// its stream's.
+/// The sessions from 1 to `sessions`, each of `transactions` transactions. Their amounts are the words, modulo 1,000,
+/// of the key streams of ChaCha20 whose key is the seed in 8 bytes, the lowest first, and then zeros; a session's
+/// number is its stream's.
 pub fn made_sessions(
     alloc: Global,
     seed: u64,

@@ -53,8 +53,8 @@ fn amount_in(v: &Value) -> Option<u64>
     number_in(named("amount", fields.as_slice())?)
 }
 
-/// The amount of a document: the number in its first field `amount`, and 0 where that is none of at most 64 bits without
-/// a sign.
+/// The amount of a document: the number in its first field `amount`, and 0 where that is none of at most 64 bits
+/// without a sign.
 fn amount_of(v: &Value) -> u64
     ensures { result ≡ amount_of v.now }
 {

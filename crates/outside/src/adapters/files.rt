@@ -13,9 +13,10 @@ use std::rt::Files;
 /// A store over a file. It tells nothing of its content. The first call opens the file, takes the lock that keeps other
 /// processes from changing it, and keeps it open. It fails where another process has a lock that excludes this one, and
 /// where the file is no regular file or no journal. A missing file has the size 0, and the first append makes it; where
-/// another process made it in between, that append and each later call fails. A store that is opened to be read fails at
-/// each append and each cut. Any call but a read fails where another program has changed the file's size or removed the
-/// file since the last call, and an append fails that would pass the process's limit on the size of files.
+/// another process made it in between, that append and each later call fails. A store that is opened to be read fails
+/// at each append and each cut. Any call but a read fails where another program has changed the file's size or
+/// removed the file since the last call, and an append fails that would pass the process's limit on the size of
+/// files.
 #[derive(Drop)]
 pub struct FileStore<'a, R: Files> {
     file: HeldFile<'a, R>,

@@ -55,8 +55,8 @@ enum Found<F> {
     Held(OpenJournal<F>),
 }
 
-/// The file at a path. The first call opens it, takes its lock and keeps it open; where there is none, it is made by the
-/// first append. One that was made by another process in between is not touched.
+/// The file at a path. The first call opens it, takes its lock and keeps it open; where there is none, it is made by
+/// the first append. One that was made by another process in between is not touched.
 #[derive(Drop)]
 pub(super) struct HeldFile<'a, R: Files> {
     rt: &'a R,

@@ -11,8 +11,8 @@ use std::io::{ErrorKind, Read};
 /// How the line of a block begins.
 const LINE_START: &[u8] = b"{blockAddress:{strandId:\"";
 
-/// Whether what is left of a reader may be a journal: it has a line feed, or it begins as a line does, as far as it goes.
-/// A text without a line feed that begins otherwise is neither lines nor a part of one.
+/// Whether what is left of a reader may be a journal: it has a line feed, or it begins as a line does, as far as it
+/// goes. A text without a line feed that begins otherwise is neither lines nor a part of one.
 pub(super) fn may_be_journal<R: Read>(reader: &mut R) -> io::Result<bool>
     ensures { IfOk result (λ may. IfSome (R.remaining reader.old) (λ bytes. IsTrue may ↔ MayBeJournal bytes)) }
 {
@@ -39,7 +39,8 @@ fn begins_line(front: &[u8]) -> bool
 /// Reads until the piece is full or nothing is left, and answers how many bytes it gave.
 pub(super) fn fill<R: Read>(reader: &mut R, out: &mut [u8]) -> io::Result<usize>
     ensures within { IfOk result (λ count. count ≤ length out.new) }
-    ensures bytes { IfOk result (λ count. Consumes (R.remaining reader.old) (R.remaining reader.new) (take count out.new)) }
+    ensures bytes { IfOk result (λ count. Consumes (R.remaining reader.old) (R.remaining reader.new)
+        (take count out.new)) }
     ensures end { IfOk result (λ count. count < length out.new → IsAtEnd (R.remaining reader.new)) }
 {
     let mut at = 0;

@@ -28,8 +28,10 @@ pub(super) fn read<R: Read>(reader: &mut R, out: &mut [u8]) -> io::Result<usize>
 /// memory before that leaves the writer as it was.
 pub(super) fn append<W: Write>(writer: &mut W, piece: &[u8]) -> io::Result<()>
     ensures whole { OnOk result (Appends (W.contents writer.old) (W.contents writer.new) piece.now) }
-    ensures part { OnErr result ((kept : ℕ) × Appends (W.contents writer.old) (W.contents writer.new) (take kept piece.now)) }
-    ensures none { IfErr result (λ e. error_kind e ≡ ErrorKind.OutOfMemory → Keeps (W.contents writer.old) (W.contents writer.new)) }
+    ensures part { OnErr result ((kept : ℕ) × Appends (W.contents writer.old) (W.contents writer.new)
+        (take kept piece.now)) }
+    ensures none { IfErr result (λ e. error_kind e ≡ ErrorKind.OutOfMemory →
+        Keeps (W.contents writer.old) (W.contents writer.new)) }
 {
     let mut at = 0;
     'pieces: while at < piece.len() {

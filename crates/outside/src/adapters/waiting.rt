@@ -6,8 +6,8 @@ use std::{io, thread};
 /// How long a call is put off where it would wait, in milliseconds.
 const PAUSE: u64 = 1;
 
-/// A stream whose calls wait. Where its own stream's call would have to wait and does not, as that of a pipe that another
-/// program made so, the call is made again after a pause, until it succeeds or fails otherwise.
+/// A stream whose calls wait. Where its own stream's call would have to wait and does not, as that of a pipe that
+/// another program made so, the call is made again after a pause, until it succeeds or fails otherwise.
 #[derive(Drop)]
 pub struct WaitingStream<'a, C, S> {
     clock: &'a C,

@@ -17,8 +17,8 @@ pub(super) enum Change {
     Synced,
 }
 
-/// All changes of a store's content so far, the first one in front, and the bytes that it held before. These are copied when
-/// room is made for the first change.
+/// All changes of a store's content so far, the first one in front, and the bytes that it held before. These are
+/// copied when room is made for the first change.
 #[derive(Drop)]
 pub(super) struct Changes {
     alloc: Global,

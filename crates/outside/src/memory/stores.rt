@@ -9,8 +9,8 @@ use crate::traits::{JournalStore, OutFault};
 use std::alloc::{AllocError, Global};
 use std::marker::Model;
 
-/// A store over bytes in memory, whose calls fail by a list. An append, a cut and a sync that want memory leave the list as it
-/// was.
+/// A store over bytes in memory, whose calls fail by a list. An append, a cut and a sync that want memory leave the
+/// list as it was.
 #[derive(Drop)]
 pub struct MemoryStore {
     content: Content,
@@ -60,7 +60,8 @@ impl MemoryStore {
     /// Ends a call that has changed the content, or has found no memory for that.
     fn end(&mut self, changed: Result<(), AllocError>) -> Result<(), OutFault>
         ensures wanted { OnErr changed (IsErrOf result OutFault.OutOfMemory × (self.new ≡ unserved self.old)) }
-        ensures done { OnOk changed ((result ≡ unless_due self.old tt) × (self.new ≡ called self.old self.old.content)) }
+        ensures done { OnOk changed ((result ≡ unless_due self.old tt)
+            × (self.new ≡ called self.old self.old.content)) }
     {
         if changed.is_err() {
             self.last_failed = false;
@@ -92,7 +93,8 @@ impl JournalStore for MemoryStore {
 
     fn read_at(&mut self, at: u64, out: &mut [u8]) -> Result<usize, OutFault>
         ensures answer { result ≡ unless_due self.old (count_at self.old.content at (length out.old)) }
-        ensures piece { out.new ≡ (if is_some (due self.old.plan) then out.old else piece_read self.old.content at out.old) }
+        ensures piece { out.new ≡ (if is_some (due self.old.plan) then out.old
+            else piece_read self.old.content at out.old) }
         ensures after { self.new ≡ called self.old self.old.content }
     {
         match self.count_call() {

@@ -23,7 +23,8 @@ impl Model for SureStore {
 }
 
 impl SureStore {
-    /// A store of these bytes, all of them synced. It grows by this allocator, and the bytes by the one that they are from.
+    /// A store of these bytes, all of them synced. It grows by this allocator, and the bytes by the one that they are
+    /// from.
     pub fn new(alloc: Global, bytes: Vec<u8>) -> SureStore
         ensures { result ≡ content_of bytes.items }
     {

@@ -11,7 +11,14 @@ use ledger_model::{Blocks, Named, Outcome, Refusal};
 use ql_types::{Hash32, TxId};
 use std::alloc::Global;
 
-/// Puts what stands of an outcome behind the place.
+/// A transaction, and on how many blocks it ran.
+#[derive(Clone, Copy)]
+struct Begun {
+    tx: TxId,
+    since: u64,
+}
+
+/// Appends what stands of an outcome after the place.
 pub fn put_outcome(
     alloc: Global,
     out: &mut Text,
@@ -22,23 +29,25 @@ pub fn put_outcome(
 {
     match outcome {
         Outcome::Committed { tx, block } => put_committed(alloc, out, blocks, *tx, *block),
-        Outcome::Conflict { tx, since, named } => put_conflict(alloc, out, *tx, *since, named),
+        Outcome::Conflict { tx, since, named } => {
+            put_conflict(alloc, out, ran_on(*tx, *since), named)
+        }
         Outcome::Refused {
             tx,
             since,
             statement,
             cause,
-        } => put_refused(alloc, out, *tx, *since, *statement, cause),
+        } => put_refused(alloc, out, ran_on(*tx, *since), *statement, cause),
         Outcome::DigestDiffers {
             tx,
             since,
             mine,
             given,
-        } => put_digest_differs(alloc, out, *tx, *since, mine, given),
+        } => put_digest_differs(alloc, out, ran_on(*tx, *since), mine, given),
         Outcome::StoreFault { tx, count } => put_store_fault(alloc, out, *tx, *count),
         Outcome::JournalFull { tx, blocks } => put_journal_full(alloc, out, *tx, *blocks),
         Outcome::IdsSpent { last } => put_ids_spent(alloc, out, *last),
-        Outcome::Aborted { tx, since } => put_aborted(alloc, out, *tx, *since),
+        Outcome::Aborted { tx, since } => put_aborted(alloc, out, ran_on(*tx, *since)),
         Outcome::OutOfMemory => out.push_str("out_of_memory"),
     }
 }
@@ -61,27 +70,32 @@ fn put_committed(
     out.push_str("]")
 }
 
-/// The transaction and the number of blocks on which it ran.
-fn put_since(alloc: Global, out: &mut Text, tx: TxId, since: u64) -> Result<(), OutOfMemory>
-    ensures { OnOk result (out.new ≡ out.old ++ since_text tx since) }
+fn ran_on(tx: TxId, since: u64) -> Begun
+    ensures { result ≡ record { tx = tx; since = since } }
+{
+    Begun { tx, since }
+}
+
+/// Appends the transaction and the number of blocks on which it ran.
+fn put_since(alloc: Global, out: &mut Text, begun: Begun) -> Result<(), OutOfMemory>
+    ensures { OnOk result (out.new ≡ out.old ++ since_text begun.tx begun.since) }
 {
     out.push_str(",tx:")?;
-    put_id(out, tx.raw)?;
+    put_id(out, begun.tx.raw)?;
     out.push_str(",since:")?;
-    put_number(alloc, out, since)
+    put_number(alloc, out, begun.since)
 }
 
 fn put_conflict(
     alloc: Global,
     out: &mut Text,
-    tx: TxId,
-    since: u64,
+    begun: Begun,
     named: &Named,
 ) -> Result<(), OutOfMemory>
-    ensures { OnOk result (out.new ≡ out.old ++ conflict_text tx since named.now) }
+    ensures { OnOk result (out.new ≡ out.old ++ conflict_text begun.tx begun.since named.now) }
 {
     out.push_str("conflict")?;
-    put_since(alloc, out, tx, since)?;
+    put_since(alloc, out, begun)?;
     out.push_str(",block:")?;
     put_number(alloc, out, named.block)?;
     out.push_str(",item:{")?;
@@ -92,15 +106,14 @@ fn put_conflict(
 fn put_refused(
     alloc: Global,
     out: &mut Text,
-    tx: TxId,
-    since: u64,
+    begun: Begun,
     statement: u32,
     cause: &Refusal,
 ) -> Result<(), OutOfMemory>
-    ensures { OnOk result (out.new ≡ out.old ++ refused_text tx since statement cause.now) }
+    ensures { OnOk result (out.new ≡ out.old ++ refused_text begun.tx begun.since statement cause.now) }
 {
     out.push_str("refused")?;
-    put_since(alloc, out, tx, since)?;
+    put_since(alloc, out, begun)?;
     out.push_str(",statement:")?;
     put_number(alloc, out, statement as u64)?;
     out.push_str(",cause:{")?;
@@ -111,15 +124,14 @@ fn put_refused(
 fn put_digest_differs(
     alloc: Global,
     out: &mut Text,
-    tx: TxId,
-    since: u64,
+    begun: Begun,
     mine: &Hash32,
     given: &Hash32,
 ) -> Result<(), OutOfMemory>
-    ensures { OnOk result (out.new ≡ out.old ++ digest_differs_text tx since mine.now given.now) }
+    ensures { OnOk result (out.new ≡ out.old ++ digest_differs_text begun.tx begun.since mine.now given.now) }
 {
     out.push_str("digest_differs")?;
-    put_since(alloc, out, tx, since)?;
+    put_since(alloc, out, begun)?;
     out.push_str(",mine:")?;
     put_blob(alloc, out, &mine.bytes)?;
     out.push_str(",given:")?;
@@ -150,9 +162,9 @@ fn put_ids_spent(alloc: Global, out: &mut Text, last: u64) -> Result<(), OutOfMe
     put_counted(alloc, out, "ids_spent,last:", last)
 }
 
-fn put_aborted(alloc: Global, out: &mut Text, tx: TxId, since: u64) -> Result<(), OutOfMemory>
-    ensures { OnOk result (out.new ≡ out.old ++ aborted_text tx since) }
+fn put_aborted(alloc: Global, out: &mut Text, begun: Begun) -> Result<(), OutOfMemory>
+    ensures { OnOk result (out.new ≡ out.old ++ aborted_text begun.tx begun.since) }
 {
     out.push_str("aborted")?;
-    put_since(alloc, out, tx, since)
+    put_since(alloc, out, begun)
 }

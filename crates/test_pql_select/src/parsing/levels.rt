@@ -93,8 +93,8 @@ UPDATE t INSERT INTO a VALUE 1 AT ~
 UPDATE t REMOVE a[~]
 DELETE FROM t WHERE ~";
 
-// What is told of a text, and at which offset; and the text, in which what stands between two `~` stands so often. A last
-// token may be too deep, one that is refused itself has its own kind, and so has the text's end.
+// What is told of a text, and at which offset; and the text, in which what stands between two `~` stands so often. A
+// last token may be too deep, one that is refused itself has its own kind, and so has the text's end.
 const REPEATED: &str = "TooDeep 77 64 INSERT INTO t ~(~
 TextEnds 77 63 INSERT INTO t ~(~
 NotAToken 78 64 INSERT INTO t ~[~#
@@ -166,7 +166,7 @@ fn construct_holds(alloc: Global, row: &str) -> Option<bool> {
     is_bounded(alloc, construct, count, operand, at)
 }
 
-/// The text of a place whose expression is so many brackets round an operand.
+/// The text of a place whose expression is `count` brackets round an operand.
 fn bracketed(alloc: Global, place: &str, count: usize) -> Option<String> {
     let (before, after) = place.split_once('~')?;
     let brackets = nested(alloc, "(~)", count, "1")?;
