@@ -5,7 +5,7 @@
 
 A block ```console has commands behind `$ ` (a line that ends with \\ goes on in the next one) and below each its output, on either
 channel. A block whose first line's second word is a file's name is that file. The commands are run by `sh`, with `ledger` (PROGRAM,
-or crates/ledger/out/ledger), `ledger-verify` and the page's verifier in the path. Ends with `N passed, N failed`.
+or crates/ledger/out/ledger), `ledger-verify` and `ledger-view` in the path. Ends with `N passed, N failed`.
 """
 import os
 import re
@@ -36,7 +36,7 @@ def path_of(folder, program):
     """A folder with the commands of the page."""
     where = os.path.join(folder, "path")
     os.mkdir(where)
-    for name, target in (("ledger", program), ("ledger-verify", ROOT / "tools" / "ledger-verify")):
+    for name, target in (("ledger", program), *((name, ROOT / "tools" / name) for name in ("ledger-verify", "ledger-view"))):
         os.symlink(target, os.path.join(where, name))
     return where
 

@@ -1,7 +1,8 @@
 #!/usr/bin/env python3
 """Cuts a user's registration of a vehicle at each byte: its script, its journal and a proof from it. A script that is cut is refused
-(status 2) and leaves no journal, but for one without a byte, which has no session (status 0); a journal that is cut has the blocks of its whole lines (status 0); a proof that is cut is refused
-(status 2, or 7 where whole values are left, but too few). Ends with status 1 where something isn't as it should be.
+(status 2) and leaves no journal, but for one without a byte, which has no session (status 0); a journal that is cut has the blocks of
+its whole lines (status 0); a proof that is cut is refused (status 2, or 7 where whole values are left, but too few). Ends with status 1
+where something isn't as it should be.
 
     tests/cut_input.py [PROGRAM]
 

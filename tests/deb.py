@@ -2,12 +2,13 @@
 """Makes the Debian package by tools/deb, unpacks it into an empty folder, and tries what is in it: the program on the examples
 and on the commands of docs/court.md, the tools, the man pages with their examples, the completion in bash, the Python package.
 
-    tests/deb.py [--root] [--suite SUITE] [--mirror URL] [PROGRAM]
+    tests/deb.py [--root | --root-of FOLDER] [--suite SUITE] [--mirror URL] [PROGRAM]
 
 PROGRAM is crates/ledger/out/ledger, where `rt ci` leaves it, or another path. With `--root` the package is also installed in a
 new root of Debian that debootstrap makes of MIRROR's packages, tried there by a user without rights, and removed. This takes some
-minutes, root's rights and a network, so tests/all.py does without it. What can't be done here is skipped, and said. Ends with
-`N passed, N failed`, and with status 1 where something failed.
+minutes, root's rights and a network, so tests/all.py does without it. With `--root-of` it is a copy of a root of Debian that stands
+in FOLDER, with python3, man-db and bash-completion, and there is no need of a network. What can't be done here is skipped, and said.
+Ends with `N passed, N failed`, and with status 1 where something failed.
 """
 import argparse
 import hashlib
@@ -33,7 +34,7 @@ PROGRAM = TOP / "crates" / "ledger" / "out" / "ledger"
 PACKAGE = "ledger-database"
 GATE = "140 passed, 0 failed"
 # what stands in tools/ for those who work on the repository
-NOT_FOR_USERS = {"deb", "deps.py", "quick"}
+NOT_FOR_USERS = {"crates_page.py", "deb", "deps.py", "quick"}
 NOBODY = 65534
 # runs words in a root of Debian, with what the system tells of its processes
 INSIDE = f'mount -t proc proc "$0/proc" && exec chroot --userspec={NOBODY}:{NOBODY} "$0" "$@"'
@@ -399,6 +400,9 @@ def debian_root(folder, words):
     """Makes a root of Debian with what the package needs, its man pages and bash's completion. Returns why there is none."""
     if os.geteuid() != 0:
         return "it takes root's rights"
+    if words.root_of:
+        subprocess.run(["cp", "-a", "--", f"{words.root_of}/.", str(folder)], check=True)
+        return ""
     if not shutil.which("debootstrap"):
         return "there is no debootstrap (apt-get install debootstrap)"
     command = ["unshare", "--mount", "debootstrap", "--variant=minbase", "--include=python3,man-db,bash-completion"]
@@ -449,6 +453,7 @@ def main():
     words = argparse.ArgumentParser("tests/deb.py", description="Tries the Debian package.")
     words.add_argument("program", metavar="PROGRAM", nargs="?", default=PROGRAM)
     words.add_argument("--root", action="store_true", help="installs it in a root of Debian, too")
+    words.add_argument("--root-of", metavar="FOLDER", help="installs it in a copy of this root of Debian, too")
     words.add_argument("--suite", default="bookworm")
     words.add_argument("--mirror", default="http://deb.debian.org/debian")
     words = words.parse_args()
@@ -464,10 +469,10 @@ def main():
         stated(tally)
         subprocess.run(["dpkg-deb", "-x", str(package), str(folder / "unpacked")], check=True)
         tried(tally, Place(folder / "unpacked", False))
-        if words.root:
+        if words.root or words.root_of:
             installed(tally, package, folder, words)
         else:
-            skip("the package isn't installed in a root of Debian; --root does that")
+            skip("the package isn't installed in a root of Debian; --root and --root-of do that")
     print(f"{tally.passed} passed, {tally.failed} failed")
     return 1 if tally.failed else 0
 

@@ -7,6 +7,7 @@ with `N passed, N failed`, and with status 1 where one failed.
 
 The program is crates/ledger/out/ledger, where `rt ci` leaves it, or another path. A TEST is a name such as Backups.test_grows.
 """
+import errno
 import fcntl
 import http.server
 import io
@@ -380,6 +381,30 @@ class Restores(WithFolder):
         write(self.journal, self.lines[0] + b"{}\n")
         self.ctl("restore", self.copy, "--overwrite", says="from block 1 on the copy has other lines than the file before, which had 2 lines, and the copy 2")
         self.assertEqual(left(self.journal), self.whole)
+
+    def test_without_links(self):
+        """Without hard links what was there is copied, and is on the disk before the journal's name goes to another file."""
+        done, calls = [], {name: getattr(os, name) for name in ("fsync", "rename", "replace")}
+
+        def synced(handle):
+            calls["fsync"](handle)
+            done.append(("synced", os.fstat(handle).st_ino))
+
+        def renamed(name):
+            return lambda path, target: (calls[name](path, target), done.append(("named", os.path.basename(target))))
+
+        patched = {"link": unittest.mock.Mock(side_effect=OSError(errno.EPERM, "no hard links")), "fsync": synced}
+        os.chmod(self.journal, 0o640)
+        before = os.stat(self.journal)
+        with unittest.mock.patch.multiple(os, **patched, rename=renamed("rename"), replace=renamed("replace")):
+            self.ctl("restore", self.copy, "--overwrite", says="is kept")
+        [kept] = [name for name in self.names() if name.startswith("journal.before-")]
+        found = os.stat(self.path(kept))
+        self.assertEqual((left(self.path(kept)), found.st_mode, found.st_mtime_ns), (WithFolder.made, before.st_mode, before.st_mtime_ns))
+        self.assertEqual((left(self.journal), self.names()), (self.whole, ["copy", "journal", kept]))
+        folder, new = os.stat(self.folder).st_ino, os.stat(self.journal).st_ino
+        steps = [("synced", found.st_ino), ("named", kept), ("synced", folder), ("synced", new), ("named", "journal"), ("synced", folder)]
+        self.assertEqual(done[-len(steps):], steps)
 
     def test_link(self):
         """A link to the journal stays a link."""

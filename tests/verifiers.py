@@ -389,9 +389,9 @@ def try_browser(tally):
         options += ["--dump-dom"]
         words = [browser(), *options, page.as_uri()]
         try:
-            ran = subprocess.run(words, capture_output=True, timeout=50)
+            ran = subprocess.run(words, capture_output=True, timeout=100)
         except subprocess.TimeoutExpired:
-            tally.same("the browser ends within 50 seconds", False, True)
+            tally.same("the browser ends within 100 seconds", False, True)
             return
     said = ran.stdout.decode()
     tally.same("the page ran in the browser", "FOUND" in said, True)

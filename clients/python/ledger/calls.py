@@ -2,8 +2,10 @@
 
 (This package is not proved; the program is.)
 
-    >>> counted(1, "block"), counted(1200, "block")
-    ('1 block', '1,200 blocks')
+    >>> import contextlib
+    >>> with contextlib.redirect_stderr(sys.stdout):
+    ...     tell(f"{counted(1200, 'block')} came since the run began")
+    1,200 blocks came since the run began
 """
 from __future__ import annotations
 
@@ -22,7 +24,7 @@ from .client import Ledger, StatusError
 from .files import FAILED
 from .journal import Digest, Front, fronts, match_digests
 from .progress import Progress, Waiting
-from .view import DAMAGED, DIFFERS, UNREADABLE, Refused
+from .view import DAMAGED, DIFFERS, UNREADABLE, Refused, counted
 
 Named = tuple[str, Digest]
 
@@ -30,11 +32,6 @@ Named = tuple[str, Digest]
 def tell(words: str) -> None:
     """Says something on standard error."""
     print(words, file=sys.stderr)
-
-
-def counted(number: int, word: str) -> str:
-    """A number and a word, in the plural if it isn't one."""
-    return f"{number:,} {word}{'' if number == 1 else 's'}"
 
 
 def there(path: str, writes: bool = False) -> None:

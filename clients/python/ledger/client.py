@@ -125,10 +125,12 @@ class Outcome:
 
     @property
     def committed(self) -> bool:
+        """Whether it is in a block."""
         return self.outcome == "committed"
 
     @property
     def transaction_id(self) -> Optional[str]:
+        """The id of the transaction, `None` if it got none."""
         return self.value.get("tx")
 
     @property

@@ -15,6 +15,12 @@ The status is 0 if all was done, and of a run, if every transaction committed; 2
 program's: 1 if the words are wrong, 2 if an input is refused, 3 if the journal is damaged, 5 if it can't be opened,
 read or written, or isn't there, 6 if something else can't be written, signed, stamped or committed to git, 7 if a
 copy or a published digest isn't that of the journal, 8 without memory, and 128 and a signal's number by a signal.
+
+    >>> import contextlib
+    >>> with contextlib.redirect_stderr(sys.stdout):
+    ...     main(["/nowhere/journal", "doctor"])
+    ledgerctl: there is no folder /nowhere
+    5
 """
 from __future__ import annotations
 

@@ -1,5 +1,8 @@
 """`ledgerctl JOURNAL backup` and `restore`: copies that the program has audited, and that are there whole or not at all.
 
+    ledgerctl accounts.journal backup /mnt/copy/accounts.journal
+    ledgerctl accounts.journal restore /mnt/copy/accounts.journal --published digests
+
 (This package is not proved; the program is.)
 """
 from __future__ import annotations
@@ -11,13 +14,13 @@ import shutil
 from datetime import datetime, timezone
 from typing import IO, Optional
 
-from .calls import audited, check_published, count_lines, counted, ledger_of, there
+from .calls import audited, check_published, count_lines, ledger_of, there
 from .checks import Audit
 from .files import beside, copy_whole_lines, is_front, locked, put_in_place, sync_folder, take_mode
 from .progress import Waiting
 from .publish import Folder, Options
 from .shell import warn_on_error
-from .view import DIFFERS, Refused
+from .view import DIFFERS, Refused, counted
 
 
 def backup(words: argparse.Namespace, out: IO[str]) -> int:
@@ -100,13 +103,22 @@ def _lost_words(former: str, new: str) -> Optional[str]:
 
 
 def _keep(path: str) -> str:
-    """Gives a file a second name beside its own, and returns it."""
+    """Gives a file a second name beside its own, which survives a loss of power, and returns it."""
     name = f"{path}.before-{datetime.now(timezone.utc):%Y%m%dT%H%M%SZ}"
     names = itertools.chain([name], (f"{name}.{number}" for number in itertools.count(2)))
     kept = next(found for found in names if not os.path.lexists(found))
     try:
         os.link(path, kept)
-    except OSError:
-        shutil.copy2(path, kept)
-    sync_folder(kept)
+    except OSError:  # a file system without hard links
+        _copy_all(path, kept)
+    else:
+        sync_folder(kept)
     return kept
+
+
+def _copy_all(path: str, target: str) -> None:
+    """Copies all bytes of a file, with its times, mode and owner, to a new name, which it has once they are synced."""
+    with beside(target) as new:
+        shutil.copy2(path, new)
+        take_mode(path, new)
+        put_in_place(new, target, overwrite=False)

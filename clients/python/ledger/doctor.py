@@ -1,5 +1,7 @@
 """`ledgerctl JOURNAL doctor`: what is wrong with a journal's file, into which nothing is written.
 
+    ledgerctl accounts.journal doctor --around 2
+
 (This package is not proved; the program is.)
 """
 from __future__ import annotations
@@ -11,13 +13,13 @@ import re
 import stat
 from typing import IO, NamedTuple, Union
 
-from .calls import counted, ledger_of, there
+from .calls import ledger_of, there
 from .causes import KINDS, held_words, holders, status_words
 from .checks import Audit, Checker, Damage
 from .client import DamagedJournal, StatusError
 from .journal import rest_words
 from .progress import Progress, Waiting
-from .view import DAMAGED, Refused, printable
+from .view import DAMAGED, Refused, counted, printable
 
 MOST_SHOWN = 100  # characters of a line
 

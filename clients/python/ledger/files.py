@@ -1,6 +1,13 @@
 """Files that are there whole or not at all: copies of journals, put in place at once.
 
 (This package is not proved; the program is.)
+
+    >>> with tempfile.TemporaryDirectory() as folder:
+    ...     short, long = os.path.join(folder, "short"), os.path.join(folder, "long")
+    ...     write_new(short, b"{}\\n")
+    ...     write_new(long, b"{}\\n{}\\n")
+    ...     is_front(short, long), is_front(long, short)
+    (True, False)
 """
 from __future__ import annotations
 
@@ -118,10 +125,11 @@ def take_mode(source: str, path: str) -> None:
 
 
 def put_in_place(path: str, target: str, overwrite: bool) -> None:
-    """Gives a file the name `target` at once, and syncs the folder.
+    """Syncs a file, gives it the name `target` at once, and syncs the folder.
 
     Raises `FileExistsError` if `target` is there, unless it may be overwritten.
     """
+    sync_file(path)
     if overwrite:
         os.replace(path, target)
     else:
@@ -141,6 +149,12 @@ def _rename_new(path: str, target: str) -> None:
         os.rename(path, target)
     else:
         os.unlink(path)
+
+
+def sync_file(path: str) -> None:
+    """Syncs a file, its bytes and its mode, so that they survive a loss of power."""
+    with open(path, "rb") as file:
+        os.fsync(file.fileno())
 
 
 def sync_folder(path: str) -> None:

@@ -183,8 +183,8 @@ if (typeof document !== "undefined") (() => {
   const shown = (value) => LedgerVerify.shown(value);
   const plain = (text) => shown({ annotations: [], kind: "string", content: text }).slice(1, -1).replace(/\\"/g, '"');
   const dataOf = (revision) => (revision.data === null ? "deleted" : shown(revision.data));
-  const rowsOf = (count) => `${count} row${count === 1 ? "" : "s"}`;
-  const revisionsOf = (count) => `${count} revision${count === 1 ? "" : "s"}`;
+  /** A number and a word, in the plural unless it is one. */
+  const counted = (number, word) => `${number} ${word}${number === 1 ? "" : "s"}`;
 
   /** A document as one of its revisions leaves it, and as it was before where that deletes it. */
   function titleOf(revisions, now) {
@@ -214,7 +214,7 @@ if (typeof document !== "undefined") (() => {
       const said = block.statements.map((said) => said.statement.content);
       const text = [block.tx, block.time, `block ${block.sequence}`, ...said, ...block.statements.map((s) => shown(s.parameters))].join(" ").toLowerCase();
       if (!within(block.time, asOf) || !text.includes(wanted)) continue;
-      rows.push({ key: block.sequence, title: said.map(plain).join("\n"), hint: `block ${block.sequence} · ${block.time} · ${revisionsOf(block.revisions.length)}` });
+      rows.push({ key: block.sequence, title: said.map(plain).join("\n"), hint: `block ${block.sequence} · ${block.time} · ${counted(block.revisions.length, "revision")}` });
     }
     return rows;
   }
@@ -229,7 +229,7 @@ if (typeof document !== "undefined") (() => {
       return element("li", "", null, button);
     });
     const more = rows.length > MOST_ROWS ? `, of which the first ${MOST_ROWS} are shown` : "";
-    part("list").replaceChildren(element("h2", "", `${rows.length} ${rows.length === 1 ? state.mode.slice(0, -1) : state.mode}${more}`), element("ul", "", null, ...items));
+    part("list").replaceChildren(element("h2", "", counted(rows.length, state.mode.slice(0, -1)) + more), element("ul", "", null, ...items));
   }
 
   // ---- what is chosen
@@ -254,7 +254,7 @@ if (typeof document !== "undefined") (() => {
     const given = parameters.length ? [element("p", "value hint", "with " + parameters.map(shown).join(", "))] : [];
     const rows = answer.map((row) => element("div", "value", shown(row)));
     return element("div", "", null, element("p", "value", plain(said.statement.content)), ...given,
-      element("details", "", null, element("summary", "hint", rowsOf(answer.length)), ...rows));
+      element("details", "", null, element("summary", "hint", counted(answer.length, "row")), ...rows));
   }
 
   function blockDetail(sequence) {
@@ -266,7 +266,7 @@ if (typeof document !== "undefined") (() => {
     });
     return [element("h2", "", `Block ${sequence}`), element("p", "hint", `${block.time} · transaction ${block.tx} · session ${block.place[0]}, transaction ${block.place[1]} of its script`),
       element("p", "hint", `hash ${LedgerVerify.hex(block.hash)}`), ...block.statements.map(statementDetail),
-      element("h2", "", revisionsOf(links.length)), element("ul", "", null, ...links)];
+      element("h2", "", counted(links.length, "revision")), element("ul", "", null, ...links)];
   }
 
   function choose(key) {
@@ -295,9 +295,10 @@ if (typeof document !== "undefined") (() => {
 
   function finish(lines, damage) {
     const count = journal.blocks.length, revisions = journal.blocks.reduce((sum, block) => sum + block.revisions.length, 0);
-    if (damage !== null) told("bad", `DAMAGED: block ${count}: ${damage}. The ${count} blocks before it hold and are shown.`);
-    else if (lines.rest) told("bad", `The journal is damaged from block ${count} on (${lines.rest}); the ${count} blocks before it hold and are shown.`);
-    else told("good", `All hashes hold: ${count} blocks and ${revisions} revisions, computed anew in this browser.`);
+    const before = `What stands before it holds and is shown: ${counted(count, "block")}.`;
+    if (damage !== null) told("bad", `DAMAGED: block ${count}: ${damage}. ${before}`);
+    else if (lines.rest) told("bad", `The journal is damaged from block ${count} on (${lines.rest}). ${before}`);
+    else told("good", `All hashes hold: ${counted(count, "block")} and ${counted(revisions, "revision")}, computed anew in this browser.`);
     if (count) part("tip").textContent = journal.digest(count - 1);
     change("documents", null);
   }
@@ -317,7 +318,7 @@ if (typeof document !== "undefined") (() => {
       finish(lines, damage);
       return;
     }
-    told("", `Checking: ${journal.blocks.length} of ${lines.lines.length} blocks`);
+    told("", `Checking: ${journal.blocks.length} of ${counted(lines.lines.length, "block")}`);
     setTimeout(() => check(lines), 0);
   }
 

@@ -1,7 +1,10 @@
 """Says on standard error how far something is that takes more than a second.
 
 A terminal gets one line, which is written anew each second. Anything else gets a line after 1, 2, 4, 8 seconds and so
-on, and then one a minute. If the environment's LEDGER_QUIET is set nothing is said.
+on, and then one a minute. If the environment's LEDGER_QUIET is set nothing is said. (This package is not proved; the program is.)
+
+    >>> with Waiting("the program runs the script"):
+    ...     time.sleep(0.01)  # what takes more than a second: `the program runs the script: 1 s`
 """
 from __future__ import annotations
 
@@ -29,6 +32,7 @@ class Told:
         return time.monotonic() >= self.next
 
     def say(self, words: str) -> None:
+        """Writes a line, and sets the time of the next one."""
         is_terminal = self.out.isatty()
         self.pause = 1.0 if is_terminal else min(self.pause * (2 if self.shown else 1), LONGEST_PAUSE)
         self.next = time.monotonic() + self.pause

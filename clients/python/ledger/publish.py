@@ -5,6 +5,8 @@ digest of one day is `DATE.2.digest`, and so on. Beside a digest stand its signa
 by RFC 3161 (`.tsr`), if they are wanted. Each step that was done is left out when the same digest is published again,
 so what failed half way is done by the next call.
 
+    ledgerctl accounts.journal publish digests --sign operator@example.org --git --push
+
 (This package is not proved; the program is.)
 """
 from __future__ import annotations
@@ -19,13 +21,13 @@ from datetime import datetime, timezone
 from typing import IO, NamedTuple, Optional
 
 from . import ion
-from .calls import check_published, counted, ledger_of, there
+from .calls import check_published, ledger_of, there
 from .causes import status_words
 from .client import StatusError
 from .files import FAILED, write_new
 from .journal import Digest
 from .progress import Waiting
-from .view import DIFFERS, Refused, published
+from .view import DIFFERS, Refused, counted, published
 
 LIMIT = 300.0  # seconds for a call of another program, and of a time stamp authority
 TIME_STAMP_QUERY = "application/timestamp-query"

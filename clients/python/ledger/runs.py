@@ -1,5 +1,7 @@
 """`ledgerctl JOURNAL run`: a script's run, and in words what of it isn't committed.
 
+    ledgerctl accounts.journal run --new script.ion > report
+
 (This package is not proved; the program is.)
 """
 from __future__ import annotations
@@ -15,14 +17,14 @@ from collections.abc import Callable, Sequence
 from typing import IO, Optional
 
 from . import ion
-from .calls import counted, ledger_of, tell
+from .calls import ledger_of, tell
 from .causes import journal_fault, outcome_words, refused_text, status_words
 from .client import BusyJournal, Ledger, Outcome, StatusError
 from .files import FAILED
 from .journal import fronts, rest_words
 from .progress import Waiting
 from .shell import warn_on_error
-from .view import UNREADABLE, Refused
+from .view import UNREADABLE, Refused, counted
 
 SOURCE_FAILED = 4
 NOT_COMMITTED = 20

@@ -12,6 +12,7 @@ is shown; COMMIT runs them all as one transaction, and ABORT drops them. It isn'
     \\d                             the tables
     \\h TABLE FIELD VALUE [TIME]    the history of documents, up to the end of a time
     \\q                             ends the shell, as the end of the input does
+    Ctrl-C                          drops what was typed of a statement; an open transaction stays open
 
     >>> split("SELECT ';' FROM t; COMM")
     ("SELECT ';' FROM t", ' COMM')
@@ -34,11 +35,12 @@ from .causes import cause_text, outcome_words
 from .client import Ledger, LedgerError, NotCommitted, Refused, Statement, Transaction
 from .ion import Value
 from .journal import rest_words
-from .view import printable, shown
+from .view import counted, printable, shown
 
 # strings, quoted names, Ion literals and comments, in which a `;` ends nothing
 _TOKEN = re.compile(r"""'[^']*'|"[^"]*"|`[^`]*`|--[^\n\r]*(?=[\n\r])|[^'"`;-]+|-(?!-)|;""")
 _FRONT = re.compile(r"(?:\s|--[^\n\r]*(?:[\n\r]|\Z))*([A-Za-z]*)")
+INTERRUPTED = "\n\n"  # no line of a terminal has two line feeds
 HELP = "statements end with ;   BEGIN; COMMIT; ABORT;   \\d tables   \\h TABLE FIELD VALUE [TIME] history   \\q quit"
 
 
@@ -72,9 +74,11 @@ class Shell:
         self.failed = False
 
     def say(self, text: str) -> None:
+        """Writes a line."""
         print(text, file=self.out)
 
     def fail(self, text: str) -> None:
+        """Writes a line, and has the shell end with status 1."""
         self.failed = True
         self.say(text)
 
@@ -120,14 +124,16 @@ class Shell:
         self.say("  (not committed yet)")
 
     def commit(self, statements: Sequence[Statement]) -> None:
+        """Runs statements as one transaction, and shows the answer of the last one and the block."""
         outcome = self.ledger.run([Transaction(statements)])[0]
         self.rows(outcome.answers[-1])
         self.say(f"  committed in block {outcome.block}")
 
     def rows(self, rows: Sequence[Value]) -> None:
+        """Shows an answer, a row a line, and how many rows it has."""
         for row in rows:
             self.say("  " + shown(row))
-        self.say(f"  ({len(rows)} row{'' if len(rows) == 1 else 's'})")
+        self.say(f"  ({counted(len(rows), 'row')})")
 
     def explain(self, error: LedgerError, texts: list[str]) -> None:
         """Says what went wrong with statements of these texts."""
@@ -157,6 +163,9 @@ class Shell:
         """Reads statements and commands to the end of the source, and returns the status."""
         text = ""
         while line := self.next_line(source, text):
+            if line == INTERRUPTED:
+                text = ""
+                continue
             if is_blank(text) and line.startswith("\\"):
                 text = ""
                 if not self.command(line):
@@ -180,12 +189,15 @@ class Shell:
 
 
 def read_line(prompt: str) -> str:
-    """A line from a terminal, empty at its end."""
+    """A line from a terminal, empty at its end, and `INTERRUPTED` if Ctrl-C was typed in it."""
     try:
         return input(prompt) + "\n"
     except EOFError:
         print()
         return ""
+    except KeyboardInterrupt:
+        print()
+        return INTERRUPTED
 
 
 def warn_on_error(words: str) -> None:

@@ -52,6 +52,11 @@ def printable(text: str) -> str:
     return "".join(c if c.isprintable() else f"\\u{ord(c):04x}" if ord(c) < 0x10000 else f"\\U{ord(c):08x}" for c in text)
 
 
+def counted(number: int, word: str) -> str:
+    """A number and a word, in the plural unless it is one."""
+    return f"{number:,} {word}{'' if number == 1 else 's'}"
+
+
 def read_journal(path: str) -> Journal:
     """The journal in a file, with progress on standard error. Raises `Refused`."""
     try:
@@ -99,39 +104,44 @@ def time_of(word: str) -> Timestamp:
 
 
 def tables(journal: Journal, words: argparse.Namespace, out: IO[str]) -> int:
+    """Writes the tables with their indexes."""
     for table in journal.tables:
         active = table.dropped is None
         count = sum(not revisions[-1].deleted for revisions in journal.documents.values() if revisions[0].table == table.id)
-        told = f"{count} documents" if active else f"dropped in block {table.dropped}"
+        told = counted(count, "document") if active else f"dropped in block {table.dropped}"
         indexes = ", ".join(map(printable, table.indexes)) or "none"
         print(f"{printable(table.name):20} {table.id} made in block {table.made}, {told}, indexes: {indexes}", file=out)
     return 0
 
 
 def blocks(journal: Journal, words: argparse.Namespace, out: IO[str]) -> int:
+    """Writes the blocks from one number to another, with their statements."""
     last = len(journal.blocks) - 1 if words.to is None else words.to
     for block in journal.blocks[words.begin:last + 1]:
         place = f"session {block.place.session} transaction {block.place.transaction}"
-        print(f"block {block.address.sequence} {block.time} tx {block.transaction_id} {place}, {len(block.revisions)} revisions", file=out)
+        print(f"block {block.address.sequence} {block.time} tx {block.transaction_id} {place}, {counted(len(block.revisions), 'revision')}", file=out)
         for statement in block.statements:
             parameters = "".join(f" {shown(parameter)}" for parameter in statement.parameters)
             with_them = " with" + parameters if parameters else ""
-            print(f"    {printable(statement.text)}{with_them} -> {len(statement.answer)} rows", file=out)
+            print(f"    {printable(statement.text)}{with_them} -> {counted(len(statement.answer), 'row')}", file=out)
     return 0
 
 
 def print_revision(revision: Revision, out: IO[str]) -> None:
+    """Writes a revision on one line: when, where, whose, and its content."""
     place = f"block {revision.address.sequence} index {revision.index}"
     print(f"{revision.time}  {place}  {revision.id} version {revision.version}  {content(revision)}", file=out)
 
 
 def rows(journal: Journal, words: argparse.Namespace, out: IO[str]) -> int:
+    """Writes the documents of a table as of a time."""
     for revision in journal.rows(words.table, words.at):
         print_revision(revision, out)
     return 0
 
 
 def history(journal: Journal, words: argparse.Namespace, out: IO[str]) -> int:
+    """Writes the revisions of documents up to a time."""
     if (words.id is None) == (words.value is None):
         raise Refused("history wants a field and a value, or --id")
     if words.id is not None:
@@ -148,6 +158,7 @@ def history(journal: Journal, words: argparse.Namespace, out: IO[str]) -> int:
 
 
 def find(journal: Journal, words: argparse.Namespace, out: IO[str]) -> int:
+    """Writes the block and the index of each revision of a document, or of one version."""
     found = journal.documents.get(words.id, [])
     if words.version is not None:
         found = [revision for revision in found if revision.version == words.version]
@@ -175,6 +186,7 @@ def as_struct(value: Value) -> Struct:
 
 
 def write_csv(journal: Journal, words: argparse.Namespace, out: IO[str]) -> int:
+    """Writes the documents of a table as CSV, under the names of all their fields."""
     documents = [as_struct(revision.data) for revision in journal.rows(words.table, words.at)]
     names = list(dict.fromkeys(name for document in documents for name in document))
     writer = csv.writer(out, lineterminator="\n")
@@ -184,6 +196,7 @@ def write_csv(journal: Journal, words: argparse.Namespace, out: IO[str]) -> int:
 
 
 def write_json(journal: Journal, words: argparse.Namespace, out: IO[str]) -> int:
+    """Writes the documents of a table as a JSON list."""
     print(ion.to_json([revision.data for revision in journal.rows(words.table, words.at)], indent=1), file=out)
     return 0
 
@@ -201,11 +214,12 @@ def published(path: str) -> list[Digest]:
 
 
 def digests(journal: Journal, words: argparse.Namespace, out: IO[str]) -> int:
+    """Writes of each published digest whether it is the journal's."""
     wanted = [(path, digest) for path in words.file for digest in published(path)]
     differ = 0
     for (path, digest), holds in zip(wanted, journal.match(digest for _, digest in wanted)):
         beyond = digest.tip.sequence >= len(journal.blocks)
-        said = "agrees" if holds else f"DIFFERS: the journal has {len(journal.blocks)} blocks" if beyond else "DIFFERS"
+        said = "agrees" if holds else f"DIFFERS: the journal has {counted(len(journal.blocks), 'block')}" if beyond else "DIFFERS"
         differ += not holds
         print(f"{path}: tip {digest.tip.sequence} {said}", file=out)
     print(f"{len(wanted) - differ} agree, {differ} differ", file=out)
@@ -213,6 +227,7 @@ def digests(journal: Journal, words: argparse.Namespace, out: IO[str]) -> int:
 
 
 def html(journal: Journal, words: argparse.Namespace, out: IO[str]) -> int:
+    """Writes the journal as a page for a browser."""
     from .page import page
 
     text = page(journal, os.path.basename(words.journal))
@@ -225,10 +240,11 @@ def html(journal: Journal, words: argparse.Namespace, out: IO[str]) -> int:
 
 
 def check(journal: Journal, words: argparse.Namespace, out: IO[str]) -> int:
+    """Writes how many blocks and revisions there are before any damage."""
     count = sum(len(block.revisions) for block in journal.blocks)
     told = "undamaged" if journal.damage is None else "before the damage"
-    rest = f"; {journal.rest} bytes after the last line are no line" if journal.rest else ""
-    print(f"{len(journal.blocks)} blocks and {count} revisions, {told}{rest}", file=out)
+    rest = f"; {counted(journal.rest, 'byte')} after the last line are no line" if journal.rest else ""
+    print(f"{counted(len(journal.blocks), 'block')} and {counted(count, 'revision')}, {told}{rest}", file=out)
     return 0
 
 

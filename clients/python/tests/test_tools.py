@@ -3,11 +3,13 @@ from __future__ import annotations
 
 import contextlib
 import csv
+import fcntl
 import io
 import json
 import os
 import shutil
 import subprocess
+import unittest.mock
 
 from common import PROGRAM, WithJournal
 from ledger import Ledger, Statement, Timestamp, Transaction, ion, shell, view
@@ -47,10 +49,10 @@ class Registry(WithJournal):
 
 class Views(Registry):
     def test_tables_and_blocks(self) -> None:
-        self.assertRegex(self.view("tables"), r"^cars +\w{22} made in block 0, 1 documents, indexes: vin\n$")
+        self.assertRegex(self.view("tables"), r"^cars +\w{22} made in block 0, 1 document, indexes: vin\n$")
         blocks = self.view("blocks", "--from", "2", "--to", "2").splitlines()
         self.assertEqual(len(blocks), 2)
-        self.assertIn('SET c.owner = ? WHERE c.vin = ? with "Grace" "A1" -> 1 rows', blocks[1])
+        self.assertIn('SET c.owner = ? WHERE c.vin = ? with "Grace" "A1" -> 1 row', blocks[1])
 
     def test_documents(self) -> None:
         self.assertEqual(len(self.view("rows", "cars").splitlines()), 1)
@@ -97,6 +99,23 @@ class Views(Registry):
         self.assertIn("tip 9 DIFFERS: the journal has 4 blocks", self.view("digests", good, bad, later, status=7))
         self.view("digests", self.path, status=2)
 
+    def test_beside_a_run(self) -> None:
+        """A journal that a run has alone, and that may only be read, is shown all the same."""
+        shown = self.view("blocks")
+        os.chmod(self.path, 0o444)
+        with open(self.path, "rb") as held:
+            fcntl.flock(held, fcntl.LOCK_EX)
+            self.assertEqual(self.view("blocks"), shown)
+            self.assertIn("4 agree", self.view("digests", self.published()))
+        os.chmod(self.path, 0o644)
+
+    def published(self) -> str:
+        """A file of the digests of all blocks."""
+        journal, path = self.ledger.read(), os.path.join(self.folder, "published")
+        with open(path, "w", encoding="utf-8") as file:
+            file.writelines(ion.write(journal.digest(tip).value()) + "\n" for tip in range(len(journal.blocks)))
+        return path
+
     def test_damage(self) -> None:
         """What stands before the damage is shown, and the status says that there is one."""
         self.put(self.before.replace(b"Grace", b"Gracf", 1))
@@ -134,6 +153,15 @@ class Shells(Registry):
         self.assertIn("committed in block 5", self.shell("DELETE FROM cars AS c WHERE c.vin = 'C3';"))
         self.put(self.before)
 
+    def test_interrupted(self) -> None:
+        """Ctrl-C drops the statement that is being typed, and neither the shell nor the open transaction."""
+        typed = iter(["BEGIN;", "INSERT INTO cars", KeyboardInterrupt(), "SELECT COUNT(*) FROM cars;", "\\q"])
+        out = io.StringIO()
+        terminal = unittest.mock.Mock(isatty=lambda: True)
+        with unittest.mock.patch("builtins.input", side_effect=typed), contextlib.redirect_stdout(io.StringIO()):
+            status = shell.Shell(Ledger(self.path, PROGRAM, 20), out).run(terminal)
+        self.assertEqual(status, 1, out.getvalue())
+        self.assertRegex(out.getvalue(), r"^  \{_1:1\}\n  \(1 row\)\n  \(not committed yet\)\nthe open transaction was dropped\n$")
 
     def test_rest(self) -> None:
         """Bytes after the last line feed are warned of before the run that cuts them off."""
