@@ -1,5 +1,5 @@
-//! Permissions: what statements demand of the tables that they name, the rules that allow or deny demands, how named
-//! sets of rules are read from a value, and what of a transaction is denied.
+//! Permissions: what statements demand of the tables that they name, the rules that allow or deny demands, and how named
+//! sets of rules are read from a value.
 #![tactic(auto)]
 
 mod demand;
