@@ -120,14 +120,18 @@ tables_of [] [] = Some []
 tables_of (v ∷ vs) (r ∷ rs) = and_then (table_in r v) (λ t. option_map (λ ts. t ∷ ts) (tables_of vs rs))
 tables_of _ _ = None
 
-abbrev pub info_of : List Revision → List Field → Option Info
-info_of revisions (f ∷ g ∷ h ∷ i ∷ []) =
-    and_then (and_then (named (codes "place") f) place_in) (λ place.
-    and_then (and_then (and_then (named (codes "statements") g) list_in) (each said_in)) (λ said.
-    and_then (and_then (and_then (named (codes "schema") h) list_in) (each schema_in)) (λ schema.
-    and_then (and_then (and_then (named (codes "documents") i) list_in)
-    (λ values. tables_of values revisions)) (λ tables.
+-- each part has to be there
+abbrev pub info_from : Option Place → Option (List Said) → Option (List Schema) → Option (List TableId) → Option Info
+info_from place said schema tables =
+    and_then place (λ place. and_then said (λ said. and_then schema (λ schema. and_then tables (λ tables.
     Some (record { place = place; said = told.Said said; schema = schema; tables = tables })))))
+
+abbrev pub info_of : List Revision → List Field → Option Info
+info_of revisions (f ∷ g ∷ h ∷ i ∷ []) = info_from
+    (and_then (named (codes "place") f) place_in)
+    (and_then (and_then (named (codes "statements") g) list_in) (each said_in))
+    (and_then (and_then (named (codes "schema") h) list_in) (each schema_in))
+    (and_then (and_then (named (codes "documents") i) list_in) (λ values. tables_of values revisions))
 info_of revisions _ = None
 
 abbrev pub info_in : List Revision → Value → Option Info

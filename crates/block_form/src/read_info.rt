@@ -167,36 +167,21 @@ fn tables_of(
     Ok(Some(Sequence::from_vec(tables)))
 }
 
-/// What is said in four fields.
-fn info_with(
-    alloc: Global,
-    place: &Field,
-    statements: Field,
-    schema: Field,
-    documents: &Field,
-    revisions: &[Revision],
-) -> Result<Option<Info>, OutOfMemory>
-    ensures { IfOk result (λ info. info ≡ spec.info_of revisions.now
-        (place.now ∷ statements ∷ schema ∷ documents.now ∷ [])) }
+/// What a transaction said and did, where each part of it is known.
+fn info_from(
+    place: Option<Place>,
+    said: Option<SaidList>,
+    schema: Option<SchemaList>,
+    tables: Option<TableIds>,
+) -> Option<Info>
+    ensures { result ≡ spec.info_from place said schema tables }
 {
-    let Some(place) = placed(place) else {
-        return Ok(None);
-    };
-    let Some(said) = statements_of(alloc, statements)? else {
-        return Ok(None);
-    };
-    let Some(schema) = changes_of(alloc, schema)? else {
-        return Ok(None);
-    };
-    let Some(tables) = documents_of(alloc, documents, revisions)? else {
-        return Ok(None);
-    };
-    Ok(Some(Info {
-        place,
-        said: Told::Said(said),
-        schema,
-        tables,
-    }))
+    Some(Info {
+        place: place?,
+        said: Told::Said(said?),
+        schema: schema?,
+        tables: tables?,
+    })
 }
 
 fn info_of(
@@ -209,8 +194,10 @@ fn info_of(
     let Some((place, statements, schema, documents)) = four_of(fields) else {
         return Ok(None);
     };
-    let info = info_with(alloc, &place, statements, schema, &documents, revisions)?;
-    Ok(info)
+    let tables = documents_of(alloc, &documents, revisions)?;
+    let said = statements_of(alloc, statements)?;
+    let schema = changes_of(alloc, schema)?;
+    Ok(info_from(placed(&place), said, schema, tables))
 }
 
 /// The fields, where there are four.

@@ -8,6 +8,7 @@ use Rattle.laws_history.specs.Records.{RunRecord}
 use Rattle.laws_history.proofs.Stored.{all-HoldingWithRest}
 use Rattle.cli_model.specs.Clocks.{Answers}
 use Rattle.cli_model.specs.Making.{IsSummaryOf, made_jobs, made_terms}
+use Rattle.cli_model.proofs.Imaged.{alone_from}
 use Rattle.cli_model.specs.Runs.{Terms, IsDone, IsLeft, IsReportOf, HoldsRun, HoldsRunAfter, TellsRun}
 
 pub done_leaves : (terms : Terms) (workers : ℕ) (jobs : List Placed) (store : Span StoreTold) (t : RunRecord)
@@ -18,6 +19,7 @@ done_leaves terms workers jobs store t done = record {
   fits = done.fits.blocks;
   digests = done.fits.digests;
   holding = all-HoldingWithRest t.after (held store.after) done.holding;
+  images = λ rest. alone_from t.before t.after store.after done.fits.blocks.begins (done.images rest);
 }
 
 pub reported_holds : (terms : Terms) (workers : ℕ) (jobs : List Placed) (store : Span StoreTold) (text : List ℕ)

@@ -1,3 +1,4 @@
+pub mod Imaged
 pub mod Addresses
 pub mod First
 pub mod Holding

@@ -9,5 +9,6 @@ pub mod Making
 pub mod Outputs
 pub mod Runs
 pub mod Stores
+pub mod Images
 pub mod Top
 pub mod Written

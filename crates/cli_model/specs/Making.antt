@@ -9,13 +9,14 @@ use Rattle.workload.specs.Laws.{made_total}
 use Rattle.workload.specs.Made.{made_first, made_placed}
 use Rattle.workload.specs.Sums.{summary, summary_text}
 use Rattle.workload.specs.declared.totals.Totals.{Totals}
-use Rattle.outside.specs.Told.{StoreTold, held}
+use Rattle.outside.specs.Told.{StoreTold}
 use Rattle.cli_args.specs.declared.MakeOptions.{MakeOptions}
 use Rattle.laws_history.specs.Calls.{Span}
 use Rattle.laws_history.specs.Records.{RunRecord}
 use Rattle.cli_model.specs.Calls.{Outside}
 use Rattle.cli_model.specs.Claims.{Claim, Status, DamagedLine, StoreLine, bad_input, damaged, store_failed}
 use Rattle.cli_model.specs.Clocks.{Answers, times_between}
+use Rattle.cli_model.specs.Images.{IsStill}
 use Rattle.cli_model.specs.Inputs.{IsIdle}
 use Rattle.cli_model.specs.Lines.{not_empty_line}
 use Rattle.cli_model.specs.Runs.{Terms, IsDone, HoldsRunAfter, TellsRun}
@@ -55,11 +56,11 @@ pub record IsSummaryOf (o : MakeOptions) (store : Span StoreTold) (clock : Span 
   pub text_is : text ≡ summary_text (summary told.after)
   pub adds_up : length told.after ≡ o.sessions * o.transactions + 1 → text ≡ summary_text (made_totals o)
 
--- What the run of a workload leaves in its store, also if it was stopped: what the store held, or the journal of the
+-- What the run of a workload leaves in its store, also if it was stopped: the store's content, or the journal of the
 -- run or a part of it. That run began on an empty journal.
 abbrev pub LeavesWorkload : MakeOptions → Span StoreTold → Span Answers → Type 0
 LeavesWorkload o store clock =
-    (held store.after ≡ held store.before) ⊎ HoldsRunAfter [] (made_terms o clock) o.workers (made_jobs o) store
+    IsStill store ⊎ HoldsRunAfter [] (made_terms o clock) o.workers (made_jobs o) store
 
 -- The store has failed as often as the outcomes of the run say, or those of the first transaction's run alone, if
 -- memory ran out after it.

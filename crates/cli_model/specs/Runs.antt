@@ -17,6 +17,7 @@ use Rattle.laws_history.specs.Runs.{WasRun}
 use Rattle.cli_model.specs.Calls.{Outside}
 use Rattle.cli_model.specs.Claims.{Claim, Status, BadInputLine, DamagedLine, SourceLine, StoreLine, bad_input, damaged, source_failed, store_failed}
 use Rattle.cli_model.specs.Clocks.{Answers, given_by, AreTimes, GaveFirst}
+use Rattle.cli_model.specs.Images.{DoneLeaves, IsStill, StoppedLeaves}
 use Rattle.cli_model.specs.Inputs.{HasScript, IsNoScript, SpellsScript}
 use Rattle.cli_model.specs.Stores.{IsUncalled}
 
@@ -43,7 +44,7 @@ pub record IsOfRun (terms : Terms) (workers : ℕ) (jobs : List Placed) (store :
   pub closed : t.closed ≡ store.after.faults
 
 -- The jobs were run by the workers, by one worker alone in their order, and the store holds the journal that is left,
--- synced where it was synced.
+-- synced where it was synced. No stop of the machine takes a block of it away.
 pub record IsDone (terms : Terms) (workers : ℕ) (jobs : List Placed) (store : Span StoreTold) (t : RunRecord)
     : Type 0 where
   pub of_run : IsOfRun terms workers jobs store t
@@ -52,15 +53,17 @@ pub record IsDone (terms : Terms) (workers : ℕ) (jobs : List Placed) (store : 
   pub in_order : t.workers ≡ 1 → RunsInOrder t
   pub holding : Holding t.after (held store.after)
   pub synced : IsSynced store.before → IsSynced store.after
+  pub images : DoneLeaves store t.after
 
 -- The store holds the journal of a run of the jobs or of a part of it, whose blocks have the digests that their jobs
--- give, and perhaps a rest that is no whole line.
+-- give, and perhaps a rest that is no whole line. No stop of the machine takes a block away with which the run began.
 pub record IsLeft (terms : Terms) (workers : ℕ) (jobs : List Placed) (store : Span StoreTold) (t : RunRecord)
     : Type 0 where
   pub of_run : IsOfRun terms workers jobs store t
   pub fits : FitsBlocks t
   pub digests : AllByRecursion (IsOfOwnDigest t.jobs) (made t)
   pub holding : HoldingWithRest t.after (held store.after)
+  pub images : StoppedLeaves store t.before
 
 -- the jobs were run on these terms, and the text is the report of that run
 pub record IsReportOf (terms : Terms) (workers : ℕ) (jobs : List Placed) (store : Span StoreTold) (text : List ℕ)
@@ -105,9 +108,9 @@ pub record HoldsAsked (o : RunOptions) (x : Outside) : Type 0 where
   pub are : AreTerms o x.clock terms
   pub holds : HoldsRun terms o.workers (all_placed script) x.store
 
--- what a run leaves in its store, also where it was stopped: what it held, or the journal of the run or a part of it
+-- what a run leaves in its store, also where it was stopped: its content, or the journal of the run or a part of it
 abbrev pub LeavesRun : RunOptions → Outside → Type 0
-LeavesRun o x = (held x.store.after ≡ held x.store.before) ⊎ HoldsAsked o x
+LeavesRun o x = IsStill x.store ⊎ HoldsAsked o x
 
 -- such a run's outcomes say how often the store has failed
 pub record TellsAsked (o : RunOptions) (x : Outside) : Type 0 where

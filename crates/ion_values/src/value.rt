@@ -64,7 +64,7 @@ pub struct Field {
 
 /// A scalar without its annotations, by which values are looked up. A moment is in billionths of a
 /// second since 1970 in UTC.
-#[derive(Drop)]
+#[derive(Debug, Drop)]
 pub enum Key {
     Bool(bool),
     Number { coefficient: i128, exponent: i32 },

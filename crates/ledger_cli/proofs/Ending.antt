@@ -15,6 +15,7 @@ use Rattle.cli_model.specs.Inputs.{IsFine, IsIdle}
 use Rattle.cli_model.specs.Lines.{faults_line, memory_line}
 use Rattle.cli_model.specs.Runs.{LeavesRun}
 use Rattle.cli_model.specs.Stores.{IsUncalled}
+use Rattle.cli_model.proofs.Imaged.{stays_still}
 use Rattle.cli_model.specs.Top.{Gives, Refuses, Keeps, Ends, RunsOut, TellsStore, WritesLast, Does, asked_by}
 use Rattle.cli_model.specs.Written.{WritesLine, RunsOutIn}
 use Rattle.ledger_cli.specs.declared.ends.Status.{Status}
@@ -40,16 +41,16 @@ takes_none told = ([], record { consumed = consumes_none told.left; few = omega 
 -- where neither is called, all is kept
 pub keeps_all : (same : Type 0) (what : Option Command) (x : Outside) → IsUncalled same x.store → IsIdle x.source → Keeps same what x
 keeps_all same None x un idle = (un, idle)
-keeps_all same (Some (command.Run options)) x un idle = inl (ap held un.told)
+keeps_all same (Some (command.Run options)) x un idle = inl (stays_still x.store (ap (λ (t : StoreTold). t.content) un.told))
 keeps_all same (Some (command.Digest tip)) x un idle = (ap (λ (t : StoreTold). t.content) un.told, idle)
 keeps_all same (Some (command.Prove sequence index tip)) x un idle = (ap (λ (t : StoreTold). t.content) un.told, idle)
 keeps_all same (Some command.Verify) x un idle = un
 keeps_all same (Some command.Audit) x un idle = (ap (λ (t : StoreTold). t.content) un.told, idle)
-keeps_all same (Some (command.Make options)) x un idle = (inl (ap held un.told), idle)
+keeps_all same (Some (command.Make options)) x un idle = (inl (stays_still x.store (ap (λ (t : StoreTold). t.content) un.told)), idle)
 
 -- a run that isn't begun leaves what there was
 pub keeps_run_all : (options : RunOptions) (x : Outside) → x.store.after ≡ x.store.before → LeavesRun options x
-keeps_run_all options x same = inl (ap held same)
+keeps_run_all options x same = inl (stays_still x.store (ap (λ (s : StoreTold). s.content) same))
 
 -- ---- how a command comes to its end
 

@@ -15,6 +15,8 @@ use Rattle.ledger_model.specs.State.{state}
 use Rattle.ledger_model.specs.Script.{Placed}
 use Rattle.outside.specs.Store.{Content}
 use Rattle.outside.specs.Told.{StoreTold, held}
+use Rattle.laws_crash.specs.Sound.{IsSound}
+use Rattle.laws_crash.proofs.Images.{safe_recovers, unmarked_recovers}
 use Rattle.laws_history.specs.Standings.{Standing}
 use Rattle.laws_history.specs.Calls.{span}
 use Rattle.laws_history.specs.Records.{RunRecord, FitsBlocks, HaveTimes, InSessionOrder, IsOfSomeJob, InOrder}
@@ -23,19 +25,25 @@ use Rattle.laws_history.proofs.BlocksFit.{FitsBlocks-same}
 use Rattle.laws_history.proofs.Stored.{all-HoldingWithRest}
 use Rattle.cli_model.specs.Runs.{Terms, IsDone, IsOfRun, IsReportOf, HoldsRunAfter, TellsRun}
 use Rattle.cli_model.specs.Stores.{IsUnfailed}
+use Rattle.cli_model.specs.Images.{StoppedLeaves}
 use Rattle.cli_model.proofs.Holding.{done_leaves, done_tells}
+use Rattle.cli_model.proofs.Imaged.{sound_from, stays_still}
 use Rattle.laws_history.specs.Alone.{RunsInOrder}
 use Rattle.laws_history.specs.Claims.{Fits, IsOfOwnDigest}
 use Rattle.laws_history.specs.Runs.{WasRun}
 use Rattle.laws_history.specs.Tried.{tried_in}
-use Rattle.ledger_core.specs.Faults.{IsSettleFault}
+use Rattle.journal_keeper.specs.Faults.{IsSettleFault}
+use Rattle.ledger_core.specs.Images.{IsSoundTail}
 use Rattle.journal_reader.specs.Loads.{IsCause}
-use Rattle.ledger_core.specs.Tails.{MayBeCut, TailHeld}
-use Rattle.ledger_core.specs.declared.keeping.SettleFault.{SettleFault}
-use Rattle.ledger_core.specs.declared.keeping.SettleFault.TheVariants as settle
+use Rattle.journal_keeper.specs.Keeping.{MayBeCut}
+use Rattle.ledger_core.specs.Tails.{TailHeld}
+use Rattle.journal_keeper.specs.declared.keeping.SettleFault.{SettleFault}
+use Rattle.journal_keeper.specs.declared.keeping.SettleFault.TheVariants as settle
 use Rattle.journal_reader.specs.declared.cause.LoadCause.{LoadCause}
 use Rattle.journal_reader.specs.declared.cause.LoadCause.TheVariants as load
 use Rattle.ledger_shared.specs.Behind.{Keeps}
+use Rattle.ledger_shared.specs.Images.{tried_from}
+use Rattle.ledger_shared.proofs.Recovering.{unmarked_alone}
 use Rattle.ledger_shared.specs.Ran.{AllHaveRun}
 use Rattle.ledger_cli.specs.declared.command_fault.CommandFault.{CommandFault}
 use Rattle.ledger_cli.specs.declared.command_fault.CommandFault.TheVariants as stop
@@ -70,7 +78,7 @@ unloaded_ended Q workers jobs r cause before after is same h =
     subst
     (λ (x : Result (List ℕ) CommandFault). IfErr x (λ why. (terms : Terms) → Q terms → IsEnded why workers jobs (span before after) terms))
     (sym is)
-    (λ terms q. record { left = inl (same_held before after same); tells = unloaded_tells workers jobs terms cause before after h })
+    (λ terms q. record { left = inl (stays_still (span before after) same); tells = unloaded_tells workers jobs terms cause before after h })
 
 pub unloaded_stop : {A : Type 0} (r : Result A CommandFault) (cause : LoadCause) (before after : StoreTold) → r ≡ Err (load_stop cause)
     → after.content ≡ before.content → IsCause cause before after → IfErr r (λ why. IsLoadStop why (span before after))
@@ -133,9 +141,10 @@ module _ {S C : Type 0} (told : S → StoreTold) (answers : C → Option (List �
 
     -- the store holds these blocks and a rest
     leaves : (after : StoreTold) (blocks : List Block) (outcomes : List PlacedOutcome) (closed : ℕ) → FitsBlocks (run_of blocks outcomes closed)
-        → AllByRecursion (IsOfOwnDigest jobs) (drop (length opened.standing.blocks) blocks) → HoldingWithRest blocks (held after)
+        → AllByRecursion (IsOfOwnDigest jobs) (drop (length opened.standing.blocks) blocks)
+        → StoppedLeaves (span before after) opened.standing.blocks → HoldingWithRest blocks (held after)
         → HoldsRunAfter opened.standing.blocks terms workers jobs (span before after)
-    leaves after blocks outcomes closed fits digests holding = record {
+    leaves after blocks outcomes closed fits digests images holding = record {
       told = run_of blocks outcomes after.faults;
       before_is = refl;
       left = record {
@@ -143,6 +152,7 @@ module _ {S C : Type 0} (told : S → StoreTold) (answers : C → Option (List �
         fits = FitsBlocks-same (run_of blocks outcomes closed) outcomes after.faults fits;
         digests = digests;
         holding = holding;
+        images = images;
       };
     }
 
@@ -163,17 +173,25 @@ module _ {S C : Type 0} (told : S → StoreTold) (answers : C → Option (List �
     }
 
     none_holds : (now : TailHeld S C) → now.standing.blocks ≡ opened.standing.blocks
-        → HoldingWithRest now.standing.blocks (held (told now.store)) → HoldsRunAfter opened.standing.blocks terms workers jobs (span before (told now.store))
-    none_holds now same holds =
+        → StoppedLeaves (span before (told now.store)) opened.standing.blocks → HoldingWithRest now.standing.blocks (held (told now.store)) → HoldsRunAfter opened.standing.blocks terms workers jobs (span before (told now.store))
+    none_holds now same images holds =
         leaves (told now.store) opened.standing.blocks [] before.faults none_fits
-        (subst (λ (bs : List Block). AllByRecursion (IsOfOwnDigest jobs) bs) (sym none_made) tt)
+        (subst (λ (bs : List Block). AllByRecursion (IsOfOwnDigest jobs) bs) (sym none_made) tt) images
         (subst (λ (bs : List Block). HoldingWithRest bs (held (told now.store))) same holds)
+
+    none_images : (law : (v : Value) → has_no_line_feed (value_text v) ≡ true) (now : TailHeld S C) → Keeps told answers always opened now []
+        → StoppedLeaves (span before (told now.store)) opened.standing.blocks
+    none_images law now keeps rest =
+        sound_from (safe_recovers law) opened.standing.blocks opened.standing.blocks [] now.marked (told now.store).content none_fits.begins
+        none_fits.undamaged
+        (subst (λ (bs : List Block). IfSome (told now.store).content (IsSound bs [] now.marked)) keeps.behind.blocks
+        (keeps.images.sound [] (has.images rest)))
 
     none_left : (law : (v : Value) → has_no_line_feed (value_text v) ≡ true) (now : TailHeld S C) → Keeps told answers always opened now []
         → HoldsRunAfter opened.standing.blocks terms workers jobs (span before (told now.store))
     none_left law now keeps =
         left_by (held (told opened.store)) (held (told now.store)) opened.standing.blocks now.standing.blocks [] journal keeps.rest law
-        (HoldsRunAfter opened.standing.blocks terms workers jobs (span before (told now.store))) (none_holds now keeps.behind.blocks)
+        (HoldsRunAfter opened.standing.blocks terms workers jobs (span before (told now.store))) (none_holds now keeps.behind.blocks (none_images law now keeps))
         (λ b among sound holds. absurd (omega (arith, among.1)))
 
     -- so it has not failed
@@ -228,18 +246,29 @@ module _ {S C : Type 0} (told : S → StoreTold) (answers : C → Option (List �
           in_order = λ one. as_settled RunsInOrder (ordered one);
           holding = settled.holds;
           synced = λ was. settled.synced (all.keeps.synced (λ unmarked. synced_content before (told opened.store) has.content was));
+          images = λ rest.
+              unmarked_alone unmarked_recovers (told now.store).content now.standing.blocks [] now.marked settled.clean
+              (as_settled Fits fits).blocks.undamaged (settled.images (tried_from [] all.entries) (all.keeps.images.sound [] (has.images rest)));
         }
 
       -- or not
-      module _ (law : (v : Value) → has_no_line_feed (value_text v) ≡ true) (now : TailHeld S C) where
+      module _ (law : (v : Value) → has_no_line_feed (value_text v) ≡ true) (now : TailHeld S C) (same_standing : now.standing ≡ ran.standing)
+          (sound : (tried : List Block) → IsSoundTail told tried ran → IsSoundTail told tried now) where
+        images : StoppedLeaves (span before (told now.store)) opened.standing.blocks
+        images rest =
+            sound_from (safe_recovers law) opened.standing.blocks ran.standing.blocks (tried_from [] all.entries) now.marked (told now.store).content
+            fits.blocks.begins fits.blocks.undamaged
+            (subst (λ (s : Standing). IfSome (told now.store).content (IsSound s.blocks (tried_from [] all.entries) now.marked)) same_standing
+            (sound (tried_from [] all.entries) (all.keeps.images.sound [] (has.images rest))))
+
         own_left : HoldingWithRest ran.standing.blocks (held (told now.store)) → HoldsRunAfter opened.standing.blocks terms workers jobs (span before (told now.store))
-        own_left holds = leaves (told now.store) ran.standing.blocks outcomes failed fits.blocks fits.digests holds
+        own_left holds = leaves (told now.store) ran.standing.blocks outcomes failed fits.blocks fits.digests images holds
 
         more_left : (b : Block) → Contains (tried_in all.entries) b → Undamaged (ran.standing.blocks ++ b ∷ [])
             → HoldingWithRest (ran.standing.blocks ++ b ∷ []) (held (told now.store)) → HoldsRunAfter opened.standing.blocks terms workers jobs (span before (told now.store))
         more_left b among sound holds =
             let more = tried_fits told answers always given before opened has workers some jobs in_order terms masks ran outcomes all covered b among sound in
-            leaves (told now.store) (ran.standing.blocks ++ b ∷ []) outcomes failed more.0 more.1 holds
+            leaves (told now.store) (ran.standing.blocks ++ b ∷ []) outcomes failed more.0 more.1 images holds
 
         cut_left : MayBeCut (held (told ran.store)) (held (told now.store)) (length (journal_bytes ran.standing.blocks))
             → HoldsRunAfter opened.standing.blocks terms workers jobs (span before (told now.store))
@@ -291,7 +320,8 @@ module _ {S C : Type 0} (told : S → StoreTold) (answers : C → Option (List �
         → HasStopped told answers always workers jobs opened why now ⊎ ((why ≡ stop.OutOfMemory) × Keeps told answers always opened now [])
         → HoldsRunAfter opened.standing.blocks terms workers jobs (span before (told now.store))
     stopped_left now why terms is (inl h) =
-        cut_left terms is.given h.ran h.outcomes h.all (covered_then h.ran now terms h.stopped.clock is) law now h.stopped.cut
+        cut_left terms is.given h.ran h.outcomes h.all (covered_then h.ran now terms h.stopped.clock is) law now
+        h.stopped.standing h.stopped.images h.stopped.cut
     stopped_left now why terms is (inr h) = none_left terms is.given law now h.1
 
     pub stopped_tells : (now : TailHeld S C) (why : CommandFault) (terms : Terms) → IsToldBy now terms

@@ -27,6 +27,7 @@ use Rattle.laws_history.specs.Records.{RunRecord, IsOfSomeJob, made, untold, InO
 use Rattle.laws_history.proofs.Places.{InOrder-all_placed}
 use Rattle.cli_model.proofs.First.{comes_first}
 use Rattle.cli_model.proofs.Holding.{done_leaves, done_tells, summarized_holds}
+use Rattle.cli_model.proofs.Imaged.{stays_still}
 use Rattle.cli_model.specs.Making.{IsSummaryOf, TellsWorkload, made_jobs, made_terms}
 use Rattle.cli_model.specs.Calls.{Outside}
 use Rattle.cli_model.specs.Inputs.{IsFine, IsIdle}
@@ -52,7 +53,6 @@ use Rattle.ledger_cli.specs.Making.{HasMade, IsMakeStop, IsUnmade, IsWorkload, M
 use Rattle.ledger_cli.specs.Runs.{Comes, HasLoaded, HasStopped, TellsJobs}
 use Rattle.ledger_cli.specs.Stops.{IsLoadStop, load_stop}
 use Rattle.ledger_cli.proofs.Clocks.{between_covers, extends_same}
-use Rattle.ledger_cli.proofs.Ending.{same_held}
 use Rattle.ledger_cli.proofs.Leaving.{loaded_journal}
 use Rattle.ledger_cli.proofs.Loaded.{goes_at, settled_done, settled_record, stopped_by, stopped_left, stopped_tells, unloaded_cause}
 use Rattle.ledger_cli.proofs.Running.{clock_goes, run_fits}
@@ -143,6 +143,7 @@ module _ (o : MakeOptions) where
           };
           digests = all_own (made t);
           holding = h.left.holding;
+          images = h.left.images;
         };
       }
 
@@ -247,7 +248,7 @@ module _ {S C : Type 0} (told : S → StoreTold) (answers : C → Option (List �
     ran = now;
     outcomes = h.outcome ∷ [];
     all = h.alone;
-    stopped = record { clock = refl; cut = inl refl; stop = refl };
+    stopped = record { clock = refl; cut = inl refl; stop = refl; standing = refl; images = λ tried sound. sound };
   }
 
   begun_goes : HasBegun told answers always first_job opened now → Goes
@@ -291,7 +292,7 @@ module _ {S C : Type 0} (told : S → StoreTold) (answers : C → Option (List �
       }
   stopped why (inr (is, inl h)) = record { left = inr (begun_left h); is = wanted why is; tells = λ e. begun_tells h }
   stopped why (inr (is, inr same)) = record {
-    left = inl (ap (λ (t : TailHeld S C). held (told t.store)) same ∙ same_held before (told opened.store) has.content);
+    left = inl (stays_still (span before (told now.store)) (ap (λ (t : TailHeld S C). (told t.store).content) same ∙ has.content));
     is = wanted why is;
     tells = λ e. inl (ap (λ (t : TailHeld S C). (told t.store).faults) same ∙ has.faults);
   }
@@ -338,7 +339,7 @@ pub has_blocks : {S C : Type 0} (told : S → StoreTold) (o : MakeOptions) (give
     (clock : Span (Option (List ℤ))) (n : ℕ) → HasLoaded told given before opened → n ≡ length opened.standing.blocks → (n ≡ 0 → ⊥)
     → Makes o (Err (stop.NotEmpty n)) (span before (told opened.store)) clock
 has_blocks told o given before opened _ n has long some = record {
-  left = inl (same_held before (told opened.store) has.content);
+  left = inl (stays_still (span before (told opened.store)) has.content);
   is = record {
     blocks = opened.standing.blocks;
     reads = record {
@@ -356,10 +357,10 @@ has_blocks told o given before opened _ n has long some = record {
 unloaded_by : (o : MakeOptions) (cause : LoadCause) (before after : StoreTold) (clock : Span (Option (List ℤ))) → after.content ≡ before.content
     → IsCause cause before after → IsLoadStop (load_stop cause) (span before after) → Makes o (Err (load_stop cause)) (span before after) clock
 unloaded_by o (load.Damaged sequence kind) before after _ same is h =
-    record { left = inl (same_held before after same); is = h; tells = λ e. inl is.1 }
+    record { left = inl (stays_still (span before after) same); is = h; tells = λ e. inl is.1 }
 unloaded_by o (load.StoreFault count) before after _ same is h =
-    record { left = inl (same_held before after same); is = h; tells = λ e. let bad : ⊥ = cc e in absurd bad }
-unloaded_by o load.OutOfMemory before after _ same is h = record { left = inl (same_held before after same); is = h; tells = λ e. inl is }
+    record { left = inl (stays_still (span before after) same); is = h; tells = λ e. let bad : ⊥ = cc e in absurd bad }
+unloaded_by o load.OutOfMemory before after _ same is h = record { left = inl (stays_still (span before after) same); is = h; tells = λ e. inl is }
 
 pub unloaded_makes : (o : MakeOptions) (cause : LoadCause) (before after : StoreTold) (clock : Span (Option (List ℤ)))
     (came : Result (List ℕ) CommandFault) → came ≡ Err (load_stop cause) → after.content ≡ before.content → IsCause cause before after
@@ -370,7 +371,7 @@ unloaded_makes o cause before after clock came is same h =
 
 -- there was no memory for the transactions
 pub unbegun : (o : MakeOptions) (told : StoreTold) (clock : Span (Option (List ℤ))) → Makes o (Err stop.OutOfMemory) (span told told) clock
-unbegun o told clock = record { left = inl refl; is = tt; tells = λ e. inl refl }
+unbegun o told clock = record { left = inl (stays_still (span told told) refl); is = tt; tells = λ e. inl refl }
 
 -- ---- the command
 

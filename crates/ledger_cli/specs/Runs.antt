@@ -1,5 +1,5 @@
 -- How a run goes on from the tail of a journal that was loaded, and what it leaves.
-use Rattle.std.specs.Prelude.{◌≡◌, ◌⊎◌, [], ℕ, ℤ, List, length, Option, Result, Ok, Err}
+use Rattle.std.specs.Prelude.{◌≡◌, ◌⊎◌, false, [], ℕ, ℤ, List, length, Option, Result, Ok, Err}
 use Rattle.ledger_model.specs.declared.block.Block.{Block}
 use Rattle.ledger_model.specs.declared.outcome.PlacedOutcome.{PlacedOutcome}
 use Rattle.ledger_model.specs.Journal.{journal_bytes}
@@ -11,9 +11,12 @@ use Rattle.laws_history.specs.Calls.{Span, span}
 use Rattle.laws_history.specs.Records.{greatest, mask_of}
 use Rattle.laws_history.specs.Stores.{Holding, IsSynced}
 use Rattle.journal_reader.specs.Loads.{IsLoaded}
+use Rattle.cli_model.specs.Images.{IsStill}
 use Rattle.cli_model.specs.Runs.{Terms, HoldsRun, TellsRun}
 use Rattle.cli_model.specs.Stores.{IsUnfailed}
-use Rattle.ledger_core.specs.Tails.{MayBeCut, TailHeld}
+use Rattle.ledger_core.specs.Images.{IsSoundTail, ReloadGives}
+use Rattle.journal_keeper.specs.Keeping.{MayBeCut}
+use Rattle.ledger_core.specs.Tails.{TailHeld}
 use Rattle.ledger_shared.specs.Behind.{IsKept, Keeps}
 use Rattle.ledger_shared.specs.Ran.{AllHaveRun}
 use Rattle.ledger_cli.specs.Stops.{IsTailStop}
@@ -31,6 +34,7 @@ module _ {S C : Type 0} (told : S → StoreTold) where
     pub last : opened.standing.last ≡ greatest opened.standing.mask opened.standing.blocks
     pub content : (told opened.store).content ≡ before.content
     pub faults : (told opened.store).faults ≡ before.faults
+    pub images : ReloadGives told before opened
 
   -- ---- the cut at the end
 
@@ -41,12 +45,16 @@ module _ {S C : Type 0} (told : S → StoreTold) where
     pub holds : Holding now.standing.blocks (held (told now.store))
     pub fine : (told now.store).faults ≡ (told ran.store).faults
     pub synced : IsKept told ran → IsSynced (told now.store)
+    pub clean : now.marked ≡ false
+    pub images : (tried : List Block) → IsSoundTail told tried ran → IsSoundTail told [] now
 
   -- the store failed or memory ran out, and the bytes are as they were or cut to the lines of the blocks
   pub record IsUnsettled (ran now : TailHeld S C) (why : CommandFault) : Type 0 where
     pub clock : now.clock ≡ ran.clock
     pub cut : MayBeCut (held (told ran.store)) (held (told now.store)) (length (journal_bytes ran.standing.blocks))
     pub stop : IsTailStop why (span (told ran.store) (told now.store))
+    pub standing : now.standing ≡ ran.standing
+    pub images : (tried : List Block) → IsSoundTail told tried ran → IsSoundTail told tried now
 
   -- what there was is given with the settled tail
   abbrev pub Comes :
@@ -85,9 +93,9 @@ Reports blocks (Err why) (Err other) = other ≡ why
 
 -- ---- what is told of the whole
 
--- the store holds what it held, or the journal of a run of the jobs or of a part of it
+-- the store's content is as at entry, or it holds the journal of a run of the jobs or of a part of it
 abbrev pub LeavesJobs : ℕ → List Placed → Span StoreTold → Terms → Type 0
-LeavesJobs workers jobs store terms = (held store.after ≡ held store.before) ⊎ HoldsRun terms workers jobs store
+LeavesJobs workers jobs store terms = IsStill store ⊎ HoldsRun terms workers jobs store
 
 -- the store didn't fail, or as often as the outcomes of such a run say
 abbrev pub TellsJobs : ℕ → List Placed → Span StoreTold → Terms → Type 0

@@ -10,8 +10,8 @@ use Rattle.laws_history.specs.Calls.{Span}
 use Rattle.cli_model.specs.declared.Question.{Question}
 use Rattle.cli_model.specs.Journals.{HasNone}
 use Rattle.cli_model.specs.Stores.{HasFailed, IsUnfailed, ReadsDamage}
-use Rattle.ledger_core.specs.declared.keeping.SettleFault.{SettleFault}
-use Rattle.ledger_core.specs.declared.keeping.SettleFault.TheVariants as settle
+use Rattle.journal_keeper.specs.declared.keeping.SettleFault.{SettleFault}
+use Rattle.journal_keeper.specs.declared.keeping.SettleFault.TheVariants as settle
 use Rattle.journal_reader.specs.declared.cause.LoadCause.{LoadCause}
 use Rattle.journal_reader.specs.declared.cause.LoadCause.TheVariants as load
 use Rattle.ledger_cli.specs.declared.command_fault.CommandFault.{CommandFault}

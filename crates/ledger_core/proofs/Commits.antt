@@ -13,15 +13,20 @@ use Rattle.laws_history.specs.Stores.{Holding, IsSynced}
 use Rattle.outside.specs.Told.{StoreTold, held}
 use Rattle.txn_core.specs.Opened.{Opened}
 use Rattle.ledger_core.specs.declared.appending.Receipt.{Receipt}
+use Rattle.ledger_core.specs.declared.appending.Unkept.{Unkept}
 use Rattle.ledger_core.specs.declared.commit.CommitFault.{CommitFault}
 use Rattle.ledger_core.specs.declared.commit.CommitFault.TheVariants.{EndedTxn, DigestDiffers, Conflict, JournalFull, StoreFault, OutOfMemory}
-use Rattle.ledger_core.specs.declared.keeping.SettleFault.{SettleFault}
-use Rattle.ledger_core.specs.declared.keeping.SettleFault.TheVariants as settle
+use Rattle.ledger_core.specs.declared.commit.Uncommitted.{Uncommitted}
+use Rattle.journal_keeper.specs.declared.keeping.SettleFault.{SettleFault}
+use Rattle.journal_keeper.specs.declared.keeping.SettleFault.TheVariants as settle
 use Rattle.ledger_core.specs.NextBlock.{next_block, receipt_of}
 use Rattle.ledger_core.specs.Committing.{CommitEnds, ComesTo, IsAnswer, IsCommitFault, IsFound, IsOpenOn, IsService, IsTried, MayHoldPartOf, PassesChecks, Seals, fault_of}
-use Rattle.ledger_core.specs.Faults.{IsSettleFault, IsTriedWith}
-use Rattle.ledger_core.specs.Leaving.{CommitLeaves}
+use Rattle.journal_keeper.specs.Faults.{IsSettleFault}
+use Rattle.ledger_core.specs.Faults.{IsTriedWith}
+use Rattle.ledger_core.specs.Images.{CommitKeeps}
+use Rattle.ledger_core.specs.Leaving.{CommitLeaves, HadCome}
 use Rattle.ledger_core.specs.Tails.{MayHoldPart, TailHeld, joined}
+use Rattle.ledger_core.proofs.Imaging.{asked_kept, asked_unkept, refused_images}
 use Rattle.ledger_core.proofs.Openings.{joined_open, open_made, open_stands, open_undamaged}
 
 -- what is known of a transaction that has passed the checks
@@ -71,8 +76,9 @@ commit_fault settle.OutOfMemory before after is = is
 
 module _ {S C : Type 0} (told : S → StoreTold) (answers : C → Option (List ℤ)) (always : C → Option ℤ) (h : TailHeld S C) (t : Opened) (sent : Option Hash32) where
   as_it_was : (fault : CommitFault) → CommitEnds h.standing t sent (IsAnswer (answers h.clock) (answers h.clock) (always h.clock)) (Err fault) h.standing
-      → IsCommitFault fault (told h.store) (told h.store) → CommitLeaves told answers always h h t sent (Err fault)
-  as_it_was fault ends same = record {
+      → IsCommitFault fault (told h.store) (told h.store) → HadCome told answers always h h t sent (Err fault) None
+      → CommitLeaves told answers always h h t sent (Err fault)
+  as_it_was fault ends same had = record {
     ends = ends;
     unasked = inr refl;
     marked = inl refl;
@@ -83,16 +89,17 @@ module _ {S C : Type 0} (told : S → StoreTold) (answers : C → Option (List �
     part = inl refl;
     fine = tt;
     fault = same;
+    images = record { came = None; had_come = had; keeps = refused_images Receipt told h fault };
   }
 
   -- it leaves all as it was
   pub refused_leaves : (fault : CommitFault) → IsFound h.standing t sent fault → CommitLeaves told answers always h h t sent (Err fault)
-  refused_leaves EndedTxn is = as_it_was EndedTxn (is, refl) refl
-  refused_leaves (DigestDiffers mine given) is = as_it_was (DigestDiffers mine given) (is, refl) refl
-  refused_leaves (Conflict since named) is = as_it_was (Conflict since named) (is, refl) refl
-  refused_leaves (JournalFull blocks) is = as_it_was (JournalFull blocks) (is, refl) refl
+  refused_leaves EndedTxn is = as_it_was EndedTxn (is, refl) refl tt
+  refused_leaves (DigestDiffers mine given) is = as_it_was (DigestDiffers mine given) (is, refl) refl tt
+  refused_leaves (Conflict since named) is = as_it_was (Conflict since named) (is, refl) refl tt
+  refused_leaves (JournalFull blocks) is = as_it_was (JournalFull blocks) (is, refl) refl tt
   refused_leaves (StoreFault count) is = absurd is
-  refused_leaves OutOfMemory is = as_it_was OutOfMemory (is, refl) refl
+  refused_leaves OutOfMemory is = as_it_was OutOfMemory (is, refl) refl tt
 
 -- ---- a commit that passes its checks
 
@@ -101,6 +108,18 @@ module _ {S C : Type 0} (told : S → StoreTold) (answers : C → Option (List �
     (sent : Option Hash32) (time : TimeParts) (r : IsReady h.standing t sent) (e : n ≡ record h { clock = clock }) where
   same : n.standing ≡ h.standing
   same = ap (λ (x : TailHeld S C). x.standing) e
+
+  pub put_kept : (F : Type 0) (receipt : Receipt) (came other : Option Block) → CommitKeeps told {R = Receipt} {F = Unkept} (Ok receipt) came n m
+      → CommitKeeps told {R = Receipt} {F = F} (Ok receipt) other h m
+  put_kept F receipt came other k =
+      asked_kept told h m clock Unkept F receipt came other
+      (subst (λ (x : TailHeld S C). CommitKeeps told {R = Receipt} {F = Unkept} (Ok receipt) came x m) e k)
+
+  pub put_unkept : {F : Type 0} (u : Unkept) (f : F) (came : Option Block) → CommitKeeps told {R = Receipt} {F = Unkept} (Err u) came n m
+      → CommitKeeps told {R = Receipt} {F = F} (Err f) came h m
+  put_unkept {F} u f came k =
+      asked_unkept told h m clock Receipt Receipt u f came
+      (subst (λ (x : TailHeld S C). CommitKeeps told {R = Receipt} {F = Unkept} (Err u) came x m) e k)
 
   module _ (answer : IsAnswer (answers h.clock) (answers n.clock) (always h.clock) time) where
     pub put_stands : IsStanding (joined n.standing (next_block t n.standing.blocks time))
@@ -160,8 +179,9 @@ module _ {S C : Type 0} (told : S → StoreTold) (answers : C → Option (List �
         -- the block is sealed
         pub sealed_leaves : (receipt : Receipt) → receipt ≡ receipt_of (next_block t n.standing.blocks time)
             → m.standing ≡ joined n.standing (next_block t n.standing.blocks time) → Holding m.standing.blocks (held (told m.store)) → IsSynced (told m.store)
-            → (told m.store).faults ≡ (told n.store).faults → CommitLeaves told answers always h m t sent (Ok receipt)
-        sealed_leaves receipt is now holds synced fine = record {
+            → (told m.store).faults ≡ (told n.store).faults → CommitKeeps told {R = Receipt} {F = Unkept} (Ok receipt) None n m
+            → CommitLeaves told answers always h m t sent (Ok receipt)
+        sealed_leaves receipt is now holds synced fine images = record {
           ends = put_seals receipt is now;
           unasked = tt;
           marked = tt;
@@ -172,13 +192,15 @@ module _ {S C : Type 0} (told : S → StoreTold) (answers : C → Option (List �
           part = tt;
           fine = fine ∙ ap (λ (x : TailHeld S C). (told x.store).faults) e;
           fault = tt;
+          images = record { came = None; had_come = tt; keeps = put_kept CommitFault receipt None None images };
         }
 
         -- memory ran out, or the store failed
         pub unkept_leaves : (fault : SettleFault) → m.standing ≡ n.standing
             → MayHoldPart n.standing.blocks (next_block t n.standing.blocks time) (held (told n.store)) (held (told m.store)) → (m ≡ n) ⊎ (m.marked ≡ true)
-            → IsSettleFault fault (told n.store) (told m.store) → CommitLeaves told answers always h m t sent (Err (fault_of fault))
-        unkept_leaves fault kept part marked failed = record {
+            → IsSettleFault fault (told n.store) (told m.store) → (u : Unkept) (came : Option Block) → IsTriedWith (next_block t n.standing.blocks time) fault came
+            → CommitKeeps told {R = Receipt} {F = Unkept} (Err u) came n m → CommitLeaves told answers always h m t sent (Err (fault_of fault))
+        unkept_leaves fault kept part marked failed u came is_tried images = record {
           ends = put_faulted fault kept;
           unasked = inl (service fault);
           marked = marked_now marked;
@@ -189,6 +211,7 @@ module _ {S C : Type 0} (told : S → StoreTold) (answers : C → Option (List �
           part = put_part part;
           fine = tt;
           fault = commit_fault fault (told h.store) (told m.store) (subst (λ (x : TailHeld S C). IsSettleFault fault (told x.store) (told m.store)) e failed);
+          images = record { came = came; had_come = put_tried fault came is_tried; keeps = put_unkept u (fault_of fault) came images };
         }
 
 -- ---- other transactions

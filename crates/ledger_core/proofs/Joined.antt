@@ -5,10 +5,11 @@ use Rattle.ledger_model.specs.declared.block.Block.{Block}
 use Rattle.ledger_model.specs.Journal.{line, journal_bytes}
 use Rattle.ledger_model.specs.State.{State, state, after}
 use Rattle.laws_history.specs.Standings.{IsStanding}
-use Rattle.ledger_core.specs.declared.keeping.SettleFault.{SettleFault}
-use Rattle.ledger_core.specs.declared.keeping.SettleFault.TheVariants as settle
+use Rattle.journal_keeper.specs.declared.keeping.SettleFault.{SettleFault}
+use Rattle.journal_keeper.specs.declared.keeping.SettleFault.TheVariants as settle
 use Rattle.ledger_core.specs.Faults.{IsTriedWith}
-use Rattle.ledger_core.specs.Tails.{IsTail, HoldsMarked, HoldsPart, Leaves, MayHoldPart, cleared}
+use Rattle.journal_keeper.specs.Keeping.{HoldsPart, cleared}
+use Rattle.ledger_core.specs.Tails.{IsTail, HoldsMarked, Leaves, MayHoldPart}
 use Rattle.ledger_core.proofs.Kept.{holds-behind, unmarked, part-marked, part-holds}
 use Rattle.ledger_core.proofs.Standings.{journal-more, state-more}
 

@@ -2,19 +2,8 @@
 use Rattle.std.proofs.Common.{◌≡◌, ◌∙◌, ℕ, Bool, true, false, List, [], ◌∷◌, ◌++◌, length, take, append-nil, refl, sym, ap, subst, true≢false, inl, inr, Option, Some, None, ◌⊎◌}
 use Rattle.std.specs.Prelude.{option_map, IfSome}
 use Rattle.std.proofs.Math.Seq.{take-length}
-use Rattle.ledger_core.specs.Tails.{HoldsMarked, HoldsPart, MayBeCut, cleared}
-
--- a whole piece is the front part of itself
-pub all_kept : (before now : Option (List ℕ)) (piece : List ℕ) → now ≡ option_map (λ held. held ++ piece) before
-    → (kept : ℕ) × (now ≡ option_map (λ held. held ++ take kept piece) before)
-all_kept before now piece e = (length piece, simp take-length e)
-
--- ---- one step behind another
-
-pub behind : (clear : List ℕ → List ℕ) (line : List ℕ) (before cut now : Option (List ℕ)) → cut ≡ option_map clear before
-    → now ≡ option_map (λ held. held ++ line) cut → now ≡ option_map (λ held. clear held ++ line) before
-behind clear line None cut now e f = f ∙ ap (option_map (λ held. held ++ line)) e
-behind clear line (Some x) cut now e f = f ∙ ap (option_map (λ held. held ++ line)) e
+use Rattle.journal_keeper.specs.Keeping.{HoldsPart, MayBeCut, cleared}
+use Rattle.ledger_core.specs.Tails.{HoldsMarked}
 
 -- ---- what is held behind the journal
 

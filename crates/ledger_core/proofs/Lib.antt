@@ -2,6 +2,7 @@ pub mod Bounds
 pub mod Commits
 pub mod Digests
 pub mod Drawn
+mod Imaging
 mod Joined
 mod Kept
 pub mod LastBlock
@@ -9,4 +10,3 @@ pub mod Openings
 mod Others
 mod Standings
 mod Steps
-mod Syncs

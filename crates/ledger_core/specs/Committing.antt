@@ -25,8 +25,8 @@ use Rattle.ledger_core.specs.declared.appending.Receipt.{Receipt}
 use Rattle.ledger_core.specs.declared.commit.CommitFault.{CommitFault}
 use Rattle.ledger_core.specs.declared.commit.Uncommitted.{Uncommitted}
 use Rattle.ledger_core.specs.declared.commit.CommitFault.TheVariants.{EndedTxn, DigestDiffers, Conflict, JournalFull, StoreFault, OutOfMemory}
-use Rattle.ledger_core.specs.declared.keeping.SettleFault.{SettleFault}
-use Rattle.ledger_core.specs.declared.keeping.SettleFault.TheVariants as settle
+use Rattle.journal_keeper.specs.declared.keeping.SettleFault.{SettleFault}
+use Rattle.journal_keeper.specs.declared.keeping.SettleFault.TheVariants as settle
 use Rattle.outside.specs.Told.{StoreTold}
 use Rattle.ledger_core.specs.NextBlock.{HasRoom, next_block, receipt_of}
 use Rattle.ledger_core.specs.Tails.{MayHoldPart, joined}

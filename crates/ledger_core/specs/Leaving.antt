@@ -1,13 +1,15 @@
 -- What a commit leaves, by what it returns: the blocks, the clock and the store.
-use Rattle.std.specs.Prelude.{◌≡◌, ◌⊎◌, ℕ, ℤ, true, List, Option, Result, OnOk, OnErr, IfErr}
+use Rattle.std.specs.Prelude.{◌≡◌, ◌⊎◌, ℕ, ℤ, true, List, Option, Result, Ok, Err, OnOk, OnErr, IfErr}
 use Rattle.ion_values.specs.declared.time.TimeParts.{TimeParts}
 use Rattle.ql_types.specs.declared.Hash32.{Hash32}
+use Rattle.ledger_model.specs.declared.block.Block.{Block}
 use Rattle.laws_history.specs.Stores.{Holding, IsSynced}
 use Rattle.outside.specs.Told.{StoreTold, held}
 use Rattle.txn_core.specs.Opened.{Opened}
 use Rattle.ledger_core.specs.declared.appending.Receipt.{Receipt}
 use Rattle.ledger_core.specs.declared.commit.CommitFault.{CommitFault}
-use Rattle.ledger_core.specs.Committing.{CommitEnds, IsAnswer, IsCommitFault, IsService, MayHoldPartOf}
+use Rattle.ledger_core.specs.Committing.{CommitEnds, IsAnswer, IsCommitFault, IsService, IsTried, MayHoldPartOf}
+use Rattle.ledger_core.specs.Images.{CommitKeeps}
 use Rattle.ledger_core.specs.Tails.{TailHeld}
 
 -- with what a store tells, and what a clock tells of its answers
@@ -16,6 +18,17 @@ module _ {S C : Type 0} (told : S → StoreTold) (answers : C → Option (List �
   -- the clock was asked once in between, and this is its time
   abbrev pub Asked : TimeParts → Type 0
   Asked = IsAnswer (answers before.clock) (answers after.clock) (always before.clock)
+
+  -- this is the block with which the commit had come to its store, if it was refused and had
+  abbrev pub HadCome : Opened → Option Hash32 → Result Receipt CommitFault → Option Block → Type 0
+  HadCome t sent (Ok receipt) came = Unit {0}
+  HadCome t sent (Err fault) came = IsTried before.standing t sent Asked fault came
+
+  -- what a stop of the machine leaves, within the commit and after it
+  pub record LeavesImages (t : Opened) (sent : Option Hash32) (result : Result Receipt CommitFault) : Type 0 where
+    pub came : Option Block
+    pub had_come : HadCome t sent result came
+    pub keeps : CommitKeeps told result came before after
 
   pub record CommitLeaves (t : Opened) (sent : Option Hash32) (result : Result Receipt CommitFault) : Type 0 where
     -- the blocks, and the whole tail after a fault: as it was, unless it comes of memory or of the store
@@ -34,3 +47,5 @@ module _ {S C : Type 0} (told : S → StoreTold) (answers : C → Option (List �
     -- the store failed exactly if the commit returns so
     pub fine : OnOk result ((told after.store).faults ≡ (told before.store).faults)
     pub fault : IfErr result (λ fault. IsCommitFault fault (told before.store) (told after.store))
+    -- each image, at each moment within the commit and after it
+    pub images : LeavesImages t sent result

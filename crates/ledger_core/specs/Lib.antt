@@ -1,9 +1,11 @@
 pub mod Beginning
 pub mod Committing
 pub mod Faults
+pub mod Images
 pub mod Known
 pub mod Leaving
 pub mod NextBlock
 pub mod Outcomes
 pub mod Steps
 pub mod Tails
+pub mod Unkept

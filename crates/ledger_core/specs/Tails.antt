@@ -1,7 +1,7 @@
 -- The tail of a journal: the blocks that its store has taken, the numbers that its transactions have, and what stands
 -- after the lines of the blocks in the store. A store keeps the journal as the lines of its blocks, one after
 -- another.
-use Rattle.std.specs.Prelude.{◌≡◌, ◌⊎◌, ℕ, Bool, false, refl, List, [], ◌∷◌, ◌++◌, length, take, Option, Some, None, IfSome, option_map, if◌then◌else◌}
+use Rattle.std.specs.Prelude.{◌≡◌, ◌⊎◌, ℕ, Bool, false, refl, List, [], ◌∷◌, ◌++◌, length, take, Option, Some, None, IfSome}
 use Rattle.std.specs.Coded.{Coded, code_by, coded×, coded_ℕ, coded_bool, coded_list}
 use Rattle.ledger_model.specs.declared.block.Block.{Block}
 use Rattle.ledger_model.specs.contracts.block.Block as block
@@ -42,19 +42,6 @@ pub record IsTail (held : Option (List ℕ)) (standing : Standing) (marked : Boo
   pub stands : IsStanding standing
   pub long : size ≡ length (journal_bytes standing.blocks)
   pub holds : HoldsMarked (journal_bytes standing.blocks) marked held
-
--- the bytes without what is marked to be cut
-abbrev pub cleared : Bool → ℕ → List ℕ → List ℕ
-cleared marked size held = if marked then take size held else held
-
--- the bytes are as before or cut to this length
-abbrev pub MayBeCut : Option (List ℕ) → Option (List ℕ) → ℕ → Type 0
-MayBeCut before now size = (now ≡ before) ⊎ (now ≡ option_map (take size) before)
-
--- what is marked was cut and a part of the line was appended, perhaps none of it or all
-abbrev pub HoldsPart : Bool → ℕ → List ℕ → Option (List ℕ) → Option (List ℕ) → Type 0
-HoldsPart marked size line before now =
-    (kept : ℕ) × (now ≡ option_map (λ held. cleared marked size held ++ take kept line) before)
 
 -- the bytes are as before, or a part of the block's line stands after the lines of the blocks, perhaps none of it or
 -- all

@@ -4,14 +4,17 @@ ghost use Rattle.ledger_model.specs.Whole.{place_fits};
 ghost use Rattle.laws_history.specs.Standings.{IsStanding};
 ghost use Rattle.laws_history.specs.Stores.{Holding, IsSynced};
 ghost use Rattle.outside.specs.Told.{held};
-ghost use Rattle.ledger_core.specs.Faults.{IsSettleFault, IsTriedWith};
+ghost use Rattle.journal_keeper.specs.Faults.{IsSettleFault};
+ghost use Rattle.ledger_core.specs.Faults.{IsTriedWith};
+ghost use Rattle.ledger_core.specs.Images.{CommitKeeps};
 ghost use Rattle.ledger_core.specs.Tails.{Leaves, MayHoldPart, joined};
 ghost use Rattle.ledger_core.specs.NextBlock.{next_block, receipt_of};
+ghost use Rattle.ledger_core.specs.Unkept.{unkept_with};
 
-use crate::keeping::SettleFault;
 use crate::sealing::into_block;
 use crate::tail::Tail;
 use ion_values::{IonTime, OutOfMemory};
+use journal_keeper::SettleFault;
 use ledger_model::Block;
 use outside::JournalStore;
 use ql_types::{Hash32, Place};
@@ -39,7 +42,7 @@ pub(crate) struct Unkept {
 
 impl From<OutOfMemory> for Unkept {
     ghost use Rattle.std.specs.Prelude.{◌≡◌, None};
-    ghost use Rattle.ledger_core.specs.declared.keeping.SettleFault.TheVariants as fails;
+    ghost use Rattle.journal_keeper.specs.declared.keeping.SettleFault.TheVariants as fails;
 
     ghost from_gives = { λ _ e. e ≡ record { fault = fails.OutOfMemory; tried = None } };
 
@@ -79,6 +82,8 @@ impl<S: JournalStore, C> Tail<S, C> {
         ensures left { IfErr result (λ e. Leaves self.old.standing.blocks (option_map (λ b. b.value) e.tried)
             (held (S.told self.old.store)) (held (S.told self.new.store))) }
         ensures marked { OnErr result ((self.new ≡ self.old) ⊎ (self.new.marked ≡ true)) }
+        // what a stop leaves
+        ensures images { CommitKeeps S.told result (unkept_with result) self.old self.new }
         // when the store failed
         ensures later { (S.told self.old.store).faults ≤ (S.told self.new.store).faults }
         ensures fine { OnOk result ((S.told self.new.store).faults ≡ (S.told self.old.store).faults) }

@@ -4,14 +4,15 @@ ghost use Rattle.outside.specs.Told.{held};
 ghost use Rattle.txn_core.specs.Opened.{Opened};
 ghost use Rattle.ledger_core.specs.Committing.{Checked, IsAnswer, IsFound, IsOpenOn, IsTried, conflict_of};
 ghost use Rattle.ledger_core.specs.Committing.{digest_of, is_own, told_end};
+ghost use Rattle.ledger_core.specs.Images.{CommitKeeps, came_with};
 ghost use Rattle.ledger_core.specs.Leaving.{Asked, CommitLeaves};
 ghost use Rattle.ledger_core.specs.Tails.{Leaves};
 
 use crate::appending::{MOST_BLOCKS, Receipt, Unkept, is_within};
-use crate::keeping::SettleFault;
 use crate::tail::Tail;
 use ion_time::clamped;
 use ion_values::{IonTime, OutOfMemory};
+use journal_keeper::SettleFault;
 use ledger_model::{Block, Named, Said};
 use occ_check::first_conflict;
 use outside::{Clock, JournalStore};
@@ -19,22 +20,26 @@ use ql_types::{Hash32, TxId};
 use session_driver::{fold_statement, start_digest};
 use std::alloc::Global;
 use std::snapshot::Snapshot;
+use thiserror::Error;
 use txn_core::Txn;
 
 /// Why a transaction wasn't committed.
-#[derive(Drop)]
+#[derive(Debug, Drop, Error)]
 pub enum CommitFault {
-    /// A statement was refused before.
+    #[error("a statement of the transaction was refused")]
     EndedTxn,
-    /// The digest that was given isn't the transaction's own.
+    #[error("the digest isn't that of the transaction's statements")]
     DigestDiffers { mine: Hash32, given: Hash32 },
     /// Of the blocks after the first `since`, on which it began, this is the first that touched something that it
     /// read.
+    #[error("a block after the first {since} touched what the transaction read")]
     Conflict { since: u64, named: Named },
-    /// There are as many blocks as there can be.
+    #[error("there are {blocks} blocks, as many as there can be")]
     JournalFull { blocks: u64 },
     /// The store failed in its last call, and had failed `count` times by then.
+    #[error("the store failed, {count} times so far")]
     StoreFault { count: u64 },
+    #[error("out of memory")]
     OutOfMemory,
 }
 
@@ -121,6 +126,7 @@ impl<S: JournalStore, C: Clock> Tail<S, C> {
             (Asked S.told C.answers C.always self.old self.new) e.fault (option_map (λ b. b.value) e.tried)) }
         ensures left { IfErr result (λ e. Leaves self.old.standing.blocks (option_map (λ b. b.value) e.tried)
             (held (S.told self.old.store)) (held (S.told self.new.store))) }
+        ensures images { CommitKeeps S.told result (came_with result) self.old self.new }
     {
         match self.checked(alloc, &txn, sent) {
             Ok(()) => {}

@@ -4,7 +4,6 @@
 mod appending;
 mod begin;
 mod commit;
-mod keeping;
 mod laws;
 mod outcomes;
 mod reload;
@@ -15,8 +14,8 @@ mod tail;
 pub use appending::Receipt;
 pub use begin::BeginFault;
 pub use commit::{CommitFault, Uncommitted};
+pub use journal_keeper::SettleFault;
 pub use journal_reader::LoadCause;
-pub use keeping::SettleFault;
 pub use laws::{
     begins_are_steps, commits_are_steps, spent_numbers_are_steps, statements_are_steps,
     statements_keep_open,

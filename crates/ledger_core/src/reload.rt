@@ -5,11 +5,12 @@ ghost use Rattle.outside.specs.Told.{held};
 ghost use Rattle.laws_history.specs.Standings.{IsStanding};
 ghost use Rattle.laws_history.specs.Records.{greatest, mask_of};
 ghost use Rattle.journal_reader.specs.Loads.{IsLoaded, IsCause};
+ghost use Rattle.ledger_core.specs.Images.{ReloadGives};
 ghost use Rattle.ledger_core.specs.Known.{IsKnown, standing_of};
 
-use crate::keeping::Keeper;
 use crate::tail::{Tail, version_of};
 use ion_values::OutOfMemory;
+use journal_keeper::Keeper;
 use journal_reader::{Chain, Journal, LoadCause};
 use ledger_model::Block;
 use outside::JournalStore;
@@ -55,6 +56,7 @@ impl<S: JournalStore, C> Tail<S, C> {
         ensures store { IfOk result (λ tail. ((S.told tail.store).content ≡ (S.told store).content)
             × ((S.told tail.store).faults ≡ (S.told store).faults)) }
         ensures clock { IfOk result (λ tail. tail.clock ≡ clock) }
+        ensures images { IfOk result (λ tail. ReloadGives S.told (S.told store) tail) }
         // why there is none, and what is given back
         ensures cause { IfErr result (λ fault. IsCause fault.cause (S.told store) (S.told fault.store)) }
         ensures returned { IfErr result (λ fault. ((S.told fault.store).content ≡ (S.told store).content)

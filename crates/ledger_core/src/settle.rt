@@ -3,11 +3,12 @@ ghost use Rattle.std.specs.Prelude.{◌≡◌, true, false, length, IsOk, OnOk, 
 ghost use Rattle.ledger_model.specs.Journal.{journal_bytes};
 ghost use Rattle.laws_history.specs.Stores.{Holding, IsSynced};
 ghost use Rattle.outside.specs.Told.{held};
-ghost use Rattle.ledger_core.specs.Faults.{StoreLeaves};
-ghost use Rattle.ledger_core.specs.Tails.{MayBeCut};
+ghost use Rattle.journal_keeper.specs.Faults.{StoreLeaves};
+ghost use Rattle.ledger_core.specs.Images.{SettleKeeps};
+ghost use Rattle.journal_keeper.specs.Keeping.{MayBeCut};
 
-use crate::keeping::SettleFault;
 use crate::tail::Tail;
+use journal_keeper::SettleFault;
 use outside::JournalStore;
 
 impl<S: JournalStore, C> Tail<S, C> {
@@ -19,6 +20,8 @@ impl<S: JournalStore, C> Tail<S, C> {
         ensures cut { MayBeCut (held (S.told self.old.store)) (held (S.told self.new.store))
             (length (journal_bytes self.old.standing.blocks)) }
         ensures store { StoreLeaves result (S.told self.old.store) (S.told self.new.store) }
+        // what a stop leaves
+        ensures images { SettleKeeps S.told result self.old self.new }
         // the mark
         ensures settled { OnOk result (self.new.marked ≡ false) }
         ensures untouched { self.old.marked ≡ false → IsOk result × (self.new ≡ self.old) }

@@ -6,12 +6,15 @@ ghost use Rattle.laws_history.specs.Standings.{IsStanding};
 ghost use Rattle.laws_history.specs.Stores.{Holding, IsSynced};
 ghost use Rattle.outside.specs.Told.{held};
 ghost use Rattle.proof_model.specs.Issued.{block_hashes, IsDigest};
-ghost use Rattle.ledger_core.specs.Faults.{IsSettleFault, IsTriedWith};
+ghost use Rattle.journal_keeper.specs.Faults.{IsSettleFault};
+ghost use Rattle.ledger_core.specs.Faults.{IsTriedWith};
+ghost use Rattle.ledger_core.specs.Images.{CommitKeeps};
 ghost use Rattle.ledger_core.specs.Tails.{Leaves, MayHoldPart, joined};
+ghost use Rattle.ledger_core.specs.Unkept.{unkept_with};
 
 use crate::appending::Unkept;
-use crate::keeping::{Keeper, SettleFault};
 use ion_values::{OutOfMemory, Text};
+use journal_keeper::{Keeper, SettleFault};
 use journal_reader::Chain;
 use ledger_model::{Block, Blocks};
 use outside::JournalStore;
@@ -117,6 +120,8 @@ impl<S: JournalStore, C> Tail<S, C> {
             (held (S.told self.old.store)) (held (S.told self.new.store))) }
         ensures marked { IfErr result (λ e. ((e.fault ≡ SettleFault.OutOfMemory) × (self.new ≡ self.old))
             ⊎ (self.new.marked ≡ true)) }
+        // what a stop leaves
+        ensures images { CommitKeeps S.told result (unkept_with result) self.old self.new }
         // when the store failed
         ensures later { (S.told self.old.store).faults ≤ (S.told self.new.store).faults }
         ensures fine { OnOk result ((S.told self.new.store).faults ≡ (S.told self.old.store).faults) }

@@ -36,7 +36,7 @@ pub enum Refusal {
 }
 
 /// What a transaction read, or a block touched.
-#[derive(Drop)]
+#[derive(Debug, Drop)]
 pub enum Item {
     TableName {
         name: Text,
@@ -57,7 +57,7 @@ pub enum Item {
 }
 
 /// A block that touched an item.
-#[derive(Drop)]
+#[derive(Debug, Drop)]
 pub struct Named {
     pub block: u64,
     pub item: Item,

@@ -13,6 +13,8 @@ pub mod Closing
 pub mod Times
 pub mod Timed
 pub mod Resting
+pub mod Imaging
+pub mod Recovering
 pub mod Tailed
 pub mod Tailing
 pub mod BlocksCross

@@ -20,6 +20,7 @@ use Rattle.ledger_shared.specs.declared.entry.Entry.TheVariants.{Begun}
 use Rattle.ledger_shared.specs.Behind.{IsRightFor, Keeps, opening_of}
 use Rattle.ledger_shared.specs.Calls.{Begins, Commits, Extends}
 use Rattle.ledger_shared.specs.Told.{all_told}
+use Rattle.ledger_shared.proofs.Imaging.{images_begun, images_none}
 use Rattle.ledger_shared.proofs.Kept.{begun_behind, begun_entry, begun_extends, begun_more, nothing}
 use Rattle.ledger_shared.proofs.Resting.{rest_begun}
 use Rattle.ledger_shared.proofs.Timed.{times_push}
@@ -50,6 +51,7 @@ module _ {S C : Type 0} (store_told : S → StoreTold) (answers : C → Option (
     times = record { always_is = refl; goes_on = goes_same (answers opened.clock); timed = tt };
     rest = inr (inr (refl, refl));
     synced = λ kept. kept;
+    images = images_none store_told o opened;
   }
 
   -- the same tail and the same entries, however they are told
@@ -121,6 +123,7 @@ module _ {S C : Type 0} (store_told : S → StoreTold) (answers : C → Option (
       rest = rest_begun (held (store_told opened.store)) opened.standing.blocks (held (store_told tail.store)) tail.standing.blocks es place
           (tail.standing.last + 1) (length tail.standing.blocks) h.rest;
       synced = h.synced;
+      images = images_begun store_told o opened tail es h.images (drawn tail.standing) refl place (tail.standing.last + 1) (length tail.standing.blocks);
     }
 
     pub begin_keeps : Holds now more

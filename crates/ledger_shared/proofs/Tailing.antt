@@ -11,8 +11,9 @@ use Rattle.outside.specs.Told.{StoreTold, held}
 use Rattle.laws_machine.specs.Entries.{Entry, Opening, sealed}
 use Rattle.txn_core.specs.Opened.{Opened}
 use Rattle.ledger_core.specs.Committing as core
-use Rattle.ledger_core.specs.Committing.{IsAnswer}
-use Rattle.ledger_core.specs.Tails.{Leaves, TailHeld}
+use Rattle.ledger_core.specs.Committing.{IsAnswer, IsService}
+use Rattle.ledger_core.specs.Images.{IsSoundTail, KeepsSound, Settles, tried_with}
+use Rattle.ledger_core.specs.Tails.{Leaves, TailHeld, joined}
 use Rattle.ledger_core.specs.declared.appending.Receipt.{Receipt}
 use Rattle.ledger_core.specs.declared.commit.CommitFault.{CommitFault}
 use Rattle.ledger_shared.specs.declared.entry.Entry as kept
@@ -21,6 +22,7 @@ use Rattle.ledger_shared.specs.Calls.{Commits, Extends, IsOpen, refusal_of}
 use Rattle.ledger_shared.specs.Rests.{HoldsRest, tried_in}
 use Rattle.ledger_shared.specs.Told.{all_told, told}
 use Rattle.ledger_shared.proofs.Commits.{Ends, listed, not_moved, refused, sealed_behind, seals}
+use Rattle.ledger_shared.proofs.Imaging.{images_refused, images_sealed}
 use Rattle.ledger_shared.proofs.Kept.{refuse_more, refuse_none, seal_more}
 use Rattle.ledger_shared.proofs.Resting.{refused_rest, rest_sealed}
 use Rattle.ledger_shared.proofs.Tailed.{Holds}
@@ -82,10 +84,14 @@ module _ {S C : Type 0} (store_told : S → StoreTold) (answers : C → Option (
         ∙ told_here (items ++ e ∷ []) (ap (λ (x : Standing). x.mask) r.now_is) more_is
 
     pub seal_keeps : (store_told now.store).faults ≡ faults → Holding now.standing.blocks (held (store_told now.store))
-        → IsSynced (store_told now.store) → Holds store_told answers always opened now more
-    seal_keeps fine holds synced =
+        → IsSynced (store_told now.store) → now.marked ≡ false
+        → ((b : Block) → now.standing ≡ joined tail.standing b → (tried : List Block) → IsSoundTail store_told tried tail
+        → Settles store_told tail now (tried ++ b ∷ []))
+        → Holds store_told answers always opened now more
+    seal_keeps fine holds synced clean settles =
+        let behind = sealed_behind o opened.standing tail.standing faults es t h.behind k sent Told now.standing (store_told now.store).faults receipt r fine in
         subst (λ xs. Keeps store_told answers always opened now xs) seal_told (record {
-          behind = sealed_behind o opened.standing tail.standing faults es t h.behind k sent Told now.standing (store_told now.store).faults receipt r fine;
+          behind = behind;
           times = timed_so (es ++ sealed t.begun.number r.block ∷ [])
               (times_push (always opened.clock) (always tail.clock) (answers opened.clock) (answers tail.clock) (answers now.clock) o es h.times goes
               (sealed t.begun.number r.block)
@@ -94,6 +100,8 @@ module _ {S C : Type 0} (store_told : S → StoreTold) (answers : C → Option (
           rest = rest_sealed (held (store_told opened.store)) opened.standing.blocks (held (store_told now.store)) now.standing.blocks
               (es ++ sealed t.begun.number r.block ∷ []) holds;
           synced = λ kept unmarked. synced;
+          images = images_sealed store_told o opened tail es h.images now t.begun.number r.block clean (settles r.block r.now_is)
+              h.behind.blocks behind.blocks;
         })
 
     pub seal_adds : Extends es (all_told now.standing.mask more) (λ added. Commits o es t sent (Ok receipt) added)
@@ -104,7 +112,9 @@ module _ {S C : Type 0} (store_told : S → StoreTold) (answers : C → Option (
   module _ (f : CommitFault) (tried : Option Block) (finds : core.CommitEnds tail.standing t sent Told (Err f) now.standing)
       (tries : core.IsTried tail.standing t sent Told f tried) (told_is : core.IsCommitFault f (store_told tail.store) (store_told now.store))
       (left : Leaves tail.standing.blocks tried (held (store_told tail.store)) (held (store_told now.store)))
-      (marks : (now ≡ record tail { clock = now.clock }) ⊎ (now.marked ≡ true)) where
+      (marks : (now ≡ record tail { clock = now.clock }) ⊎ (now.marked ≡ true)) (unasked : IsService f ⊎ (now ≡ tail))
+      (sound : (before : List Block) → IsSoundTail store_told before tail
+      → KeepsSound store_told tail now (tried_with before tried) (tried_with before tried)) where
     -- the store is as it was, or a cut is marked
     kept_by : (now ≡ record tail { clock = now.clock }) ⊎ (now.marked ≡ true) → IsKept store_told tail → IsKept store_told now
     kept_by (inl same) kept unmarked =
@@ -138,6 +148,9 @@ module _ {S C : Type 0} (store_told : S → StoreTold) (answers : C → Option (
           tail.standing t sent h.behind.blocks t.begun.number f tried tries);
       rest = rest_so;
       synced = λ kept. kept_by marks (h.synced kept);
+      images = images_refused store_told o opened tail es h.images now tried sound tail.standing t sent Told t.begun.number f tries unasked
+          (sym (ap (λ (x : Standing). x.blocks) (not_moved tail.standing now.standing t sent Told f finds)) ∙ ends.behind.blocks)
+          ends.behind.blocks;
     }
 
     extends_so : Extends es (es ++ added) (λ a. Commits o es t sent (Err f) a)

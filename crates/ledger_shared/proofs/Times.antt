@@ -89,3 +89,9 @@ pub timed_push : (P : TimeParts → Type 0) (r : Reach) (es : List Entry) (e : E
     → AreTimed P r (es ++ e ∷ [])
 timed_push P r [] e h one = (one, tt)
 timed_push P r (x ∷ es) e h one = (h.0, timed_push P (comes r x) es e h.1 one)
+
+-- the last entry's block has one of these times
+pub timed_last : (P : TimeParts → Type 0) (r : Reach) (es : List Entry) (e : Entry) → AreTimed P r (es ++ e ∷ [])
+    → IsTimed P (reached r es).blocks e
+timed_last P r [] e h = h.0
+timed_last P r (x ∷ es) e h = timed_last P (comes r x) es e h.1

@@ -13,6 +13,7 @@ use Rattle.laws_machine.specs.Entries.{Entry, IsRunFrom, Opening, Reach, begun_a
 use Rattle.laws_history.specs.Seen.{IsRight, blocks_in, reach}
 use Rattle.ledger_core.specs.Tails.{TailHeld, tail_code}
 use Rattle.ledger_shared.specs.EntryCode.{entry_code}
+use Rattle.ledger_shared.specs.Images.{KeepsImages}
 use Rattle.ledger_shared.specs.Rests.{HoldsRest, tried_in}
 
 pub record SharedHeld (S C : Type 0) : Type 0 where
@@ -115,3 +116,4 @@ module _ {S C : Type 0} (told : S → StoreTold) (answers : C → Option (List �
     pub rest : HoldsRest (held (told opened.store)) (held (told tail.store)) opened.standing.blocks
         tail.standing.blocks (tried_in es)
     pub synced : IsKept told opened → IsKept told tail
+    pub images : KeepsImages told (opening_of told opened) opened tail es

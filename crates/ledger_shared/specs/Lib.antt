@@ -1,5 +1,6 @@
 pub mod EntryCode
 pub mod Told
+pub mod Images
 pub mod Behind
 pub mod Calls
 pub mod Ledgers
@@ -10,3 +11,4 @@ pub mod Dealt
 pub mod Desks
 pub mod Ran
 pub mod Rests
+pub mod Acknowledged

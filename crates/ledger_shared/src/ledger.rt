@@ -8,6 +8,7 @@ ghost use Rattle.turn_lock.specs.Rule.{Each};
 ghost use Rattle.turn_lock.specs.Seats.{known, own, seen};
 ghost use Rattle.laws_machine.specs.Entries.{Entry};
 ghost use Rattle.laws_history.specs.Steps.{knows_behind};
+ghost use Rattle.ledger_shared.specs.Acknowledged.{KeepsBlock};
 ghost use Rattle.ledger_shared.specs.Behind.{IsRightFor, Keeps};
 ghost use Rattle.ledger_shared.specs.Calls.{Begins, Commits, Extends};
 ghost use Rattle.ledger_shared.specs.Known.{Calls, MayCommit, MayJoin};
@@ -87,7 +88,8 @@ impl<S: JournalStore, C: Clock> Ledger<S, C> {
         result
     }
 
-    /// Commits a transaction that was begun with this pass. It may wait for the turn.
+    /// Commits a transaction that was begun with this pass. It may wait for the turn. If nothing was pending in the
+    /// store at the tail's reload, no stop of the machine takes the block of an Ok away.
     pub fn commit<R: Wait>(
         &self,
         rt: &R,
@@ -103,6 +105,8 @@ impl<S: JournalStore, C: Clock> Ledger<S, C> {
         ensures commits { Calls (known pass.old) (known pass.new) (λ front added.
             Commits (begins_with S.told self.now) front txn (Some digest)
             result added) }
+        ensures kept { IfOk result (λ receipt. KeepsBlock S.told C.answers C.always (opened_of self.now)
+            receipt (seen pass.new)) }
     {
         self.commit_with(rt, alloc, pass, txn, Some(digest))
     }
@@ -122,10 +126,13 @@ impl<S: JournalStore, C: Clock> Ledger<S, C> {
         ensures pass { IsPass S.told self.now pass.new }
         ensures commits { Calls (known pass.old) (known pass.new) (λ front added.
             Commits (begins_with S.told self.now) front txn sent result added) }
+        ensures kept { IfOk result (λ receipt. KeepsBlock S.told C.answers C.always (opened_of self.now)
+            receipt (seen pass.new)) }
     {
         let mut shared = self.turns.take(rt, pass);
         let before = shared.count();
         let result = shared.commit(alloc, txn, sent);
+        shared.is_home();
         self.put_back(pass, shared, before);
         result
     }

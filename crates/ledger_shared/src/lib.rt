@@ -4,6 +4,7 @@
 mod crew;
 mod desks;
 mod entry;
+mod laws;
 mod ledger;
 mod merging;
 mod room;
@@ -15,6 +16,7 @@ mod workers;
 
 pub use crew::{Crew, Share};
 pub use entry::{Entries, Entry};
+pub use laws::images_recover;
 pub use ledger::{Closed, Ledger, NotMade, Pass};
 pub use run::{AllRan, run_all};
 pub use shared::{Shared, Told};

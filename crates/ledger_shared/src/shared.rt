@@ -108,6 +108,15 @@ impl<S: JournalStore, C: Clock> Shared<S, C> {
         self.tail.blocks();
     }
 
+    /// What is true of the tail after the entries. It does nothing.
+    pub(crate) fn is_home(&self)
+        ensures keeps { Keeps S.told C.answers C.always self.now.opened self.now.tail self.now.entries }
+        ensures right { IsRightFor S.told self.now.opened self.now.entries }
+    {
+        self.tail.blocks();
+        self.is_right();
+    }
+
     /// Begins a transaction of the tail, and appends its entry to the others.
     pub(crate) fn begin(&mut self, alloc: Global, place: Place) -> Result<Txn, BeginFault>
         ensures opened { self.new.opened ≡ self.old.opened }

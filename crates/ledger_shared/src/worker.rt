@@ -23,7 +23,7 @@ use session_driver::Link;
 use std::alloc::Global;
 use std::marker::Model;
 use std::sync::Wait;
-use txn_core::{Ran, Stopped, Txn};
+use txn_core::{ExecuteFault, Ran, Txn};
 
 /// A worker: its ledger and its gate, and the pass with which it runs its transactions.
 #[derive(Drop)]
@@ -228,8 +228,8 @@ impl<'a, S: JournalStore, C: Clock, G: Gate> Steps for Worker<'a, S, C, G> {
             self.gate.at(rt, place, Step::BeforeExecute);
             match txn.perform(self.alloc, request.text.as_str(), request.params.as_slice()) {
                 Ok(()) => {}
-                Err(Stopped::Refused(cause)) => return Ok(Ran::Refused { statement, cause }),
-                Err(Stopped::OutOfMemory) => return Err(OutOfMemory),
+                Err(ExecuteFault::Refused(cause)) => return Ok(Ran::Refused { statement, cause }),
+                Err(ExecuteFault::OutOfMemory) => return Err(OutOfMemory),
             }
         }
         Ok(Ran::Done(txn))

@@ -23,6 +23,7 @@ use Rattle.ledger_shared.specs.Behind.{AreTimed, GaveBetween, GoesOn, HasTimeOf,
 use Rattle.ledger_shared.specs.Ran.{AllHaveRun}
 use Rattle.ledger_shared.specs.Rests.{HoldsRest}
 use Rattle.run_after_setup.specs.FirstRuns.{RanInTurn}
+use Rattle.run_after_setup.proofs.Imaged.{images_joined}
 use Rattle.laws_workload.specs.Joining.{HaveWorked, OpensBehind}
 use Rattle.laws_workload.proofs.Behind.{blocks_on, count_on, last_on, run_on}
 use Rattle.laws_workload.proofs.Joining.{workers_join}
@@ -247,6 +248,8 @@ module _ {S C : Type 0} (told : S → StoreTold) (answers : C → Option (List �
     times = has_times;
     rest = rests second.rest;
     synced = λ kept. second.synced (first.synced kept);
+    images = images_joined told o behind opened mid now es more first.images second.images
+        (λ front. sym (blocks_on o behind es opens front));
   }
 
 -- ---- all jobs

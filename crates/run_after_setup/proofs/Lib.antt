@@ -1,2 +1,3 @@
+pub mod Imaged
 pub mod Joined
 pub mod RanAlone

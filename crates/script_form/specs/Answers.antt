@@ -8,8 +8,8 @@ use Rattle.ledger_model.specs.Values.{list_in}
 use Rattle.ledger_model.specs.ReadScript.{fault_at}
 use Rattle.script_form.specs.declared.scripts.ScriptAnswer.{ScriptAnswer}
 use Rattle.script_form.specs.declared.scripts.ScriptAnswer.TheVariants as answer
-use Rattle.script_form.specs.declared.scripts.jobs.Stop.{Stop}
-use Rattle.script_form.specs.declared.scripts.jobs.Stop.TheVariants as stop
+use Rattle.script_form.specs.declared.scripts.jobs.JobFault.{JobFault}
+use Rattle.script_form.specs.declared.scripts.jobs.JobFault.TheVariants as stop
 
 -- what is read or the fault with its place is that of the definition, unless memory runs out
 abbrev pub Gives : {A : Type 0} → Result A ScriptAnswer → Result A ScriptFault → Type 0
@@ -18,7 +18,7 @@ Gives (Err (answer.Fault session transaction kind)) read = read ≡ Err (fault_a
 Gives (Err answer.OutOfMemory) read = Unit {0}
 
 -- the same of a fault's kind
-abbrev pub GivesKind : {A : Type 0} → Result A Stop → Result A ScriptKind → Type 0
+abbrev pub GivesKind : {A : Type 0} → Result A JobFault → Result A ScriptKind → Type 0
 GivesKind (Ok x) read = read ≡ Ok x
 GivesKind (Err (stop.Kind kind)) read = read ≡ Err kind
 GivesKind (Err stop.OutOfMemory) read = Unit {0}

@@ -10,7 +10,7 @@ mod statements;
 
 use containers::Sequence;
 use ion_values::{OutOfMemory, Value, Values};
-use jobs::{Stop, read_job};
+use jobs::{JobFault, read_job};
 use ledger_model::{Job, Script, ScriptKind, Session};
 use std::alloc::Global;
 use value_codec::takes::into_list;
@@ -132,7 +132,7 @@ fn read_placed(
 {
     match read_job(alloc, value) {
         Ok(job) => Ok(job),
-        Err(Stop::Kind(kind)) => Err(fault_at(session, transaction, kind)),
-        Err(Stop::OutOfMemory) => Err(ScriptAnswer::OutOfMemory),
+        Err(JobFault::Kind(kind)) => Err(fault_at(session, transaction, kind)),
+        Err(JobFault::OutOfMemory) => Err(ScriptAnswer::OutOfMemory),
     }
 }

@@ -31,3 +31,25 @@ pub const STORES: &str = r#"@RUN@|@FIRST@||s0 s9|5 {status:5,faults:1}|=
 digest||@FIRST_LINE@|s0|5 {status:5,faults:1}|=
 prove 0 0||@FIRST_LINE@|s0|5 {status:5,faults:1}|=
 audit||@FIRST_LINE@|s0|5 {status:5,faults:1}|="#;
+
+/// Three transactions of a table.
+pub const THREE: &str =
+    "[{statements:[\"CREATE TABLE t\"]},{statements:[\"SELECT * FROM t\"]},{statements:[\"SELECT * FROM t\"]}]";
+
+/// Their report, if the store fails at the second one's line.
+pub const MENDED_LATER: &str =
+    r#"{session:1,transaction:1,outcome:committed,tx:"0000000000000000018OWG",block:0,answers:[[{tableId:"0000000000000000018OWH"}]]}
+{session:1,transaction:2,outcome:store_fault,tx:"000000000000000002Gn2W",count:1}
+{session:1,transaction:3,outcome:committed,tx:"000000000000000003PBYm",block:1,answers:[[]]}"#;
+
+/// The report of the first two alone.
+pub const MENDED_BY_SETTLE: &str =
+    r#"{session:1,transaction:1,outcome:committed,tx:"0000000000000000018OWG",block:0,answers:[[{tableId:"0000000000000000018OWH"}]]}
+{session:1,transaction:2,outcome:store_fault,tx:"000000000000000002Gn2W",count:1}"#;
+
+/// Stores that fail at the sync of the second transaction's line. The third one is committed after a cut. Two more
+/// failures keep the line, at the third one's cut and at the cut at the end. If there is no third one, the cut at the
+/// end takes the line.
+pub const MENDED: &str = r#"@RUN@|@THREE@||s4|0 @MENDED_LATER@|#2
+@RUN@|@THREE@||s4 s0 s0|5 {status:5,faults:3}|#2
+@RUN@|@THREE~,{statements:["SELECT * FROM t"]}]>]@||s4|0 @MENDED_BY_SETTLE@|#1"#;

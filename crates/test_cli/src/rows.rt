@@ -8,7 +8,7 @@
 use crate::commands::{Given, Left, run};
 use crate::damaged::DAMAGED;
 use crate::digests::SENT;
-use crate::failing::{STORES, STREAMS};
+use crate::failing::{MENDED, STORES, STREAMS};
 use crate::faults::FAULTS;
 use crate::limits::LONGEST;
 use crate::makes::MAKES;
@@ -136,7 +136,9 @@ fn fields_hold<R: Threads + Wait + Sync>(rt: &R, alloc: Global, row: &Fields<'_>
 
 #[test]
 fn rows_of_journals(rt: HostRuntime) {
-    for rows in [REPORTS, LINES, SEEDS, SENT, FAULTS, STREAMS, STORES, MAKES] {
+    for rows in [
+        REPORTS, LINES, SEEDS, SENT, FAULTS, STREAMS, STORES, MENDED, MAKES,
+    ] {
         for row in rows.lines() {
             assert!(rt; row_holds(&rt, rt.alloc(), row) == Some(true), "{row}");
         }

@@ -1,5 +1,5 @@
 //! Texts that rows name.
-use crate::failing::STORE_FAULT;
+use crate::failing::{MENDED_BY_SETTLE, MENDED_LATER, STORE_FAULT, THREE};
 use crate::runs::{COMMITTED, FIRST, FOUR_OUTCOMES, RUN, SESSIONS};
 use crate::verdicts::HONEST;
 use std::alloc::Global;
@@ -21,6 +21,9 @@ fn named(name: &str) -> Option<&'static str> {
         "COMMITTED" => Some(COMMITTED),
         "FIRST_LINE" => Some(THREE_STATEMENTS),
         "STORE_FAULT" => Some(STORE_FAULT),
+        "THREE" => Some(THREE),
+        "MENDED_LATER" => Some(MENDED_LATER),
+        "MENDED_BY_SETTLE" => Some(MENDED_BY_SETTLE),
         "SESSIONS" => Some(SESSIONS),
         "FOUR_OUTCOMES" => Some(FOUR_OUTCOMES),
         "ONE_BLOCK" => Some(ONE_BLOCK),

@@ -10,6 +10,8 @@ mod conflicts;
 #[cfg(test)]
 mod digests;
 #[cfg(test)]
+mod faults;
+#[cfg(test)]
 mod loads;
 #[cfg(test)]
 mod settles;

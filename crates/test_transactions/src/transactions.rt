@@ -9,7 +9,7 @@ use ql_types::{IdMask, Place};
 use script_form::put_cause;
 use std::alloc::Global;
 use std::marker::Model;
-use txn_core::{Drawn, Finished, Stopped, Txn, start_txn};
+use txn_core::{Drawn, ExecuteFault, Finished, Txn, start_txn};
 
 const MASK: IdMask = IdMask { bits: 0 };
 
@@ -113,8 +113,8 @@ fn performed(alloc: Global, txn: Txn, asked: &[Request]) -> Option<End> {
         statement = statement.checked_add(1)?;
         match txn.perform(alloc, request.text.as_str(), request.params.as_slice()) {
             Ok(()) => {}
-            Err(Stopped::Refused(cause)) => return refused(alloc, statement, &cause),
-            Err(Stopped::OutOfMemory) => return None,
+            Err(ExecuteFault::Refused(cause)) => return refused(alloc, statement, &cause),
+            Err(ExecuteFault::OutOfMemory) => return None,
         }
     }
     done(alloc, txn)

@@ -17,8 +17,8 @@ use Rattle.ledger_model.specs.State as state
 use Rattle.ledger_model.specs.Run.{Begun, Progress, Effect, changed_by, created, existing, new_table, next_id, no_table_more, on_table, reading, recorded, reserved, table_now, tables_now, unless}
 use Rattle.ledger_model.specs.Script.{or_else}
 use Rattle.txn_core.specs.declared.effect.Effect as held
-use Rattle.txn_core.specs.declared.stopped.Stopped.{Stopped}
-use Rattle.txn_core.specs.declared.stopped.Stopped.TheVariants.{Refused, OutOfMemory}
+use Rattle.txn_core.specs.declared.stopped.ExecuteFault.{ExecuteFault}
+use Rattle.txn_core.specs.declared.stopped.ExecuteFault.TheVariants.{Refused, OutOfMemory}
 use Rattle.txn_core.specs.Effects.{asked_effect, effect_of}
 use Rattle.txn_core.specs.Opened.{Opened, Adds, Executed, IsStopped, Steps, Told, asked, step_of}
 use Rattle.txn_core.specs.Stops.{Does}
@@ -88,7 +88,7 @@ pub added_steps : (t now : Opened) (r : Request) (e : held.Effect) → asked_eff
 added_steps t now r e is adds = record { step = stepped t r (Ok (effect_of e)) is ∙ adds.done; rest = adds.rest }
 
 -- a statement that isn't done leaves the transaction as it was
-pub stops : (t now : Opened) (r : Request) (why : Stopped) → Does (Err why) (asked_effect t r) → now ≡ t → IsStopped t r why now
+pub stops : (t now : Opened) (r : Request) (why : ExecuteFault) → Does (Err why) (asked_effect t r) → now ≡ t → IsStopped t r why now
 stops t now r (Refused cause) is same = (stepped t r (Err cause) is, same)
 stops t now r OutOfMemory is same = same
 

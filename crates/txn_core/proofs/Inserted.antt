@@ -18,8 +18,8 @@ use Rattle.ledger_model.specs.declared.block.Draft.{Draft}
 use Rattle.ledger_model.specs.declared.outcome.Refusal.{Refusal}
 use Rattle.ledger_model.specs.Run.{Progress, Effect, and_then, changed_by, documents_in, if_documents, inserted, members_or, new_document, next_id, not_stored, nothing, on_table, reserved, stored, table_now, unless}
 use Rattle.txn_core.specs.declared.effect.Effect as held
-use Rattle.txn_core.specs.declared.stopped.Stopped.{Stopped}
-use Rattle.txn_core.specs.declared.stopped.Stopped.TheVariants.{Refused, OutOfMemory}
+use Rattle.txn_core.specs.declared.stopped.ExecuteFault.{ExecuteFault}
+use Rattle.txn_core.specs.declared.stopped.ExecuteFault.TheVariants.{Refused, OutOfMemory}
 use Rattle.txn_core.specs.Effects.{both}
 use Rattle.txn_core.specs.Opened.{Opened}
 use Rattle.txn_core.specs.Stops.{Does, StopsFor}
@@ -99,7 +99,7 @@ module _ (t : Opened) (table : TableId) (e : Effect) (vs : List Value) (i : ℕ)
       ∙ ap (λ (x : Option Refusal). and_then e (unless x (and_then one (stored t.begun table (changed_by (so_far t e) one) (drop (i + 1) vs))))) why
 
   -- it isn't
-  pub not-stored : (stopped : Stopped) (now : Effect) → Stores t table v e (Err stopped) now → StopsFor stopped (λ cause. all ≡ Err cause)
+  pub not-stored : (stopped : ExecuteFault) (now : Effect) → Stores t table v e (Err stopped) now → StopsFor stopped (λ cause. all ≡ Err cause)
   not-stored (Refused cause) now why = one-stops cause why
   not-stored OutOfMemory now why = tt
 
@@ -119,7 +119,7 @@ module _ (t : Opened) (table : TableId) (v : Value) (e : Effect) (empty : e ≡ 
       all-stored t table now (v ∷ []) 1 (stored t.begun table t.done (v ∷ [])) (omega arith)
       (one-stored t table e (v ∷ []) 0 v (stored t.begun table t.done (v ∷ [])) (omega arith) refl alone now stores)
 
-  pub none-alone : (stopped : Stopped) (now : Effect) → Stores t table v e (Err stopped) now → StopsFor stopped (λ cause. stored t.begun table t.done (v ∷ []) ≡ Err cause)
+  pub none-alone : (stopped : ExecuteFault) (now : Effect) → Stores t table v e (Err stopped) now → StopsFor stopped (λ cause. stored t.begun table t.done (v ∷ []) ≡ Err cause)
   none-alone stopped now stores =
       not-stored t table e (v ∷ []) 0 v (stored t.begun table t.done (v ∷ [])) (omega arith) refl alone stopped now stores
 
@@ -168,13 +168,13 @@ insert_free : (t : Opened) (params : List Value) (name : List ℕ) (e : Expr) �
     → insert_wanted t params name e ≡ on_table name (table_now t.base t.done name) (with_table t params e)
 insert_free t params name e is = ap (λ (x : Option Refusal). unless x (on_table name (table_now t.base t.done name) (with_table t params e))) is
 
-pub insert_nowhere : (t : Opened) (params : List Value) (name : List ℕ) (e : Expr) (stopped : Stopped) → reserved name ≡ None
+pub insert_nowhere : (t : Opened) (params : List Value) (name : List ℕ) (e : Expr) (stopped : ExecuteFault) → reserved name ≡ None
     → StopsFor stopped (λ cause. found name (table_now t.base t.done name) ≡ Err cause) → StopsFor stopped (λ cause. insert_wanted t params name e ≡ Err cause)
 insert_nowhere t params name e (Refused cause) free none =
     insert_free t params name e free ∙ on-none name (table_now t.base t.done name) cause (with_table t params e) none
 insert_nowhere t params name e OutOfMemory free none = tt
 
-pub insert_there : (t : Opened) (params : List Value) (name : List ℕ) (e : Expr) (table : TableId) (scope : List Bound) (value : Evaluated) (result : Result held.Effect Stopped)
+pub insert_there : (t : Opened) (params : List Value) (name : List ℕ) (e : Expr) (table : TableId) (scope : List Bound) (value : Evaluated) (result : Result held.Effect ExecuteFault)
     → reserved name ≡ None → found name (table_now t.base t.done name) ≡ Ok table → scope ≡ [] → value ≡ meaning e (under scope params)
     → Does result (if_documents (documents_in value) (stored t.begun table t.done)) → Does result (insert_wanted t params name e)
 insert_there t params name e table scope value result free is empty means does =

@@ -11,8 +11,8 @@ use Rattle.ledger_model.specs.State as state
 use Rattle.ledger_model.specs.Values.{named_id}
 use Rattle.ledger_model.specs.Run.{Effect, Progress, dropped, indexed, nothing, on_table, reserved, table_now, unless}
 use Rattle.ledger_model.specs.SchemaChanges.{existing_index, indexes_now, no_index_more, schema_change}
-use Rattle.txn_core.specs.declared.stopped.Stopped.{Stopped}
-use Rattle.txn_core.specs.declared.stopped.Stopped.TheVariants as stopped
+use Rattle.txn_core.specs.declared.stopped.ExecuteFault.{ExecuteFault}
+use Rattle.txn_core.specs.declared.stopped.ExecuteFault.TheVariants as stopped
 use Rattle.txn_core.specs.Stops.{StopsFor}
 use Rattle.txn_core.specs.Transactions.{found_unless, not_indexed}
 use Rattle.txn_core.proofs.Effects.{on-found, on-none}
@@ -38,7 +38,7 @@ on-free : (own : Option Refusal) (name : List ℕ) (t : Option TableId) (table :
 on-free None name t table f is = on-found name t table f is
 on-free (Some cause) name t table f is = let bad : ⊥ = cc in absurd bad
 
-on-stopped : (own : Option Refusal) (name : List ℕ) (t : Option TableId) (f : TableId → Result Effect Refusal) (why : Stopped)
+on-stopped : (own : Option Refusal) (name : List ℕ) (t : Option TableId) (f : TableId → Result Effect Refusal) (why : ExecuteFault)
     → StopsFor why (λ cause. found_unless own name t ≡ Err cause) → StopsFor why (λ cause. unless own (on_table name t f) ≡ Err cause)
 on-stopped None name t f (stopped.Refused cause) is = on-none name t cause f is
 on-stopped (Some own) name t f (stopped.Refused cause) is = let same : own ≡ cause = cc in ap (λ (x : Refusal). Err x) same
@@ -52,7 +52,7 @@ dropped_there s p name kept table e there kept_is is =
     on-free (reserved name) name (table_now s p name) table (λ t. Ok (schema_change t (Drop name t))) there
     ∙ ap (λ (x : List ℕ). Ok (schema_change table (Drop x table))) (sym kept_is) ∙ ap (λ (x : Effect). Ok x) (sym is)
 
-pub dropped_nowhere : (s : state.State) (p : Progress) (name : List ℕ) (why : Stopped)
+pub dropped_nowhere : (s : state.State) (p : Progress) (name : List ℕ) (why : ExecuteFault)
     → StopsFor why (λ cause. found_unless (reserved name) name (table_now s p name) ≡ Err cause) → StopsFor why (λ cause. dropped s p name ≡ Err cause)
 dropped_nowhere s p name why is = on-stopped (reserved name) name (table_now s p name) (λ t. Ok (schema_change t (Drop name t))) why is
 
@@ -86,6 +86,6 @@ pub indexed_refused : (s : state.State) (p : Progress) (name field : List ℕ) (
     → indexed s p name field ≡ Err cause
 indexed_refused s p name field table cause there is = indexed-on s p name field table (Some cause) there is
 
-pub indexed_nowhere : (s : state.State) (p : Progress) (name field : List ℕ) (why : Stopped)
+pub indexed_nowhere : (s : state.State) (p : Progress) (name field : List ℕ) (why : ExecuteFault)
     → StopsFor why (λ cause. found_unless (reserved name) name (table_now s p name) ≡ Err cause) → StopsFor why (λ cause. indexed s p name field ≡ Err cause)
 indexed_nowhere s p name field why is = on-stopped (reserved name) name (table_now s p name) (index_on s p name field) why is

@@ -16,8 +16,8 @@ use Rattle.ledger_model.specs.State as state
 use Rattle.ledger_model.specs.State.{draft_of}
 use Rattle.ledger_model.specs.Views.{latest}
 use Rattle.ledger_model.specs.Run.{Progress, Effect, absent_table, first_absent, nothing, or_else, rows_in, selected, table_in, table_now, tables_now, unless, views_of}
-use Rattle.txn_core.specs.declared.stopped.Stopped.{Stopped}
-use Rattle.txn_core.specs.declared.stopped.Stopped.TheVariants as stopped
+use Rattle.txn_core.specs.declared.stopped.ExecuteFault.{ExecuteFault}
+use Rattle.txn_core.specs.declared.stopped.ExecuteFault.TheVariants as stopped
 use Rattle.txn_core.specs.Inserts.{without}
 use Rattle.txn_core.specs.Selects.{absent_in, answer_in, first_absent_in}
 use Rattle.txn_core.specs.Stops.{StopsFor}
@@ -88,7 +88,7 @@ selected_rows s p params select from rows none e is empty alone =
     selected-is s p params select from ∙ ap effect_by is ∙ ap (λ (x : Effect). Ok (record x { rows = rows })) (sym empty) ∙ ap (λ (x : Effect). Ok x) (sym alone)
 
 -- or the statement is refused
-pub selected_stops : (s : state.State) (p : Progress) (params : List Value) (select : Select) (from : FromClause) (why : Stopped)
+pub selected_stops : (s : state.State) (p : Progress) (params : List Value) (select : Select) (from : FromClause) (why : ExecuteFault)
     → StopsFor why (λ cause. rows_wanted s p params select from ≡ Err cause) → StopsFor why (λ cause. selected s p params select from ≡ Err cause)
 selected_stops s p params select from (stopped.Refused cause) is =
     selected-is s p params select from ∙ ap effect_by is

@@ -9,8 +9,8 @@ use Rattle.ledger_model.specs.Progress.{not_kept}
 use Rattle.ledger_model.specs.State as state
 use Rattle.ledger_model.specs.Run.{Progress, Effect, and_then, changed_by, nothing, unless}
 use Rattle.ledger_model.specs.Writing.{has_room_for, no_room, stored_changes, stored_deletes, touching}
-use Rattle.txn_core.specs.declared.stopped.Stopped.{Stopped}
-use Rattle.txn_core.specs.declared.stopped.Stopped.TheVariants as stopped
+use Rattle.txn_core.specs.declared.stopped.ExecuteFault.{ExecuteFault}
+use Rattle.txn_core.specs.declared.stopped.ExecuteFault.TheVariants as stopped
 use Rattle.txn_core.specs.Effects.{both}
 use Rattle.txn_core.specs.Inserts.{so_far}
 use Rattle.txn_core.specs.Opened.{Opened}
@@ -53,7 +53,7 @@ module _ {A : Type 0} (why : Progress → A → Option Refusal) (one : Progress 
         ∙ at-next
 
     -- or the statement is refused for it
-    pub walk-stops : (stopped : Stopped) → StopsFor stopped (λ cause. why (so_far t e) x ≡ Some cause) → StopsFor stopped (λ cause. all ≡ Err cause)
+    pub walk-stops : (stopped : ExecuteFault) → StopsFor stopped (λ cause. why (so_far t e) x ≡ Some cause) → StopsFor stopped (λ cause. all ≡ Err cause)
     walk-stops (stopped.Refused cause) refused =
         let f = one (so_far t e) x in
         let rest = walked (changed_by (so_far t e) f) (drop (i + 1) xs) in

@@ -12,8 +12,8 @@ use Rattle.ledger_model.specs.State as state
 use Rattle.ledger_model.specs.Run.{Progress, Effect, first_absent, tables_now, unless}
 use Rattle.ledger_model.specs.Writing.{changed, deleted, first_own, is_root, rows_now, stored_changes, stored_deletes}
 use Rattle.txn_core.specs.declared.effect.Effect as held
-use Rattle.txn_core.specs.declared.stopped.Stopped.{Stopped}
-use Rattle.txn_core.specs.declared.stopped.Stopped.TheVariants as stopped
+use Rattle.txn_core.specs.declared.stopped.ExecuteFault.{ExecuteFault}
+use Rattle.txn_core.specs.declared.stopped.ExecuteFault.TheVariants as stopped
 use Rattle.txn_core.specs.Inserts.{without}
 use Rattle.txn_core.specs.Stops.{Does, StopsFor}
 use Rattle.txn_core.specs.Writes.{rows_seen}
@@ -53,14 +53,14 @@ module _ (s : state.State) (p : Progress) (params : List Value) (from : FromClau
   written-free : first_own w 0 from.sources ≡ None → written ≡ unless (first_absent s p from.sources) (f (rows_now s p params from))
   written-free is = ap (λ (x : Option Refusal). unless x (unless (first_absent s p from.sources) (f (rows_now s p params from)))) is
 
-  written-nowhere : (why : Stopped) → first_own w 0 from.sources ≡ None → StopsFor why (λ cause. rows_held s p params from ≡ Err cause)
+  written-nowhere : (why : ExecuteFault) → first_own w 0 from.sources ≡ None → StopsFor why (λ cause. rows_held s p params from ≡ Err cause)
       → StopsFor why (λ cause. written ≡ Err cause)
   written-nowhere (stopped.Refused cause) free is =
       written-free free
       ∙ no-rows (first_absent s p from.sources) (rows_now s p params from) (f (rows_now s p params from)) cause (sym (rows-are s p params from) ∙ is)
   written-nowhere stopped.OutOfMemory free is = tt
 
-  written-there : (rows : List Combined) (result : Result held.Effect Stopped) → first_own w 0 from.sources ≡ None → rows_held s p params from ≡ Ok rows
+  written-there : (rows : List Combined) (result : Result held.Effect ExecuteFault) → first_own w 0 from.sources ≡ None → rows_held s p params from ≡ Ok rows
       → Does result (f rows) → Does result written
   written-there rows result free there does =
       let same : f rows ≡ written =
@@ -81,11 +81,11 @@ module _ (s : state.State) (p : Progress) (params : List Value) (from : FromClau
   pub changed_own : (o : Option Refusal) (cause : Refusal) → o ≡ first_own w 0 from.sources → o ≡ Some cause → changed s p params from c ≡ Err cause
   changed_own o cause own is = written-own s p params from (is_root from.sources c) stores cause (own-is o own ∙ is)
 
-  pub changed_nowhere : (o : Option Refusal) (why : Stopped) → o ≡ first_own w 0 from.sources → o ≡ None
+  pub changed_nowhere : (o : Option Refusal) (why : ExecuteFault) → o ≡ first_own w 0 from.sources → o ≡ None
       → StopsFor why (λ cause. rows_held s p params from ≡ Err cause) → StopsFor why (λ cause. changed s p params from c ≡ Err cause)
   changed_nowhere o why own none is = written-nowhere s p params from (is_root from.sources c) stores why (own-is o own ∙ none) is
 
-  pub changed_there : (o : Option Refusal) (rows : List Combined) (documents : List Row) (result : Result held.Effect Stopped) → o ≡ first_own w 0 from.sources → o ≡ None
+  pub changed_there : (o : Option Refusal) (rows : List Combined) (documents : List Row) (result : Result held.Effect ExecuteFault) → o ≡ first_own w 0 from.sources → o ≡ None
       → rows_held s p params from ≡ Ok rows → documents ≡ changed_documents params c rows → Does result (stored_changes s p documents)
       → Does result (changed s p params from c)
   changed_there o rows documents result own none there are does =
@@ -101,11 +101,11 @@ module _ (s : state.State) (p : Progress) (params : List Value) (from : FromClau
   pub deleted_own : (o : Option Refusal) (cause : Refusal) → o ≡ first_own (λ n. true) 0 from.sources → o ≡ Some cause → deleted s p params from ≡ Err cause
   deleted_own o cause own is = written-own s p params from (λ n. true) ends cause (sym own ∙ is)
 
-  pub deleted_nowhere : (o : Option Refusal) (why : Stopped) → o ≡ first_own (λ n. true) 0 from.sources → o ≡ None
+  pub deleted_nowhere : (o : Option Refusal) (why : ExecuteFault) → o ≡ first_own (λ n. true) 0 from.sources → o ≡ None
       → StopsFor why (λ cause. rows_held s p params from ≡ Err cause) → StopsFor why (λ cause. deleted s p params from ≡ Err cause)
   deleted_nowhere o why own none is = written-nowhere s p params from (λ n. true) ends why (sym own ∙ none) is
 
-  pub deleted_there : (o : Option Refusal) (rows : List Combined) (ids : List DocId) (result : Result held.Effect Stopped) → o ≡ first_own (λ n. true) 0 from.sources → o ≡ None
+  pub deleted_there : (o : Option Refusal) (rows : List Combined) (ids : List DocId) (result : Result held.Effect ExecuteFault) → o ≡ first_own (λ n. true) 0 from.sources → o ≡ None
       → rows_held s p params from ≡ Ok rows → ids ≡ deleted_documents rows → Does result (stored_deletes s p ids) → Does result (deleted s p params from)
   deleted_there o rows ids result own none there are does =
       written-there s p params from (λ n. true) ends rows result (sym own ∙ none) there

@@ -4,7 +4,7 @@ use Rattle.ion_values.specs.declared.value.Value.{Value}
 use Rattle.ql_types.specs.declared.TableId.{TableId}
 use Rattle.ledger_model.specs.declared.outcome.Refusal.{Refusal}
 use Rattle.ledger_model.specs.Run.{Progress, Effect, changed_by, new_document, next_id, not_stored}
-use Rattle.txn_core.specs.declared.stopped.Stopped.{Stopped}
+use Rattle.txn_core.specs.declared.stopped.ExecuteFault.{ExecuteFault}
 use Rattle.txn_core.specs.Effects.{both}
 use Rattle.txn_core.specs.Opened.{Opened}
 use Rattle.txn_core.specs.Stops.{StopsFor}
@@ -19,7 +19,7 @@ abbrev pub so_far : Opened → Effect → Progress
 so_far t e = changed_by t.done e
 
 -- the value is a document more behind those so far, or it isn't stored for this cause
-abbrev pub Stores : Opened → TableId → Value → Effect → Result (Unit {0}) Stopped → Effect → Type 0
+abbrev pub Stores : Opened → TableId → Value → Effect → Result (Unit {0}) ExecuteFault → Effect → Type 0
 Stores t table v e (Ok done) now =
     (not_stored (so_far t e) v ≡ None) × (now ≡ both e (new_document (next_id t.begun (so_far t e)) table v))
 Stores t table v e (Err stopped) now = StopsFor stopped (λ cause. not_stored (so_far t e) v ≡ Some cause)

@@ -19,8 +19,8 @@ use Rattle.ledger_model.specs.declared.outcome.Refusal.TheVariants.{Ended, OutOf
 use Rattle.ledger_model.specs.declared.script.Request.{Request}
 use Rattle.ledger_model.specs.State.{State}
 use Rattle.ledger_model.specs.Run.{Begun, Effect, Progress, recorded, step}
-use Rattle.txn_core.specs.declared.stopped.Stopped.{Stopped}
-use Rattle.txn_core.specs.declared.stopped.Stopped.TheVariants as stopped
+use Rattle.txn_core.specs.declared.stopped.ExecuteFault.{ExecuteFault}
+use Rattle.txn_core.specs.declared.stopped.ExecuteFault.TheVariants as stopped
 
 -- the mask of the ids and the transaction's number, its place in the script, the state on which it runs with the
 -- number of blocks that it stands for, what its statements have done so far, and whether one of them was refused
@@ -80,12 +80,12 @@ pub record Steps (t : Opened) (r : Request) (now : Opened) : Type 0 where
   pub rest : now ≡ record t { done = now.done }
 
 -- the statement isn't done, for the step's cause or for lack of memory, and the transaction is unchanged
-abbrev pub IsStopped : Opened → Request → Stopped → Opened → Type 0
+abbrev pub IsStopped : Opened → Request → ExecuteFault → Opened → Type 0
 IsStopped t r (stopped.Refused cause) now = (step_of t r ≡ Err cause) × (now ≡ t)
 IsStopped t r stopped.OutOfMemory now = now ≡ t
 
 -- what is done, or why it isn't
-abbrev pub Performed : Opened → Request → Result (Unit {0}) Stopped → Opened → Type 0
+abbrev pub Performed : Opened → Request → Result (Unit {0}) ExecuteFault → Opened → Type 0
 Performed t r (Ok done) now = Steps t r now
 Performed t r (Err why) now = IsStopped t r why now
 
@@ -95,7 +95,7 @@ IsSaid t r rows now =
     now.done.said ≡ t.done.said ++ record { text = r.text; params = r.params; answer = record { rows = rows } } ∷ []
 
 -- the same with the rows of the answer
-abbrev pub Told : Opened → Request → Result (List Value) Stopped → Opened → Type 0
+abbrev pub Told : Opened → Request → Result (List Value) ExecuteFault → Opened → Type 0
 Told t r (Ok rows) now = Steps t r now × IsSaid t r rows now
 Told t r (Err why) now = IsStopped t r why now
 

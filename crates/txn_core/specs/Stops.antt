@@ -4,20 +4,20 @@ use Rattle.ledger_model.specs.declared.outcome.Refusal.{Refusal}
 use Rattle.ledger_model.specs.Run.{Effect}
 use Rattle.txn_core.specs.Effects.{effect_of}
 use Rattle.txn_core.specs.declared.effect.Effect as held
-use Rattle.txn_core.specs.declared.stopped.Stopped.{Stopped}
-use Rattle.txn_core.specs.declared.stopped.Stopped.TheVariants.{Refused, OutOfMemory}
+use Rattle.txn_core.specs.declared.stopped.ExecuteFault.{ExecuteFault}
+use Rattle.txn_core.specs.declared.stopped.ExecuteFault.TheVariants.{Refused, OutOfMemory}
 
 -- if a statement stopped for a cause, it is this one; nothing is said if memory ran out
-abbrev pub StopsFor : Stopped → (Refusal → Type 0) → Type 0
+abbrev pub StopsFor : ExecuteFault → (Refusal → Type 0) → Type 0
 StopsFor (Refused cause) P = P cause
 StopsFor OutOfMemory P = Unit {0}
 
 -- what comes is what was wanted: a value, or the cause why the statement is refused
-abbrev pub Comes : {A : Type 0} → Result A Stopped → Result A Refusal → Type 0
+abbrev pub Comes : {A : Type 0} → Result A ExecuteFault → Result A Refusal → Type 0
 Comes (Ok x) wanted = wanted ≡ Ok x
 Comes (Err stopped) wanted = StopsFor stopped (λ cause. wanted ≡ Err cause)
 
 -- the same of what a statement does
-abbrev pub Does : Result held.Effect Stopped → Result Effect Refusal → Type 0
+abbrev pub Does : Result held.Effect ExecuteFault → Result Effect Refusal → Type 0
 Does (Ok e) wanted = wanted ≡ Ok (effect_of e)
 Does (Err stopped) wanted = StopsFor stopped (λ cause. wanted ≡ Err cause)

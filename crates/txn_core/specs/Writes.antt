@@ -20,7 +20,7 @@ use Rattle.ledger_model.specs.Writing.{has_room_for, is_at, no_room, touching}
 use Rattle.versions.specs.Held.{table_of}
 use Rattle.txn_core.specs.declared.roots.Written.{Written}
 use Rattle.txn_core.specs.declared.roots.Written.TheVariants as written
-use Rattle.txn_core.specs.declared.stopped.Stopped.{Stopped}
+use Rattle.txn_core.specs.declared.stopped.ExecuteFault.{ExecuteFault}
 use Rattle.txn_core.specs.declared.touching.Mark.{Mark}
 use Rattle.txn_core.specs.declared.touching.Touching.{Touching}
 use Rattle.txn_core.specs.Effects.{both, effect_of}
@@ -82,7 +82,7 @@ pub record Touches (t : Opened) (id : DocId) (c : Content) (before now : Touchin
 abbrev pub not_changed : Opened → Row → Touching → Option Refusal
 not_changed t d before = not_kept (has_room_for (so_far t (effect_of before.effect)) d.id) d.value
 
-abbrev pub Changes : Opened → Row → Touching → Result (Unit {0}) Stopped → Touching → Type 0
+abbrev pub Changes : Opened → Row → Touching → Result (Unit {0}) ExecuteFault → Touching → Type 0
 Changes t d before (Ok done) now = (not_changed t d before ≡ None) × Touches t d.id (Kept d.value) before now
 Changes t d before (Err stopped) now = StopsFor stopped (λ cause. not_changed t d before ≡ Some cause)
 
@@ -90,6 +90,6 @@ Changes t d before (Err stopped) now = StopsFor stopped (λ cause. not_changed t
 abbrev pub not_ended : Opened → DocId → Touching → Option Refusal
 not_ended t id before = no_room (so_far t (effect_of before.effect)) id
 
-abbrev pub Deletes : Opened → DocId → Touching → Result (Unit {0}) Stopped → Touching → Type 0
+abbrev pub Deletes : Opened → DocId → Touching → Result (Unit {0}) ExecuteFault → Touching → Type 0
 Deletes t id before (Ok done) now = (not_ended t id before ≡ None) × Touches t id Deleted before now
 Deletes t id before (Err stopped) now = StopsFor stopped (λ cause. not_ended t id before ≡ Some cause)

@@ -11,7 +11,7 @@ use crate::effect::Effect;
 use crate::limits::not_kept;
 use crate::roots::{first_own, written_by};
 use crate::sources::first_absent;
-use crate::stopped::Stopped;
+use crate::stopped::ExecuteFault;
 use crate::touching::Touching;
 use crate::transaction::Txn;
 use ion_values::Value;
@@ -30,13 +30,13 @@ impl Txn {
         from: &FromClause,
         change: &Change,
         params: &[Value],
-    ) -> Result<Effect, Stopped>
+    ) -> Result<Effect, ExecuteFault>
         ensures { Does result (changed self.now.base self.now.done params.now from.now change.now) }
     {
         let sources = from.sources.as_slice();
         let written = written_by(alloc, sources, change)?;
         if let Some(cause) = first_own(alloc, sources, &written)? {
-            return Err(Stopped::Refused(cause));
+            return Err(ExecuteFault::Refused(cause));
         }
         let rows = self.rows_now(alloc, from, params)?;
         let documents = changed_documents(alloc, change, &rows, params)?;
@@ -49,20 +49,20 @@ impl Txn {
         alloc: Global,
         from: &FromClause,
         params: &[Value],
-    ) -> Result<Bindings, Stopped>
+    ) -> Result<Bindings, ExecuteFault>
         ensures { Comes result (rows_seen (tables_now self.now.base self.now.done) self.now.base
             (latest (map draft_of self.now.base.revisions ++ self.now.done.log)) params.now from.now) }
     {
         let tables = self.tables_now(alloc)?;
         if let Some(cause) = first_absent(alloc, tables.as_slice(), from.sources.as_slice())? {
-            return Err(Stopped::Refused(cause));
+            return Err(ExecuteFault::Refused(cause));
         }
         let rows = self.rows_over(alloc, tables, from, params)?;
         Ok(rows)
     }
 
     /// What gives each document its content, one after another. It stops at the first one whose content isn't stored.
-    fn keep_all(&self, alloc: Global, documents: Rows) -> Result<Effect, Stopped>
+    fn keep_all(&self, alloc: Global, documents: Rows) -> Result<Effect, ExecuteFault>
         ensures { Does result (stored_changes self.now.base self.now.done documents) }
     {
         let mut touching = self.touching(alloc)?;
@@ -76,13 +76,18 @@ impl Txn {
     }
 
     /// Gives the document its content, behind those that were touched before.
-    fn keep(&self, alloc: Global, touching: &mut Touching, document: Row) -> Result<(), Stopped>
+    fn keep(
+        &self,
+        alloc: Global,
+        touching: &mut Touching,
+        document: Row,
+    ) -> Result<(), ExecuteFault>
         requires { Stands self.now touching.old }
         ensures { Changes self.now document touching.old result touching.new }
     {
         let has_room = touching.has_room_for(document.id);
         if let Some(cause) = not_kept(alloc, has_room, &document.value)? {
-            return Err(Stopped::Refused(cause));
+            return Err(ExecuteFault::Refused(cause));
         }
         self.touch(alloc, touching, document.id, Content::Kept(document.value))?;
         Ok(())

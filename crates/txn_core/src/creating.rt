@@ -8,7 +8,7 @@ ghost use Rattle.txn_core.specs.Transactions.{not_created};
 use crate::answers::named_id;
 use crate::effect::Effect;
 use crate::limits::{no_table_more, reserved};
-use crate::stopped::Stopped;
+use crate::stopped::ExecuteFault;
 use crate::transaction::Txn;
 use ion_values::{OutOfMemory, Text};
 use ledger_model::{Refusal, Schema};
@@ -19,11 +19,11 @@ use versions::active_table;
 impl Txn {
     /// What creates a table of this name. It stops with `ReservedName` where the name is the ledger's own, with
     /// `TableExists` where an active table has it, and with `TooManyTables` where there are as many as there may be.
-    pub(crate) fn create(&self, alloc: Global, name: &Text) -> Result<Effect, Stopped>
+    pub(crate) fn create(&self, alloc: Global, name: &Text) -> Result<Effect, ExecuteFault>
         ensures { Does result (created self.now.begun self.now.base self.now.done name.now) }
     {
         if let Some(cause) = self.not_created(alloc, name)? {
-            return Err(Stopped::Refused(cause));
+            return Err(ExecuteFault::Refused(cause));
         }
         let raw = self.next_id(0)?;
         Ok(new_table(alloc, raw, name)?)

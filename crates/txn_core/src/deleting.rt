@@ -5,7 +5,7 @@ ghost use Rattle.txn_core.specs.Writes.{Deletes, Stands};
 
 use crate::effect::Effect;
 use crate::roots::{Written, first_own};
-use crate::stopped::Stopped;
+use crate::stopped::ExecuteFault;
 use crate::touching::Touching;
 use crate::transaction::Txn;
 use ion_values::Value;
@@ -24,12 +24,12 @@ impl Txn {
         alloc: Global,
         from: &FromClause,
         params: &[Value],
-    ) -> Result<Effect, Stopped>
+    ) -> Result<Effect, ExecuteFault>
         ensures { Does result (deleted self.now.base self.now.done params.now from.now) }
     {
         let sources = from.sources.as_slice();
         if let Some(cause) = first_own(alloc, sources, &Written::All)? {
-            return Err(Stopped::Refused(cause));
+            return Err(ExecuteFault::Refused(cause));
         }
         let rows = self.rows_now(alloc, from, params)?;
         let documents = deleted_documents(alloc, &rows)?;
@@ -37,7 +37,7 @@ impl Txn {
     }
 
     /// What deletes each document, one after another. It stops at the first one for which there is no room.
-    fn end_all(&self, alloc: Global, documents: DocIds) -> Result<Effect, Stopped>
+    fn end_all(&self, alloc: Global, documents: DocIds) -> Result<Effect, ExecuteFault>
         ensures { Does result (stored_deletes self.now.base self.now.done documents) }
     {
         let mut touching = self.touching(alloc)?;
@@ -51,12 +51,12 @@ impl Txn {
     }
 
     /// Deletes the document, behind those that were touched before.
-    fn end(&self, alloc: Global, touching: &mut Touching, id: DocId) -> Result<(), Stopped>
+    fn end(&self, alloc: Global, touching: &mut Touching, id: DocId) -> Result<(), ExecuteFault>
         requires { Stands self.now touching.old }
         ensures { Deletes self.now id touching.old result touching.new }
     {
         if !touching.has_room_for(id) {
-            return Err(Stopped::Refused(Refusal::TooManyRevisions { count: 41 }));
+            return Err(ExecuteFault::Refused(Refusal::TooManyRevisions { count: 41 }));
         }
         self.touch(alloc, touching, id, Content::Deleted)?;
         Ok(())

@@ -8,7 +8,7 @@ ghost use Rattle.txn_core.specs.Stops.{Does};
 use crate::effect::Effect;
 use crate::limits::first_deep;
 use crate::statements::{miscounted, read_statement};
-use crate::stopped::Stopped;
+use crate::stopped::ExecuteFault;
 use crate::transaction::Txn;
 use ion_values::{Value, Values, copy_values};
 use ledger_model::{Answer, Refusal};
@@ -33,17 +33,22 @@ impl Txn {
         }
         match self.answered(alloc, text, params) {
             Ok(rows) => Ok(Answer { rows }),
-            Err(Stopped::Refused(cause)) => {
+            Err(ExecuteFault::Refused(cause)) => {
                 self.ended = true;
                 Err(cause)
             }
-            Err(Stopped::OutOfMemory) => Err(Refusal::OutOfMemory),
+            Err(ExecuteFault::OutOfMemory) => Err(Refusal::OutOfMemory),
         }
     }
 
     /// Does one statement and answers its rows. Where it isn't done, the transaction is as before.
     #[tactic(auto, using(crate::proofs::Effects::added_told, crate::proofs::Effects::stops))]
-    fn answered(&mut self, alloc: Global, text: &str, params: &[Value]) -> Result<Values, Stopped>
+    fn answered(
+        &mut self,
+        alloc: Global,
+        text: &str,
+        params: &[Value],
+    ) -> Result<Values, ExecuteFault>
         ensures { Told self.old (asked text.now params.now) result self.new }
     {
         let effect = match self.effect(alloc, text, params) {
@@ -58,7 +63,12 @@ impl Txn {
     /// Does one statement as `execute` does, and leaves its answer with the transaction alone. Where it isn't done, the
     /// transaction is as before; a refusal doesn't end it.
     #[tactic(auto, using(crate::proofs::Effects::added_steps, crate::proofs::Effects::stops))]
-    pub fn perform(&mut self, alloc: Global, text: &str, params: &[Value]) -> Result<(), Stopped>
+    pub fn perform(
+        &mut self,
+        alloc: Global,
+        text: &str,
+        params: &[Value],
+    ) -> Result<(), ExecuteFault>
         ensures { Performed self.old (asked text.now params.now) result self.new }
     {
         let effect = match self.effect(alloc, text, params) {
@@ -70,7 +80,7 @@ impl Txn {
     }
 
     /// What the statement of this text does with these parameters.
-    fn effect(&self, alloc: Global, text: &str, params: &[Value]) -> Result<Effect, Stopped>
+    fn effect(&self, alloc: Global, text: &str, params: &[Value]) -> Result<Effect, ExecuteFault>
         ensures { Does result (asked_effect self.now (asked text.now params.now)) }
     {
         let statement = read_statement(alloc, text)?;
@@ -86,14 +96,14 @@ impl Txn {
         alloc: Global,
         statement: &Statement,
         params: &[Value],
-    ) -> Result<Effect, Stopped>
+    ) -> Result<Effect, ExecuteFault>
         ensures { Does result (done_as self.now params.now statement.now) }
     {
         if let Some(cause) = miscounted(statement, params) {
-            return Err(Stopped::Refused(cause));
+            return Err(ExecuteFault::Refused(cause));
         }
         if let Some(depth) = first_deep(params) {
-            return Err(Stopped::Refused(Refusal::TooDeep { depth }));
+            return Err(ExecuteFault::Refused(Refusal::TooDeep { depth }));
         }
         self.whole_effect(alloc, statement, params)
     }
@@ -105,7 +115,7 @@ impl Txn {
         alloc: Global,
         statement: &Statement,
         params: &[Value],
-    ) -> Result<Effect, Stopped>
+    ) -> Result<Effect, ExecuteFault>
         ensures { Does result (run.effect_of self.now.begun self.now.base self.now.done params.now statement.now) }
     {
         let mut effect = match self.done_by(alloc, statement, params) {
@@ -122,7 +132,7 @@ impl Txn {
         alloc: Global,
         statement: &Statement,
         params: &[Value],
-    ) -> Result<Effect, Stopped>
+    ) -> Result<Effect, ExecuteFault>
         ensures { Does result (done_by_statement self.now.begun self.now.base self.now.done params.now statement.now) }
     {
         match statement {

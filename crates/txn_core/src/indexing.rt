@@ -8,7 +8,7 @@ ghost use Rattle.txn_core.specs.Transactions.{not_indexed};
 
 use crate::effect::Effect;
 use crate::schema_changes::schema_change;
-use crate::stopped::Stopped;
+use crate::stopped::ExecuteFault;
 use crate::transaction::Txn;
 use ion_values::{OutOfMemory, Text};
 use ledger_model::{Refusal, Schema};
@@ -28,12 +28,12 @@ impl Txn {
         alloc: Global,
         name: &Text,
         field: &Text,
-    ) -> Result<Effect, Stopped>
+    ) -> Result<Effect, ExecuteFault>
         ensures { Does result (indexed self.now.base self.now.done name.now field.now) }
     {
         let table = self.table_changed(alloc, name)?;
         if let Some(cause) = self.not_indexed(alloc, name, field, table)? {
-            return Err(Stopped::Refused(cause));
+            return Err(ExecuteFault::Refused(cause));
         }
         let change = Schema::Index {
             field: field.copy(alloc)?,

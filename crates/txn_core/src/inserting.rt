@@ -9,7 +9,7 @@ ghost use Rattle.txn_core.specs.Stops.{Does};
 use crate::answers::named_id;
 use crate::effect::Effect;
 use crate::limits::{not_stored, reserved};
-use crate::stopped::Stopped;
+use crate::stopped::ExecuteFault;
 use crate::transaction::Txn;
 use containers::Sequence;
 use ion_values::{Body, Kind, OutOfMemory, Text, Value, Values};
@@ -28,11 +28,11 @@ impl Txn {
         name: &Text,
         value: &Expr,
         params: &[Value],
-    ) -> Result<Effect, Stopped>
+    ) -> Result<Effect, ExecuteFault>
         ensures { Does result (inserted self.now.begun self.now.base self.now.done params.now name.now value.now) }
     {
         if let Some(cause) = reserved(alloc, name)? {
-            return Err(Stopped::Refused(cause));
+            return Err(ExecuteFault::Refused(cause));
         }
         let table = self.table_named(alloc, name)?;
         let found = eval(alloc, value, &Sequence::new(alloc), params)?;
@@ -45,17 +45,24 @@ impl Txn {
         alloc: Global,
         table: TableId,
         found: Evaluated,
-    ) -> Result<Effect, Stopped>
+    ) -> Result<Effect, ExecuteFault>
         ensures { Does result (if_documents (documents_in found) (stored self.now.begun table self.now.done)) }
     {
         match found {
-            Evaluated::Missing => Err(Stopped::Refused(Refusal::NotADocument { kind: Kind::Null })),
+            Evaluated::Missing => Err(ExecuteFault::Refused(Refusal::NotADocument {
+                kind: Kind::Null,
+            })),
             Evaluated::Found(value) => self.store_members(alloc, table, value),
         }
     }
 
     /// What stores a list's elements, or the value alone.
-    fn store_members(&self, alloc: Global, table: TableId, value: Value) -> Result<Effect, Stopped>
+    fn store_members(
+        &self,
+        alloc: Global,
+        table: TableId,
+        value: Value,
+    ) -> Result<Effect, ExecuteFault>
         ensures { Does result (stored self.now.begun table self.now.done (members_or value (out-Body value.body))) }
     {
         let Value { annotations, body } = value;
@@ -66,7 +73,12 @@ impl Txn {
     }
 
     /// What stores the value as a document.
-    fn store_one(&self, alloc: Global, table: TableId, document: Value) -> Result<Effect, Stopped>
+    fn store_one(
+        &self,
+        alloc: Global,
+        table: TableId,
+        document: Value,
+    ) -> Result<Effect, ExecuteFault>
         ensures { Does result (stored self.now.begun table self.now.done (document ∷ [])) }
     {
         let mut effect = Effect::new(alloc);
@@ -75,7 +87,12 @@ impl Txn {
     }
 
     /// What stores the values as documents, one after another. It stops at the first one that isn't stored.
-    fn store_all(&self, alloc: Global, table: TableId, documents: Values) -> Result<Effect, Stopped>
+    fn store_all(
+        &self,
+        alloc: Global,
+        table: TableId,
+        documents: Values,
+    ) -> Result<Effect, ExecuteFault>
         ensures { Does result (stored self.now.begun table self.now.done documents) }
     {
         let mut effect = Effect::new(alloc);
@@ -92,7 +109,7 @@ impl Txn {
         table: TableId,
         value: Value,
         effect: &mut Effect,
-    ) -> Result<(), Stopped>
+    ) -> Result<(), ExecuteFault>
         ensures { Stores self.now table value (effect_of effect.old) result (effect_of effect.new) }
     {
         if let Some(cause) = not_stored(
@@ -101,7 +118,7 @@ impl Txn {
             effect.log.as_slice(),
             &value,
         )? {
-            return Err(Stopped::Refused(cause));
+            return Err(ExecuteFault::Refused(cause));
         }
         let raw = self.next_id(effect.made)?;
         add_document(alloc, effect, raw, table, value)?;

@@ -29,6 +29,6 @@ mod values;
 mod views;
 
 pub use runs::Ran;
-pub use stopped::Stopped;
+pub use stopped::ExecuteFault;
 pub use table_views::TableViews;
 pub use transaction::{Drawn, Finished, Txn, start_txn};

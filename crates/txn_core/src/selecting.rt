@@ -8,7 +8,7 @@ ghost use Rattle.txn_core.specs.Stops.{Comes, Does};
 
 use crate::effect::Effect;
 use crate::sources::first_absent;
-use crate::stopped::Stopped;
+use crate::stopped::ExecuteFault;
 use crate::transaction::Txn;
 use ion_values::{Value, Values};
 use ledger_model::Answer;
@@ -24,7 +24,7 @@ impl Txn {
         select: &Select,
         from: &FromClause,
         params: &[Value],
-    ) -> Result<Effect, Stopped>
+    ) -> Result<Effect, ExecuteFault>
         ensures { Does result (selected self.now.base self.now.done params.now select.now from.now) }
     {
         let rows = self.rows_selected(alloc, select, from, params)?;
@@ -40,13 +40,13 @@ impl Txn {
         select: &Select,
         from: &FromClause,
         params: &[Value],
-    ) -> Result<Values, Stopped>
+    ) -> Result<Values, ExecuteFault>
         ensures { Comes result (answer_in (tables_now self.now.base self.now.done) self.now.base
             (latest (map draft_of self.now.base.revisions ++ self.now.done.log)) params.now select.now from.now) }
     {
         let tables = self.tables_now(alloc)?;
         if let Some(cause) = first_absent(alloc, tables.as_slice(), from.sources.as_slice())? {
-            return Err(Stopped::Refused(cause));
+            return Err(ExecuteFault::Refused(cause));
         }
         let rows = self.rows_over(alloc, tables, from, params)?;
         let Answer { rows } = answer(alloc, select, rows, params)?;

@@ -5,7 +5,7 @@ ghost use Rattle.pql_model.specs.Parse.{parsed};
 ghost use Rattle.txn_core.specs.Statements.{read_of};
 ghost use Rattle.txn_core.specs.Stops.{Comes};
 
-use crate::stopped::Stopped;
+use crate::stopped::ExecuteFault;
 use ion_values::Value;
 use ledger_model::Refusal;
 use pql_model::{Statement, parameters};
@@ -13,15 +13,15 @@ use pql_parse::{ParseAnswer, parse};
 use std::alloc::Global;
 
 /// The statement that a text is. It stops with `ParseFault` where it is none.
-pub(crate) fn read_statement(alloc: Global, text: &str) -> Result<Statement, Stopped>
+pub(crate) fn read_statement(alloc: Global, text: &str) -> Result<Statement, ExecuteFault>
     ensures { Comes result (read_of (parsed text.now)) }
 {
     match parse(alloc, text) {
         Ok(statement) => Ok(statement),
         Err(ParseAnswer::Fault { at, kind }) => {
-            Err(Stopped::Refused(Refusal::ParseFault { at, kind }))
+            Err(ExecuteFault::Refused(Refusal::ParseFault { at, kind }))
         }
-        Err(ParseAnswer::OutOfMemory) => Err(Stopped::OutOfMemory),
+        Err(ParseAnswer::OutOfMemory) => Err(ExecuteFault::OutOfMemory),
     }
 }
 

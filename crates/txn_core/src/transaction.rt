@@ -11,7 +11,7 @@ ghost use Rattle.versions.specs.Held.{table_of};
 use crate::effect::Effect;
 use crate::limits::reserved;
 use crate::progress::Progress;
-use crate::stopped::Stopped;
+use crate::stopped::ExecuteFault;
 use crate::views::left_of;
 use containers::Sequence;
 use ion_values::{OutOfMemory, Text, Value, copy_values};
@@ -204,12 +204,12 @@ impl Txn {
     }
 
     /// The table of this name, for a statement on it. It stops with `NoSuchTable` where no active one has the name.
-    pub(crate) fn table_named(&self, alloc: Global, name: &Text) -> Result<TableId, Stopped>
+    pub(crate) fn table_named(&self, alloc: Global, name: &Text) -> Result<TableId, ExecuteFault>
         ensures { Comes result (found name.now (table_now self.now.base self.now.done name.now)) }
     {
         match self.table_now(alloc, name)? {
             Some(table) => Ok(table),
-            None => Err(Stopped::Refused(Refusal::NoSuchTable {
+            None => Err(ExecuteFault::Refused(Refusal::NoSuchTable {
                 name: name.copy(alloc)?,
             })),
         }
@@ -217,12 +217,12 @@ impl Txn {
 
     /// The table of this name, for a statement that changes its schema. It stops with `ReservedName` where the name
     /// is the ledger's own, and with `NoSuchTable` where no active table has it.
-    pub(crate) fn table_changed(&self, alloc: Global, name: &Text) -> Result<TableId, Stopped>
+    pub(crate) fn table_changed(&self, alloc: Global, name: &Text) -> Result<TableId, ExecuteFault>
         ensures { Comes result (found_unless (reserved name.now) name.now
             (table_now self.now.base self.now.done name.now)) }
     {
         if let Some(cause) = reserved(alloc, name)? {
-            return Err(Stopped::Refused(cause));
+            return Err(ExecuteFault::Refused(cause));
         }
         self.table_named(alloc, name)
     }

@@ -5,7 +5,7 @@ ghost use Rattle.std.specs.List.{list_any};
 ghost use Rattle.ledger_model.specs.ReadScript.{abort_in, abort_said, digest_in, digest_said, is_known, is_unknown, named, repeats, retries_in, retries_of, retries_said, statements_said};
 ghost use Rattle.script_form.specs.Answers.{GivesKind};
 
-use super::jobs::Stop;
+use super::jobs::JobFault;
 use super::statements::statements_in;
 use ion_values::{Field, Fields, OutOfMemory, Value};
 use ledger_model::{Asked, ScriptKind, blob_in, int_in, symbol_in};
@@ -72,15 +72,15 @@ fn into_named(name: &str, fields: Fields) -> Option<Value>
 }
 
 /// The statements, which may not be left out.
-pub fn statements_said(alloc: Global, fields: Fields) -> Result<Asked, Stop>
+pub fn statements_said(alloc: Global, fields: Fields) -> Result<Asked, JobFault>
     ensures { GivesKind result (statements_said fields) }
 {
     let Some(value) = into_named("statements", fields) else {
-        return Err(Stop::Kind(ScriptKind::MissingField));
+        return Err(JobFault::Kind(ScriptKind::MissingField));
     };
     match statements_in(alloc, value)? {
         Some(asked) => Ok(asked),
-        None => Err(Stop::Kind(ScriptKind::NotAStatement)),
+        None => Err(JobFault::Kind(ScriptKind::NotAStatement)),
     }
 }
 
@@ -101,7 +101,7 @@ fn retries_in(value: &Value) -> Option<u32>
 }
 
 /// How often a transaction is tried again, 4 times where nothing is said.
-pub fn retries_said(fields: &[Field]) -> Result<u32, Stop>
+pub fn retries_said(fields: &[Field]) -> Result<u32, JobFault>
     ensures { GivesKind result (retries_said fields.now) }
 {
     let Some(value) = named("retries", fields) else {
@@ -109,7 +109,7 @@ pub fn retries_said(fields: &[Field]) -> Result<u32, Stop>
     };
     match retries_in(value) {
         Some(retries) => Ok(retries),
-        None => Err(Stop::Kind(ScriptKind::BadRetries)),
+        None => Err(JobFault::Kind(ScriptKind::BadRetries)),
     }
 }
 
@@ -124,7 +124,7 @@ fn digest_in(value: &Value) -> Option<Option<Hash32>>
 }
 
 /// The digest that is sent in place of the computed one.
-pub fn digest_said(fields: &[Field]) -> Result<Option<Hash32>, Stop>
+pub fn digest_said(fields: &[Field]) -> Result<Option<Hash32>, JobFault>
     ensures { GivesKind result (digest_said fields.now) }
 {
     let Some(value) = named("digest", fields) else {
@@ -132,7 +132,7 @@ pub fn digest_said(fields: &[Field]) -> Result<Option<Hash32>, Stop>
     };
     match digest_in(value) {
         Some(digest) => Ok(digest),
-        None => Err(Stop::Kind(ScriptKind::BadDigest)),
+        None => Err(JobFault::Kind(ScriptKind::BadDigest)),
     }
 }
 
@@ -147,7 +147,7 @@ fn abort_in(value: &Value) -> Option<bool>
 }
 
 /// Whether the transaction is aborted.
-pub fn abort_said(fields: &[Field]) -> Result<bool, Stop>
+pub fn abort_said(fields: &[Field]) -> Result<bool, JobFault>
     ensures { GivesKind result (abort_said fields.now) }
 {
     let Some(value) = named("end", fields) else {
@@ -155,6 +155,6 @@ pub fn abort_said(fields: &[Field]) -> Result<bool, Stop>
     };
     match abort_in(value) {
         Some(abort) => Ok(abort),
-        None => Err(Stop::Kind(ScriptKind::BadEnd)),
+        None => Err(JobFault::Kind(ScriptKind::BadEnd)),
     }
 }

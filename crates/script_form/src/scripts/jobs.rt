@@ -11,24 +11,24 @@ use value_codec::takes::into_fields;
 
 /// Why no transaction is read.
 #[derive(Clone, Copy, Debug, PartialEq, Eq)]
-pub enum Stop {
+pub enum JobFault {
     Kind(ScriptKind),
     OutOfMemory,
 }
 
-impl From<OutOfMemory> for Stop {
+impl From<OutOfMemory> for JobFault {
     ghost use Rattle.std.specs.Prelude.{◌≡◌};
-    ghost use Rattle.script_form.specs.declared.scripts.jobs.Stop.TheVariants as stop;
+    ghost use Rattle.script_form.specs.declared.scripts.jobs.JobFault.TheVariants as stop;
 
     ghost from_gives = { λ _ e. e ≡ stop.OutOfMemory };
 
-    fn from(_error: OutOfMemory) -> Stop {
-        Stop::OutOfMemory
+    fn from(_error: OutOfMemory) -> JobFault {
+        JobFault::OutOfMemory
     }
 }
 
 /// What the fields say, one after another. The statements are moved out of them.
-fn job_said(alloc: Global, fields: Fields) -> Result<Job, Stop>
+fn job_said(alloc: Global, fields: Fields) -> Result<Job, JobFault>
     ensures { GivesKind result (job_said fields) }
 {
     let retries = retries_said(fields.as_slice());
@@ -43,25 +43,25 @@ fn job_said(alloc: Global, fields: Fields) -> Result<Job, Stop>
     })
 }
 
-fn job_of_fields(alloc: Global, fields: Fields) -> Result<Job, Stop>
+fn job_of_fields(alloc: Global, fields: Fields) -> Result<Job, JobFault>
     ensures { GivesKind result (job_of_fields fields) }
 {
     if repeats(alloc, fields.as_slice())? {
-        return Err(Stop::Kind(ScriptKind::RepeatedField));
+        return Err(JobFault::Kind(ScriptKind::RepeatedField));
     }
     if has_unknown(fields.as_slice()) {
-        return Err(Stop::Kind(ScriptKind::UnknownField));
+        return Err(JobFault::Kind(ScriptKind::UnknownField));
     }
     let job = job_said(alloc, fields)?;
     Ok(job)
 }
 
 /// The transaction that a value spells, or the first of the kinds of faults that it has.
-pub fn read_job(alloc: Global, value: Value) -> Result<Job, Stop>
+pub fn read_job(alloc: Global, value: Value) -> Result<Job, JobFault>
     ensures { GivesKind result (read_job value) }
 {
     let Some(fields) = into_fields(value) else {
-        return Err(Stop::Kind(ScriptKind::NotATransaction));
+        return Err(JobFault::Kind(ScriptKind::NotATransaction));
     };
     let job = job_of_fields(alloc, fields)?;
     Ok(job)

@@ -12,7 +12,15 @@ returns-in-Ok g c =
     let k = c.make_if_empty.result in
     let is = c.in-Ok.ensures in
     let loaded : HasLoaded told c.from_seed.result.bits (told c.args.resources.store) c.in-Ok.tail =
-    record { journal = is.journal; sound = is.standing; mask = is.mask; last = is.last; content = is.store.0; faults = is.store.1 } in
+    record {
+      journal = is.journal;
+      sound = is.standing;
+      mask = is.mask;
+      last = is.last;
+      content = is.store.0;
+      faults = is.store.1;
+      images = is.images;
+    } in
     let has : HasLoaded told (mask_of c.args.options.seed) (told c.args.resources.store) c.in-Ok.tail =
     subst (λ (mask : ℕ). HasLoaded told mask (told c.args.resources.store) c.in-Ok.tail) c.from_seed.ensures loaded in
     subst

@@ -16,7 +16,15 @@ returns-in-Ok-clause-done g c =
     let clocks = clock_told g.C.Clock.answers g.C.Clock.always in
     let is = c.in-Ok.ensures in
     let has : HasLoaded told c.args.mask.bits (told c.args.resources.store) c.in-Ok.tail =
-    record { journal = is.journal; sound = is.standing; mask = is.mask; last = is.last; content = is.store.0; faults = is.store.1 } in
+    record {
+      journal = is.journal;
+      sound = is.standing;
+      mask = is.mask;
+      last = is.last;
+      content = is.store.0;
+      faults = is.store.1;
+      images = is.images;
+    } in
     subst
     (λ k. IfOk c.run_on.result.value
     (λ text. (terms : Terms) → AreCovered c.args.mask.bits (clocks k) (clocks c.run_on.result.clock) terms
@@ -29,7 +37,15 @@ returns-in-Ok-clause-ended g c =
     let clocks = clock_told g.C.Clock.answers g.C.Clock.always in
     let is = c.in-Ok.ensures in
     let has : HasLoaded told c.args.mask.bits (told c.args.resources.store) c.in-Ok.tail =
-    record { journal = is.journal; sound = is.standing; mask = is.mask; last = is.last; content = is.store.0; faults = is.store.1 } in
+    record {
+      journal = is.journal;
+      sound = is.standing;
+      mask = is.mask;
+      last = is.last;
+      content = is.store.0;
+      faults = is.store.1;
+      images = is.images;
+    } in
     subst
     (λ k. IfErr c.run_on.result.value
     (λ why. (terms : Terms) → AreCovered c.args.mask.bits (clocks k) (clocks c.run_on.result.clock) terms
@@ -41,7 +57,15 @@ returns-in-Ok-clause-stop g c =
     let told = g.S.JournalStore.told in
     let is = c.in-Ok.ensures in
     let has : HasLoaded told c.args.mask.bits (told c.args.resources.store) c.in-Ok.tail =
-    record { journal = is.journal; sound = is.standing; mask = is.mask; last = is.last; content = is.store.0; faults = is.store.1 } in
+    record {
+      journal = is.journal;
+      sound = is.standing;
+      mask = is.mask;
+      last = is.last;
+      content = is.store.0;
+      faults = is.store.1;
+      images = is.images;
+    } in
     c.run_on.ensures.stop c.args.mask.bits (told c.args.resources.store) has
 
 pub returns-in-Err-clause-done : goal.returns-in-Err-clause-done

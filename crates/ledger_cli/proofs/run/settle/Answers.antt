@@ -18,6 +18,8 @@ returns-in-Ok g c =
         fine = c.in-Ok.ensures.store.fine;
         synced = λ kept. synced_by c.args.tail.marked (told c.args.tail.store) (told c.settle.new.self.store) kept c.in-Ok.ensures.synced
             (λ un. ap (λ x. told x.store) (k.untouched un).1);
+        clean = c.in-Ok.ensures.images.0;
+        images = λ tried sound. (c.in-Ok.ensures.images.1 tried sound).keeps.sound;
       },
     )
 
@@ -29,4 +31,6 @@ returns-in-Err g c =
       cut = c.settle.ensures.cut;
       stop = subst (λ (why : CommandFault). IsTailStop why (span (told c.args.tail.store) (told c.settle.new.self.store))) (sym c.from.ensures)
           (settle_stops c.in-Err.fault (told c.args.tail.store) (told c.settle.new.self.store) c.in-Err.ensures.store.fault);
+      standing = c.settle.ensures.standing;
+      images = λ tried sound. (c.in-Err.ensures.images tried sound).sound;
     }

@@ -1,9 +1,11 @@
-use Rattle.std.proofs.Common.{Err, subst, sym}
+use Rattle.std.proofs.Common.{Err, None, subst, sym}
 use Rattle.std.specs.Prelude.{option_map}
 use Rattle.ledger_core.specs.declared.commit.CommitFault.{CommitFault}
 use Rattle.ledger_core.specs.Committing.{IsAnswer, IsTried}
 use Rattle.ledger_core.specs.Leaving.{CommitLeaves}
-use Rattle.ledger_core.proofs.Commits.{IsReady, put_stands, put_tried, ready, refused_leaves, sealed_leaves, unkept_leaves}
+use Rattle.ledger_core.proofs.Commits.{IsReady, put_kept, put_stands, put_tried, put_unkept, ready, refused_leaves, sealed_leaves, unkept_leaves}
+use Rattle.ledger_core.specs.declared.appending.Receipt.{Receipt}
+use Rattle.ledger_core.proofs.Imaging.{refused_images}
 use Rattle.ledger_core.proofs.tail.Tail.try_commit.Goals as goal
 
 pub returns-in-Err-clause-commits : goal.returns-in-Err-clause-commits
@@ -30,7 +32,7 @@ returns-in-Err-append_next-clause-commits g c =
     subst (λ (f : CommitFault). CommitLeaves told answers always c.args.self.now c.append_next.new.self c.args.txn c.args.sent (Err f)) (sym c.from.ensures)
     (unkept_leaves told answers always c.args.self.now c.time-time.new.self c.append_next.new.self _ c.args.txn c.args.sent c.time-time.result r
     c.time-time.ensures.same c.time-time.ensures.answer failed.clock c.time-time.ensures.always c.in-Err-append_next.field-0.fault failed.same failed.part
-    failed.marked failed.fault)
+    failed.marked failed.fault c.in-Err-append_next.field-0 (option_map (λ b. b.value) c.in-Err-append_next.field-0.tried) failed.tried failed.images)
 
 pub returns-in-Err-append_next-clause-tried : goal.returns-in-Err-append_next-clause-tried
 returns-in-Err-append_next-clause-tried g c =
@@ -51,4 +53,24 @@ returns-in-Ok-append_next-clause-commits g c =
     c.place.ensures c.is_within.ensures c.is_within-2.ensures c.in-Ok.ensures in
     sealed_leaves g.S.JournalStore.told g.C.Clock.answers g.C.Clock.always c.args.self.now c.time-time.new.self c.append_next.new.self _ c.args.txn c.args.sent
     c.time-time.result r c.time-time.ensures.same c.time-time.ensures.answer kept.clock c.time-time.ensures.always c.in-Ok-append_next.receipt kept.receipt
-    kept.standing kept.holds kept.synced kept.fine
+    kept.standing kept.holds kept.synced kept.fine kept.images
+
+pub returns-in-Err-clause-images : goal.returns-in-Err-clause-images
+returns-in-Err-clause-images g c = refused_images Receipt g.S.JournalStore.told c.args.self.now c.in-Err.fault
+
+pub returns-in-Err-append_next-clause-images : goal.returns-in-Err-append_next-clause-images
+returns-in-Err-append_next-clause-images g c =
+    let r : IsReady c.args.self.now.standing c.args.txn c.args.sent =
+    ready c.args.self.now.standing c.args.txn c.args.sent c.place.result c.is_tail.ensures.stands c.requires c.is_tail.ensures.mask
+    c.place.ensures c.is_within.ensures c.is_within-2.ensures c.in-Ok.ensures in
+    put_unkept g.S.JournalStore.told g.C.Clock.answers g.C.Clock.always c.args.self.now c.time-time.new.self c.append_next.new.self _ c.args.txn c.args.sent
+    c.time-time.result r c.time-time.ensures.same c.in-Err-append_next.field-0 c.from.result (option_map (λ b. b.value) c.in-Err-append_next.field-0.tried)
+    c.in-Err-append_next.ensures.images
+
+pub returns-in-Ok-append_next-clause-images : goal.returns-in-Ok-append_next-clause-images
+returns-in-Ok-append_next-clause-images g c =
+    let r : IsReady c.args.self.now.standing c.args.txn c.args.sent =
+    ready c.args.self.now.standing c.args.txn c.args.sent c.place.result c.is_tail.ensures.stands c.requires c.is_tail.ensures.mask
+    c.place.ensures c.is_within.ensures c.is_within-2.ensures c.in-Ok.ensures in
+    put_kept g.S.JournalStore.told g.C.Clock.answers g.C.Clock.always c.args.self.now c.time-time.new.self c.append_next.new.self _ c.args.txn c.args.sent
+    c.time-time.result r c.time-time.ensures.same CommitFault c.in-Ok-append_next.receipt None None c.in-Ok-append_next.ensures.images

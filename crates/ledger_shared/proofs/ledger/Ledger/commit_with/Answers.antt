@@ -1,9 +1,11 @@
-use Rattle.std.proofs.Common.{subst, sym}
+use Rattle.std.proofs.Common.{◌≡◌, ◌∙◌, subst, sym}
 use Rattle.turn_lock.specs.Seats.{known}
-use Rattle.ledger_shared.specs.Behind.{opening_of}
+use Rattle.laws_crash.proofs.Images.{unmarked_recovers}
+use Rattle.ledger_shared.specs.Behind.{IsRightFor, Keeps, opening_of}
 use Rattle.ledger_shared.specs.Calls.{Commits, Extends, IsOpen}
 use Rattle.ledger_shared.specs.Ledgers.{opened_of}
 use Rattle.ledger_shared.proofs.Passes.{called, commit_opens, commit_puts}
+use Rattle.ledger_shared.proofs.Recovering.{called_keeps}
 use Rattle.ledger_shared.proofs.ledger.Ledger.commit_with.Goals as goal
 
 pub commit-result-requires : goal.commit-result-requires
@@ -35,3 +37,20 @@ returns-clause-commits g c =
     (λ front added. Commits o front c.args.txn c.args.sent call.result added) took.ensures.known took.ensures.longer took.ensures.entries
     (subst (λ x. Extends took.result.entries call.new.self.entries (Commits (opening_of told x) took.result.entries c.args.txn c.args.sent call.result)) took.ensures.opening call.ensures.commits)
     c.put_back.ensures.known
+
+pub returns-clause-kept : goal.returns-clause-kept
+returns-clause-kept g c =
+    let told = g.S.JournalStore.told in
+    let answers = g.C.Clock.answers in
+    let always = g.C.Clock.always in
+    let took = c.take-shared in
+    let call = c.commit-result in
+    let opened = opened_of c.args.self.now in
+    let home = c.is_home.ensures in
+    let of : call.new.self.opened ≡ opened = call.ensures.opened ∙ took.ensures.opening in
+    called_keeps told answers always opened unmarked_recovers (known took.new.pass) (known c.put_back.new.pass) call.new.self.tail
+    took.result.entries call.new.self.entries c.args.txn c.args.sent call.result took.ensures.entries
+    (subst (λ x. Extends took.result.entries call.new.self.entries (Commits (opening_of told x) took.result.entries c.args.txn c.args.sent call.result)) took.ensures.opening call.ensures.commits)
+    c.put_back.ensures.known
+    (subst (λ x. Keeps told answers always x call.new.self.tail call.new.self.entries) of home.keeps)
+    (subst (λ x. IsRightFor told x call.new.self.entries) of home.right)

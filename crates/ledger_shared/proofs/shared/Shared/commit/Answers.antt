@@ -41,6 +41,7 @@ invariant_of-self-in-Ok g c =
     c.add.new.self.items.items c.self.invariant c.args.txn k c.tx-tx.result c.tx-tx.ensures c.args.sent c.try_commit.ensures.commits.asked c.try_commit.ensures.commits.always_is
     c.in-Ok.receipt r e (c.add.ensures ∙ ap (λ (l : List kept.Entry). l ++ e ∷ []) c.make_room.ensures.items)
     (c.sealed_entry-entry.ensures first.tail.standing.mask r.block there) c.in-Ok.ensures.commits.fine c.in-Ok.ensures.commits.holds c.in-Ok.ensures.commits.synced
+    c.in-Ok.ensures.images.0 c.in-Ok.ensures.images.1
 
 pub returns-in-Ok-clause-commits : goal.returns-in-Ok-clause-commits
 returns-in-Ok-clause-commits g c =
@@ -66,6 +67,7 @@ invariant_of-self-in-Some g c =
     refuse_keeps told g.C.Clock.answers g.C.Clock.always first.opened.value first.tail c.try_commit.new.self first.entries.items.items
     c.add-in-Some.new.self.items.items c.self.invariant c.args.txn k c.tx-tx.result c.tx-tx.ensures c.args.sent c.try_commit.ensures.commits.asked c.try_commit.ensures.commits.always_is
     c.in-Err.field-0.fault (option_map (λ b. b.value) c.in-Err.field-0.tried) c.in-Err.ensures.commits.ends c.in-Err.ensures.tried c.in-Err.ensures.commits.fault c.in-Err.ensures.left c.in-Err.ensures.commits.marked
+    c.in-Err.ensures.commits.unasked c.in-Err.ensures.images
     e (c.add-in-Some.ensures ∙ ap (λ (l : List kept.Entry). l ++ e ∷ []) c.make_room.ensures.items) (c.in-Some.ensures first.tail.standing.mask)
 
 pub returns-in-Some-clause-commits : goal.returns-in-Some-clause-commits
@@ -81,6 +83,7 @@ returns-in-Some-clause-commits g c =
     (refuse_adds told g.C.Clock.answers g.C.Clock.always first.opened.value first.tail c.try_commit.new.self first.entries.items.items
     c.add-in-Some.new.self.items.items c.self.invariant c.args.txn k c.tx-tx.result c.tx-tx.ensures c.args.sent c.try_commit.ensures.commits.asked c.try_commit.ensures.commits.always_is
     c.in-Err.field-0.fault (option_map (λ b. b.value) c.in-Err.field-0.tried) c.in-Err.ensures.commits.ends c.in-Err.ensures.tried c.in-Err.ensures.commits.fault c.in-Err.ensures.left c.in-Err.ensures.commits.marked
+    c.in-Err.ensures.commits.unasked c.in-Err.ensures.images
     e (c.add-in-Some.ensures ∙ ap (λ (l : List kept.Entry). l ++ e ∷ []) c.make_room.ensures.items) (c.in-Some.ensures first.tail.standing.mask))
 
 pub invariant_of-self-in-None : goal.invariant_of-self-in-None
@@ -91,6 +94,7 @@ invariant_of-self-in-None g c =
     refuse_keeps_none told g.C.Clock.answers g.C.Clock.always first.opened.value first.tail c.try_commit.new.self first.entries.items.items
     c.make_room.new.self.items.items c.self.invariant c.args.txn k c.tx-tx.result c.tx-tx.ensures c.args.sent c.try_commit.ensures.commits.asked c.try_commit.ensures.commits.always_is
     c.in-Err.field-0.fault (option_map (λ b. b.value) c.in-Err.field-0.tried) c.in-Err.ensures.commits.ends c.in-Err.ensures.tried c.in-Err.ensures.commits.fault c.in-Err.ensures.left c.in-Err.ensures.commits.marked
+    c.in-Err.ensures.commits.unasked c.in-Err.ensures.images
     c.make_room.ensures.items (c.in-None.ensures first.tail.standing.mask)
 
 pub returns-in-None-clause-commits : goal.returns-in-None-clause-commits
@@ -105,6 +109,7 @@ returns-in-None-clause-commits g c =
     (refuse_adds_none told g.C.Clock.answers g.C.Clock.always first.opened.value first.tail c.try_commit.new.self first.entries.items.items
     c.make_room.new.self.items.items c.self.invariant c.args.txn k c.tx-tx.result c.tx-tx.ensures c.args.sent c.try_commit.ensures.commits.asked c.try_commit.ensures.commits.always_is
     c.in-Err.field-0.fault (option_map (λ b. b.value) c.in-Err.field-0.tried) c.in-Err.ensures.commits.ends c.in-Err.ensures.tried c.in-Err.ensures.commits.fault c.in-Err.ensures.left c.in-Err.ensures.commits.marked
+    c.in-Err.ensures.commits.unasked c.in-Err.ensures.images
     c.make_room.ensures.items (c.in-None.ensures first.tail.standing.mask))
 
 pub invariant_of-self : goal.invariant_of-self

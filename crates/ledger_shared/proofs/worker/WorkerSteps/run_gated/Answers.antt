@@ -1,7 +1,7 @@
 use Rattle.std.proofs.Common.{◌≡◌, ◌+◌, Err, refl, ap, subst}
 use Rattle.ledger_model.specs.declared.script.Request.{Request}
 use Rattle.ledger_model.specs.Run.{run, run_from}
-use Rattle.txn_core.specs.declared.stopped.Stopped.TheVariants.{Refused}
+use Rattle.txn_core.specs.declared.stopped.ExecuteFault.TheVariants.{Refused}
 use Rattle.txn_core.specs.Opened.{IsStopped, Steps, asked, step_of}
 use Rattle.txn_core.proofs.Running.{run-on, run-refused, run-done}
 use Rattle.ledger_shared.proofs.worker.WorkerSteps.run_gated.Goals as goal

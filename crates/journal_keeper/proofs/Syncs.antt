@@ -5,7 +5,7 @@ use Rattle.std.specs.Prelude.{option_map, IfSome}
 use Rattle.outside.specs.Store.{Content, AppendLeaves, CutLeaves, SyncLeaves, appended, cut_to, lowered, synced_whole}
 use Rattle.outside.specs.declared.traits.OutFault.{OutFault}
 use Rattle.outside.specs.declared.traits.OutFault.TheVariants.{Failed, OutOfMemory}
-use Rattle.ledger_core.specs.Tails.{MayBeCut}
+use Rattle.journal_keeper.specs.Keeping.{MayBeCut}
 
 -- the bytes, where they are told
 abbrev pub bytes_of : Option Content → Option (List ℕ)

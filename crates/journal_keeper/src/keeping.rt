@@ -1,10 +1,11 @@
-//! Cutting a store and appending lines to it.
-ghost use Rattle.std.specs.Prelude.{◌≡◌, ◌+◌, ◌++◌, ◌⊎◌, ℕ, true, false, take, length, option_map, IsOk, IfOk, OnOk, OnErr, IfErr, IsErrOf};
+//! The keeper of a journal's store.
+ghost use Rattle.std.specs.Prelude.{◌≡◌, ◌+◌, ◌++◌, ◌⊎◌, ℕ, Bool, true, false, take, length, option_map, IsOk, IfOk, OnOk, OnErr, IfErr, IsErrOf};
 ghost use Rattle.outside.specs.Causes.{HasCause};
 ghost use Rattle.outside.specs.Told.{held};
 ghost use Rattle.laws_history.specs.Stores.{IsSynced};
-ghost use Rattle.ledger_core.specs.Tails.{MayBeCut, HoldsPart, cleared};
-ghost use Rattle.ledger_core.specs.Faults.{StoreLeaves, told};
+ghost use Rattle.journal_keeper.specs.Images.{AppendKeeps, LineKeeps, SettleKeeps};
+ghost use Rattle.journal_keeper.specs.Keeping.{HoldsPart, MayBeCut, cleared};
+ghost use Rattle.journal_keeper.specs.Faults.{StoreLeaves, told};
 
 use ion_values::OutOfMemory;
 use outside::{JournalStore, OutFault};
@@ -22,7 +23,7 @@ pub enum SettleFault {
 
 impl From<OutOfMemory> for SettleFault {
     ghost use Rattle.std.specs.Prelude.{◌≡◌};
-    ghost use Rattle.ledger_core.specs.declared.keeping.SettleFault.TheVariants as fails;
+    ghost use Rattle.journal_keeper.specs.declared.keeping.SettleFault.TheVariants as fails;
 
     ghost from_gives = { λ _ e. e ≡ fails.OutOfMemory };
 
@@ -34,15 +35,15 @@ impl From<OutOfMemory> for SettleFault {
 /// The keeper of a journal: its store, the length of the journal's lines, in bytes, and whether what stands after
 /// them is to be cut.
 #[derive(Drop)]
-pub(crate) struct Keeper<S> {
-    pub(crate) store: S,
-    pub(crate) size: u64,
-    pub(crate) marked: bool,
+pub struct Keeper<S> {
+    pub store: S,
+    pub size: u64,
+    pub marked: bool,
 }
 
 impl<S: JournalStore> Keeper<S> {
     /// Cuts the store to the journal's lines and syncs it, if a cut is marked.
-    pub(crate) fn settle(&mut self) -> Result<(), SettleFault>
+    pub fn settle(&mut self) -> Result<(), SettleFault>
         ensures bytes { OnOk result (held (S.told self.new.store)
             ≡ option_map (cleared self.old.marked self.old.size) (held (S.told self.old.store))) }
         ensures synced { OnOk result (self.old.marked ≡ true → IsSynced (S.told self.new.store)) }
@@ -52,6 +53,8 @@ impl<S: JournalStore> Keeper<S> {
             self.old.size) }
         ensures marked { OnErr result (self.new.marked ≡ self.old.marked) }
         ensures size { self.new.size ≡ self.old.size }
+        ensures images { SettleKeeps result self.old.size self.old.marked (S.told self.old.store).content
+            (S.told self.new.store).content }
         ensures store { StoreLeaves result (S.told self.old.store) (S.told self.new.store) }
     {
         if self.marked {
@@ -63,7 +66,7 @@ impl<S: JournalStore> Keeper<S> {
 
     /// Appends a line to the journal's lines, and syncs it. If a cut is marked, it is made before. After a fault of the
     /// store a cut is marked.
-    pub(crate) fn keep_line(&mut self, line: &[u8]) -> Result<(), SettleFault>
+    pub fn keep_line(&mut self, line: &[u8]) -> Result<(), SettleFault>
         ensures bytes { OnOk result (held (S.told self.new.store)
             ≡ option_map (λ held. cleared self.old.marked self.old.size held ++ line.now)
             (held (S.told self.old.store))) }
@@ -76,6 +79,8 @@ impl<S: JournalStore> Keeper<S> {
             (held (S.told self.new.store))) }
         ensures marked { IfErr result (λ fault. ((fault ≡ SettleFault.OutOfMemory) × (self.new ≡ self.old))
             ⊎ (self.new.marked ≡ true)) }
+        ensures images { LineKeeps result line.now self.old.size self.old.marked self.new.marked
+            (S.told self.old.store).content (S.told self.new.store).content }
         ensures store { StoreLeaves result (S.told self.old.store) (S.told self.new.store) }
     {
         let size = grown(self.size, line)?;
@@ -99,7 +104,7 @@ fn grown(size: u64, line: &[u8]) -> Result<u64, OutOfMemory>
 }
 
 /// The store's fault, with how often the store has failed.
-pub(crate) fn told<S: JournalStore>(store: &S, fault: OutFault) -> SettleFault
+fn told<S: JournalStore>(store: &S, fault: OutFault) -> SettleFault
     ensures { result ≡ told fault (S.told store.now).faults }
 {
     match fault {
@@ -115,6 +120,8 @@ fn cut_back<S: JournalStore>(store: &mut S, size: u64) -> Result<(), SettleFault
     ensures bytes { OnOk result (held (S.told store.new) ≡ option_map (take size) (held (S.told store.old))) }
     ensures synced { OnOk result (IsSynced (S.told store.new)) }
     ensures cut { MayBeCut (held (S.told store.old)) (held (S.told store.new)) size }
+    ensures images { (marked : Bool) → SettleKeeps result size marked (S.told store.old).content
+        (S.told store.new).content }
     ensures store { StoreLeaves result (S.told store.old) (S.told store.new) }
 {
     match cut_and_sync(store, size) {
@@ -128,6 +135,8 @@ fn cut_and_sync<S: JournalStore>(store: &mut S, size: u64) -> Result<(), OutFaul
     ensures bytes { OnOk result (held (S.told store.new) ≡ option_map (take size) (held (S.told store.old))) }
     ensures synced { OnOk result (IsSynced (S.told store.new)) }
     ensures cut { MayBeCut (held (S.told store.old)) (held (S.told store.new)) size }
+    ensures images { (marked : Bool) → SettleKeeps result size marked (S.told store.old).content
+        (S.told store.new).content }
     ensures cause { HasCause (S.told store.old).faults (S.told store.new).faults result }
     ensures last { IsErrOf result OutFault.Failed → (S.told store.new).last_failed ≡ true }
 {
@@ -143,6 +152,7 @@ fn put_behind<S: JournalStore>(store: &mut S, line: &[u8]) -> Result<(), SettleF
     ensures synced { OnOk result (IsSynced (S.told store.new)) }
     ensures part { (kept : ℕ) × (held (S.told store.new)
         ≡ option_map (λ held. held ++ take kept line.now) (held (S.told store.old))) }
+    ensures images { AppendKeeps result line.now (S.told store.old).content (S.told store.new).content }
     ensures store { StoreLeaves result (S.told store.old) (S.told store.new) }
 {
     match append_and_sync(store, line) {
@@ -152,16 +162,17 @@ fn put_behind<S: JournalStore>(store: &mut S, line: &[u8]) -> Result<(), SettleF
 }
 
 /// Appends a line to what the store holds, and syncs it.
-fn append_and_sync<S: JournalStore>(store: &mut S, line: &[u8]) -> Result<(), OutFault>
-    ensures bytes { OnOk result (held (S.told store.new)
-        ≡ option_map (λ held. held ++ line.now) (held (S.told store.old))) }
-    ensures synced { OnOk result (IsSynced (S.told store.new)) }
-    ensures part { (kept : ℕ) × (held (S.told store.new)
-        ≡ option_map (λ held. held ++ take kept line.now) (held (S.told store.old))) }
-    ensures cause { HasCause (S.told store.old).faults (S.told store.new).faults result }
-    ensures last { IsErrOf result OutFault.Failed → (S.told store.new).last_failed ≡ true }
+fn append_and_sync<S: JournalStore>(journal: &mut S, line: &[u8]) -> Result<(), OutFault>
+    ensures bytes { OnOk result (held (S.told journal.new)
+        ≡ option_map (λ held. held ++ line.now) (held (S.told journal.old))) }
+    ensures synced { OnOk result (IsSynced (S.told journal.new)) }
+    ensures part { (kept : ℕ) × (held (S.told journal.new)
+        ≡ option_map (λ held. held ++ take kept line.now) (held (S.told journal.old))) }
+    ensures images { AppendKeeps result line.now (S.told journal.old).content (S.told journal.new).content }
+    ensures cause { HasCause (S.told journal.old).faults (S.told journal.new).faults result }
+    ensures last { IsErrOf result OutFault.Failed → (S.told journal.new).last_failed ≡ true }
 {
-    store.append(line)?;
-    store.sync()?;
+    journal.append(line)?;
+    journal.sync()?;
     Ok(())
 }
