@@ -12,7 +12,7 @@ not_false : (b : Bool) → (b ≡ false → ⊥) → b ≡ true
 not_false true h = refl
 not_false false h = absurd (h refl)
 
-pub le_yes : (a b : ℤ) → up a + down b ≤ up b + down a → int_le a b ≡ true
+le_yes : (a b : ℤ) → up a + down b ≤ up b + down a → int_le a b ≡ true
 le_yes a b h = not_false (int_le a b) (λ fails. omega (arith, le-false a b fails))
 
 -- the last that has begun on the day, of those from 1 to n

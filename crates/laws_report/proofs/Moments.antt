@@ -1,64 +1,21 @@
 -- The text of a moment tells it: in the years 1 to 9999 it is a timestamp that begins then, and else its number.
-use Rattle.std.proofs.Common.{◌≡◌, ◌∙◌, ◌+◌, ◌*◌, ◌/◌, ◌%◌, ◌<◌, ◌≤◌, ℕ, ℤ, pos, negsuc, neg_ℤ, ◌≤ℤ◌, ◌+ℤ◌, ◌-ℤ◌, ◌*ℤ◌, int_le, int_lt, Bool, true, false, List, ◌∷◌, ◌++◌, drop, slice_index, codes, if◌then◌else◌, refl, sym, ap, subst, arith}
+use Rattle.std.proofs.Common.{◌≡◌, ◌∙◌, ◌+◌, ◌*◌, ◌/◌, ◌%◌, ◌<◌, ℕ, ℤ, pos, neg_ℤ, ◌≤ℤ◌, ◌+ℤ◌, ◌-ℤ◌, ◌*ℤ◌, Bool, true, false, List, ◌∷◌, ◌++◌, drop, slice_index, codes, if◌then◌else◌, refl, sym, ap, arith}
 use Rattle.std.specs.Char.{is_ascii_digit}
 use Rattle.std.specs.Fmt.{signed_decimal}
 use Rattle.std.specs.Int.{int_rem_euclid}
-use Rattle.std.proofs.lemmas.Bool.{and_from, and_parts, both_ways}
+use Rattle.std.proofs.lemmas.Bool.{both_ways}
 use Rattle.std.proofs.lemmas.Bool.Decides.{nat_tests}
-use borrow.Author.Differences.{up, down, le-true, lt-true, lt-false}
-use borrow.Author.Tests as tests
-use Rattle.jiff_core.specs.Calendar.{IsCivilDate, days_from_civil, days_in_month}
-use Rattle.jiff_core.proofs.SignedLemmas.{signed_arith, int_div_euclid-parts, int_rem_euclid-parts, unsigned_abs-parts}
-use Rattle.ion_values.proofs.Years.{first_day, day_after_last}
-use Rattle.ion_values.specs.Time.{instant_of, is_clock, is_date, is_fraction, is_in_years, is_time, utc_minutes}
+use Rattle.jiff_core.specs.Calendar.{days_from_civil}
+use Rattle.jiff_core.proofs.SignedLemmas.{signed_arith, int_rem_euclid-parts, unsigned_abs-parts}
+use Rattle.ion_values.specs.Time.{instant_of, is_in_years, is_time}
 use Rattle.ion_model.specs.Timestamp.{timestamp_text}
 use Rattle.ion_text.specs.RoundTrip.{MayFollow}
 use Rattle.ledger_model.specs.Moment.{day_number, minutes_of, moment_text, nanos_of_day, time_at, utc_time, year_of, month_of, day_of}
+use Rattle.script_form.proofs.Moments.{day_bounds, timestamp_on_the_day}
 use Rattle.laws_report.specs.Writable.{IsInt}
-use Rattle.laws_report.proofs.Days.{IsDateOf, day_is_date, le_yes}
+use Rattle.laws_report.proofs.Days.{IsDateOf, day_is_date}
 use Rattle.laws_report.proofs.Runs.{behind, digits_end, signed_tells}
 use Rattle.laws_report.proofs.Tokens.{time_tells}
-
-not_false : (b : Bool) → (b ≡ false → ⊥) → b ≡ true
-not_false true h = refl
-not_false false h = absurd (h refl)
-
-lt_yes : (a b : ℤ) → up a + down b < up b + down a → int_lt a b ≡ true
-lt_yes a b h = not_false (int_lt a b) (λ fails. omega (arith, lt-false a b fails))
-
--- ---- the parts of a timestamp
-
-date_holds : (y m d : ℕ) → IsCivilDate (pos y) m d → 1 ≤ y → y ≤ 9999 → is_date y m d ≡ true
-date_holds y m d civil first last =
-    rw (sym (tests.le-true 1 y first), sym (tests.le-true y 9999 last), sym (tests.le-true 1 m (omega arith)), sym (tests.le-true m 12 (omega arith)), sym (tests.le-true 1 d (omega arith)), sym (tests.le-true d (days_in_month (pos y) m) (omega arith))) refl
-
-clock_holds : (y m d nanos : ℕ) → nanos < 86_400_000_000_000 → is_clock (time_at y m d nanos) ≡ true
-clock_holds y m d nanos within =
-    rw (
-      sym (tests.lt-true (nanos / 3_600_000_000_000) 24 (omega arith)),
-      sym (tests.lt-true (nanos / 60_000_000_000 % 60) 60 (omega arith)),
-      sym (tests.lt-true (nanos / 1_000_000_000 % 60) 60 (omega arith)),
-    ) refl
-
-rest_of_one : (n : ℕ) → n % 1 ≡ 0
-rest_of_one n = omega arith
-
-fraction_holds : (nanos : ℕ) → is_fraction 9 (nanos % 1_000_000_000) ≡ true
-fraction_holds nanos = rw (sym (tests.lt-true (nanos % 1_000_000_000) 1_000_000_000 (omega arith)), rest_of_one (nanos % 1_000_000_000)) refl
-
-years_hold : (y m d nanos : ℕ) → nanos < 86_400_000_000_000 → neg_ℤ (pos 719_162) ≤ℤ days_from_civil (pos y) m d
-    → days_from_civil (pos y) m d ≤ℤ pos 2_932_896 → is_in_years (utc_minutes (time_at y m d nanos)) ≡ true
-years_hold y m d nanos within low high =
-    rw (first_day, day_after_last) (and_from (int_le (negsuc 1_035_593_279) (utc_minutes (time_at y m d nanos))) (int_lt (utc_minutes (time_at y m d nanos)) (pos 4_223_371_680))
-    (le_yes (negsuc 1_035_593_279) (utc_minutes (time_at y m d nanos)) (omega (arith, signed_arith)))
-    (lt_yes (utc_minutes (time_at y m d nanos)) (pos 4_223_371_680) (omega (arith, signed_arith))))
-
-is_timestamp : (y m d nanos : ℕ) → IsCivilDate (pos y) m d → 1 ≤ y → y ≤ 9999 → nanos < 86_400_000_000_000
-    → neg_ℤ (pos 719_162) ≤ℤ days_from_civil (pos y) m d → days_from_civil (pos y) m d ≤ℤ pos 2_932_896 → is_time (time_at y m d nanos) ≡ true
-unfolding is_time
-is_timestamp y m d nanos civil first last within low high =
-    and_from _ _ (and_from _ _ (and_from _ _ (and_from _ _ (and_from _ _ (date_holds y m d civil first last) (clock_holds y m d nanos within)) refl) (fraction_holds nanos)) refl)
-    (years_hold y m d nanos within low high)
 
 -- ---- the moment at which it begins
 
@@ -75,15 +32,6 @@ of_day : (m : ℤ) → nanos_of_day m < 86_400_000_000_000
 of_day m =
     omega (arith, int_rem_euclid-parts m 86_400_000_000_000 (omega arith), unsigned_abs-parts (int_rem_euclid m (pos 86_400_000_000_000)))
 
-in_years : (m : ℤ) → is_in_years (minutes_of m) ≡ true → (neg_ℤ (pos 719_162) ≤ℤ day_number m) × (day_number m ≤ℤ pos 2_932_896)
-in_years m h =
-    let both = and_parts (int_le (negsuc 1_035_593_279) (minutes_of m)) (int_lt (minutes_of m) (pos 4_223_371_680)) (rw (first_day, day_after_last) at h) in
-    let minutes = int_div_euclid-parts m 60_000_000_000 (omega arith) in
-    let days = int_div_euclid-parts m 86_400_000_000_000 (omega arith) in (
-      omega (arith, signed_arith, minutes, days, le-true (negsuc 1_035_593_279) (minutes_of m) both.0),
-      omega (arith, signed_arith, minutes, days, lt-true (minutes_of m) (pos 4_223_371_680) both.1),
-    )
-
 -- a timestamp that begins at the moment
 record Begins (m : ℤ) : Type 0 where
   pub is_time : is_time (utc_time m) ≡ true
@@ -92,14 +40,13 @@ record Begins (m : ℤ) : Type 0 where
 begins_on : (day : ℤ) (y m d nanos : ℕ) → IsDateOf day y m d → nanos < 86_400_000_000_000 → neg_ℤ (pos 719_162) ≤ℤ day → day ≤ℤ pos 2_932_896
     → (is_time (time_at y m d nanos) ≡ true) × (instant_of (time_at y m d nanos) ≡ day *ℤ pos 86_400_000_000_000 +ℤ pos nanos)
 begins_on day y m d nanos date within low high = (
-  is_timestamp y m d nanos date.civil date.first date.last within
-      (subst (λ (z : ℤ). neg_ℤ (pos 719_162) ≤ℤ z) (sym date.number) low) (subst (λ (z : ℤ). z ≤ℤ pos 2_932_896) (sym date.number) high),
+  timestamp_on_the_day y m d nanos day date.civil date.first date.last date.number within low high,
   instant_is (days_from_civil (pos y) m d) nanos ∙ ap (λ (z : ℤ). z *ℤ pos 86_400_000_000_000 +ℤ pos nanos) date.number,
 )
 
 begins : (m : ℤ) → is_in_years (minutes_of m) ≡ true → Begins m
 begins m h =
-    let bounds = in_years m h in
+    let bounds = day_bounds m h in
     let day = day_number m in
     let both = begins_on day (year_of day) (month_of day) (day_of day) (nanos_of_day m) (day_is_date day bounds.0 bounds.1) (of_day m) bounds.0 bounds.1 in
     record { is_time = both.0; instant = both.1 ∙ in_two m }

@@ -2,7 +2,7 @@ use Rattle.std.proofs.Common.{◌∙◌, sym}
 use Rattle.turn_lock.specs.Seats.{known}
 use Rattle.ledger_shared.specs.Known.{MayCommit}
 use Rattle.ledger_shared.specs.Ledgers.{begins_with}
-use Rattle.test_workers.proofs.Asking.{at_some}
+use Rattle.test_workers.proofs.Taken.{at_some}
 use Rattle.test_workers.proofs.passes.commit.Goals as goal
 
 pub commit-requires-clause-opens : goal.commit-requires-clause-opens

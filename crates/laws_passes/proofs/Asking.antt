@@ -1,7 +1,5 @@
--- A transaction that may be committed with a pass may be so behind each statement.
-use Rattle.std.proofs.Common.{◌≡◌, ◌∙◌, ◌+◌, ◌++◌, [], ◌∷◌, true, ap, inl, inr, length, subst, sym, Option, Some, Result, Ok, Err}
-use Rattle.std.specs.Prelude.{IfOk}
-use Rattle.std.specs.Result.{result_ok}
+-- A transaction that may be committed with a pass may be so after each statement.
+use Rattle.std.proofs.Common.{◌≡◌, ◌∙◌, ◌+◌, ◌++◌, [], ◌∷◌, true, ap, inl, inr, length, subst, sym, Result, Ok, Err}
 use Rattle.pql_model.specs.declared.Answer.{Answer}
 use Rattle.ledger_model.specs.declared.outcome.Refusal.{Refusal}
 use Rattle.ledger_model.specs.declared.script.Request.{Request}
@@ -11,6 +9,7 @@ use Rattle.laws_machine.specs.Entries.{Entry, Opening}
 use Rattle.laws_machine.proofs.Replay.{run_more}
 use Rattle.txn_core.specs.Opened.{Executed, Opened, Steps}
 use Rattle.ledger_shared.specs.Known.{MayCommit}
+use Rattle.laws_passes.specs.Laws.{StatementsKeepOpen}
 
 module _ (o : Opening) (k : Known Entry) where
   stepped_may : (t now : Opened) (r : Request) → Steps t r now → MayCommit o k t → MayCommit o k now
@@ -42,13 +41,11 @@ module _ (o : Opening) (k : Known Entry) where
     runs = m.runs;
   }
 
-  pub executed_may : (t now : Opened) (r : Request) (result : Result Answer Refusal) → Executed t r result now → MayCommit o k t → MayCommit o k now
+  executed_may : (t now : Opened) (r : Request) (result : Result Answer Refusal) → Executed t r result now → MayCommit o k t → MayCommit o k now
   executed_may t now r (Ok answer) e m = stepped_may t now r e.1 m
   executed_may t now r (Err cause) (inl e) m = same_may t now e.2 m
   executed_may t now r (Err cause) (inr (inl e)) m = same_may t now e.2 m
   executed_may t now r (Err cause) (inr (inr e)) m = same_may (record t { ended = true }) now e.2 (ended_may t m)
 
--- what is true of an answer's value is true of the value that is taken out
-pub at_some : {A E : Type 0} (P : A → Type 0) (r : Result A E) (x : A) → result_ok r ≡ Some x → IfOk r P → P x
-at_some P (Ok y) x is h = subst P (cc is) h
-at_some P (Err e) x is h = absurd (cc is)
+pub statements_keep_open : StatementsKeepOpen
+statements_keep_open o k t now r answer m e = executed_may o k t now r answer e m
