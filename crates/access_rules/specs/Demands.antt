@@ -1,6 +1,6 @@
 -- What a statement demands of the tables that it names, in order (the actions are those of Amazon QLDB's permissions;
 -- which of them a join with a change demands, and the order, are the ledger's own).
-use Rattle.std.specs.Prelude.{ℕ, ◌+◌, Bool, List, [], ◌∷◌, ◌++◌, map, Option, Result, Ok, Err, if◌then◌else◌}
+use Rattle.std.specs.Prelude.{ℕ, ◌+◌, ◌==◌, Bool, List, [], ◌∷◌, ◌++◌, length, map, Option, Some, None, Result, Ok, Err, if◌then◌else◌}
 use Rattle.std.specs.List.{flat_map, list_any}
 use Rattle.ion_values.specs.declared.value.Value.{Value}
 use Rattle.pql_model.specs.declared.statement.Change.{Change}
@@ -9,10 +9,11 @@ use Rattle.pql_model.specs.declared.statement.SourceKind.{SourceKind}
 use Rattle.pql_model.specs.declared.statement.SourceKind.TheVariants as source
 use Rattle.pql_model.specs.declared.statement.Statement.{Statement}
 use Rattle.pql_model.specs.declared.statement.Statement.TheVariants as statement
+use Rattle.pql_model.specs.Parse.{parsed}
+use Rattle.pql_model.specs.Productions.{Fault}
 use Rattle.pql_model.specs.Tables.{table_named}
-use Rattle.ledger_model.specs.declared.outcome.Refusal.{Refusal}
 use Rattle.ledger_model.specs.declared.script.Request.{Request}
-use Rattle.ledger_model.specs.Statements.{statement_of}
+use Rattle.ledger_model.specs.Statements.{wanted}
 use Rattle.ledger_model.specs.Writing.{is_at, root_place, targets}
 use Rattle.access_rules.specs.declared.demand.Demand.{Demand}
 use Rattle.access_rules.specs.declared.rule.Action.{Action}
@@ -73,10 +74,15 @@ demanded (statement.Drop table) params = demand action.PartiQLDropTable table �
 
 -- ---- requests
 
-abbrev pub demanded_if : List Value → Result Statement Refusal → List Demand
-demanded_if params (Ok s) = demanded s params
-demanded_if params (Err cause) = []
+-- the statement that a text is parsed as, if it is one
+abbrev pub tree : Result Statement Fault → Option Statement
+tree (Ok s) = Some s
+tree (Err fault) = None
 
 -- a text that is no statement demands nothing, nor does one with another number of parameters than question marks
+abbrev pub demanded_of : List Value → Option Statement → List Demand
+demanded_of params None = []
+demanded_of params (Some s) = if wanted s == length params then demanded s params else []
+
 abbrev pub demanded_by : Request → List Demand
-demanded_by r = demanded_if r.params (statement_of r)
+demanded_by r = demanded_of r.params (tree (parsed r.text))

@@ -76,7 +76,7 @@ pub(crate) const JUDGED: &str = r#"1 SELECT * FROM t is allowed
 2 SELECT * FROM t, T, history(t) AS h is PartiQLSelect T by no rule"#;
 
 /// Appends the name of the rule after ` by `.
-fn put_rule(out: &mut String, rule: &Option<Text>) -> Option<()> {
+pub(crate) fn put_rule(out: &mut String, rule: &Option<Text>) -> Option<()> {
     out.push_str(" by ").ok()?;
     match rule {
         Some(rule) => out.push_str(rule.as_str()).ok(),

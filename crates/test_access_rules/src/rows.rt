@@ -1,5 +1,6 @@
 //! The tables, and what their rows come to.
 use crate::demanded::{CHANGING, JOINED, SINGLE, demanded};
+use crate::denied::{DENY_AND_ALLOW, OF_SESSIONS, SEVERAL_DEMANDS, STATEMENTS, denied_of};
 use crate::judged::{DENIED, DENYING, JUDGED, MIXED, READ, READERS, judged};
 use crate::sets::{BAD, GOOD, NO_RULES, read, read_rule};
 use std::alloc::Global;
@@ -13,6 +14,12 @@ fn is_demanded(alloc: Global, row: &str) -> Option<bool> {
 fn is_judged(alloc: Global, rules: &str, row: &str) -> Option<bool> {
     let (given, wanted) = row.split_once(" is")?;
     let shown = judged(alloc, rules, given)?;
+    Some(shown.as_str() == wanted)
+}
+
+fn is_denied(alloc: Global, rules: &str, row: &str) -> Option<bool> {
+    let (given, wanted) = row.split_once(" is")?;
+    let shown = denied_of(alloc, rules, given)?;
     Some(shown.as_str() == wanted)
 }
 
@@ -42,6 +49,19 @@ fn demands_failing(alloc: Global, rows: &str) -> Option<&str> {
 fn judging_failing<'a>(alloc: Global, rules: &str, rows: &'a str) -> Option<&'a str> {
     for row in rows.lines() {
         if is_judged(alloc, rules, row) != Some(true) {
+            return Some(row);
+        }
+    }
+    None
+}
+
+/// The first row of which the rules on the line before it deny something else than it says.
+fn denying_failing(alloc: Global, rows: &str) -> Option<&str> {
+    let mut rules = "";
+    for row in rows.lines() {
+        if row.starts_with('{') {
+            rules = row;
+        } else if is_denied(alloc, rules, row) != Some(true) {
             return Some(row);
         }
     }
@@ -80,6 +100,13 @@ fn rules_judge(rt: HostRuntime) {
     assert_eq!(rt; judging_failing(rt.alloc(), READERS, READ), None);
     assert_eq!(rt; judging_failing(rt.alloc(), DENYING, DENIED), None);
     assert_eq!(rt; judging_failing(rt.alloc(), MIXED, JUDGED), None);
+}
+
+#[test]
+fn transactions_are_denied(rt: HostRuntime) {
+    for rows in [STATEMENTS, DENY_AND_ALLOW, SEVERAL_DEMANDS, OF_SESSIONS] {
+        assert_eq!(rt; denying_failing(rt.alloc(), rows), None);
+    }
 }
 
 #[test]
