@@ -1,0 +1,3 @@
+pub mod OnePair
+pub mod Stops
+pub mod Walks

@@ -1,0 +1,3 @@
+pub mod Collisions
+pub mod Pairs
+pub mod Ways
