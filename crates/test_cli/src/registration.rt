@@ -114,7 +114,7 @@ fn agrees<R: Threads + Wait + Sync>(rt: &R, alloc: Global, failures: &str) -> Op
     Some(counted.as_str().starts_with(wanted.as_str()))
 }
 
-/// Whether it is so if the call after so many others fails, and an append then leaves so many bytes.
+/// Whether it is so if the call after `passes` others fails, and an append then leaves `kept` bytes.
 fn agrees_at<R: Threads + Wait + Sync>(
     rt: &R,
     alloc: Global,
