@@ -1,3 +1,4 @@
+pub mod Calls
 pub mod Images
 mod Kept
 mod Syncs

@@ -3,6 +3,7 @@ ghost use Rattle.std.specs.Prelude.{◌≡◌, ◌+◌, ◌++◌, ◌⊎◌, ℕ
 ghost use Rattle.outside.specs.Causes.{HasCause};
 ghost use Rattle.outside.specs.Told.{held};
 ghost use Rattle.laws_history.specs.Stores.{IsSynced};
+ghost use Rattle.journal_keeper.specs.Calls.{CallsAtMost};
 ghost use Rattle.journal_keeper.specs.Images.{AppendKeeps, LineKeeps, SettleKeeps};
 ghost use Rattle.journal_keeper.specs.Keeping.{HoldsPart, MayBeCut, cleared};
 ghost use Rattle.journal_keeper.specs.Faults.{StoreLeaves, told};
@@ -55,6 +56,7 @@ impl<S: JournalStore> Keeper<S> {
         ensures size { self.new.size ≡ self.old.size }
         ensures images { SettleKeeps result self.old.size self.old.marked (S.told self.old.store).content
             (S.told self.new.store).content }
+        ensures calls { CallsAtMost 2 (S.told self.old.store).content (S.told self.new.store).content }
         ensures store { StoreLeaves result (S.told self.old.store) (S.told self.new.store) }
     {
         if self.marked {
@@ -81,6 +83,7 @@ impl<S: JournalStore> Keeper<S> {
             ⊎ (self.new.marked ≡ true)) }
         ensures images { LineKeeps result line.now self.old.size self.old.marked self.new.marked
             (S.told self.old.store).content (S.told self.new.store).content }
+        ensures calls { CallsAtMost 4 (S.told self.old.store).content (S.told self.new.store).content }
         ensures store { StoreLeaves result (S.told self.old.store) (S.told self.new.store) }
     {
         let size = grown(self.size, line)?;
@@ -122,6 +125,7 @@ fn cut_back<S: JournalStore>(store: &mut S, size: u64) -> Result<(), SettleFault
     ensures cut { MayBeCut (held (S.told store.old)) (held (S.told store.new)) size }
     ensures images { (marked : Bool) → SettleKeeps result size marked (S.told store.old).content
         (S.told store.new).content }
+    ensures calls { CallsAtMost 2 (S.told store.old).content (S.told store.new).content }
     ensures store { StoreLeaves result (S.told store.old) (S.told store.new) }
 {
     match cut_and_sync(store, size) {
@@ -137,6 +141,7 @@ fn cut_and_sync<S: JournalStore>(store: &mut S, size: u64) -> Result<(), OutFaul
     ensures cut { MayBeCut (held (S.told store.old)) (held (S.told store.new)) size }
     ensures images { (marked : Bool) → SettleKeeps result size marked (S.told store.old).content
         (S.told store.new).content }
+    ensures calls { CallsAtMost 2 (S.told store.old).content (S.told store.new).content }
     ensures cause { HasCause (S.told store.old).faults (S.told store.new).faults result }
     ensures last { IsErrOf result OutFault.Failed → (S.told store.new).last_failed ≡ true }
 {
@@ -153,6 +158,7 @@ fn put_behind<S: JournalStore>(store: &mut S, line: &[u8]) -> Result<(), SettleF
     ensures part { (kept : ℕ) × (held (S.told store.new)
         ≡ option_map (λ held. held ++ take kept line.now) (held (S.told store.old))) }
     ensures images { AppendKeeps result line.now (S.told store.old).content (S.told store.new).content }
+    ensures calls { CallsAtMost 2 (S.told store.old).content (S.told store.new).content }
     ensures store { StoreLeaves result (S.told store.old) (S.told store.new) }
 {
     match append_and_sync(store, line) {
@@ -169,6 +175,7 @@ fn append_and_sync<S: JournalStore>(journal: &mut S, line: &[u8]) -> Result<(), 
     ensures part { (kept : ℕ) × (held (S.told journal.new)
         ≡ option_map (λ held. held ++ take kept line.now) (held (S.told journal.old))) }
     ensures images { AppendKeeps result line.now (S.told journal.old).content (S.told journal.new).content }
+    ensures calls { CallsAtMost 2 (S.told journal.old).content (S.told journal.new).content }
     ensures cause { HasCause (S.told journal.old).faults (S.told journal.new).faults result }
     ensures last { IsErrOf result OutFault.Failed → (S.told journal.new).last_failed ≡ true }
 {

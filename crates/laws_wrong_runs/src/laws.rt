@@ -10,7 +10,8 @@ pub fn blocks_are_answered()
 
 /// A conflict names the first block that touched what the transaction read.
 ///
-/// That block stands behind those on which the transaction ran, and the item is the first that it touches of those read.
+/// That block stands behind those on which the transaction ran, and the item is the first that it touches of those
+/// read.
 pub fn conflicts_are_first()
     ensures { ConflictsAreFirst }
 {}

@@ -16,12 +16,13 @@ use Rattle.ledger_core.specs.declared.appending.Receipt.{Receipt}
 use Rattle.ledger_core.specs.declared.appending.Unkept.{Unkept}
 use Rattle.ledger_core.specs.declared.commit.CommitFault.{CommitFault}
 use Rattle.ledger_core.specs.declared.commit.CommitFault.TheVariants.{EndedTxn, DigestDiffers, Conflict, JournalFull, StoreFault, OutOfMemory}
-use Rattle.ledger_core.specs.declared.commit.Uncommitted.{Uncommitted}
 use Rattle.journal_keeper.specs.declared.keeping.SettleFault.{SettleFault}
 use Rattle.journal_keeper.specs.declared.keeping.SettleFault.TheVariants as settle
 use Rattle.ledger_core.specs.NextBlock.{next_block, receipt_of}
 use Rattle.ledger_core.specs.Committing.{CommitEnds, ComesTo, IsAnswer, IsCommitFault, IsFound, IsOpenOn, IsService, IsTried, MayHoldPartOf, PassesChecks, Seals, fault_of}
+use Rattle.journal_keeper.specs.Calls.{CallsAtMost}
 use Rattle.journal_keeper.specs.Faults.{IsSettleFault}
+use Rattle.journal_keeper.proofs.Calls.{no_call}
 use Rattle.ledger_core.specs.Faults.{IsTriedWith}
 use Rattle.ledger_core.specs.Images.{CommitKeeps}
 use Rattle.ledger_core.specs.Leaving.{CommitLeaves, HadCome}
@@ -87,6 +88,7 @@ module _ {S C : Type 0} (told : S → StoreTold) (answers : C → Option (List �
     holds = tt;
     synced = tt;
     part = inl refl;
+    calls = no_call 4 _ _ refl;
     fine = tt;
     fault = same;
     images = record { came = None; had_come = had; keeps = refused_images Receipt told h fault };
@@ -108,6 +110,9 @@ module _ {S C : Type 0} (told : S → StoreTold) (answers : C → Option (List �
     (sent : Option Hash32) (time : TimeParts) (r : IsReady h.standing t sent) (e : n ≡ record h { clock = clock }) where
   same : n.standing ≡ h.standing
   same = ap (λ (x : TailHeld S C). x.standing) e
+
+  put_calls : CallsAtMost 4 (told n.store).content (told m.store).content → CallsAtMost 4 (told h.store).content (told m.store).content
+  put_calls calls = subst (λ (x : TailHeld S C). CallsAtMost 4 (told x.store).content (told m.store).content) e calls
 
   pub put_kept : (F : Type 0) (receipt : Receipt) (came other : Option Block) → CommitKeeps told {R = Receipt} {F = Unkept} (Ok receipt) came n m
       → CommitKeeps told {R = Receipt} {F = F} (Ok receipt) other h m
@@ -179,9 +184,9 @@ module _ {S C : Type 0} (told : S → StoreTold) (answers : C → Option (List �
         -- the block is sealed
         pub sealed_leaves : (receipt : Receipt) → receipt ≡ receipt_of (next_block t n.standing.blocks time)
             → m.standing ≡ joined n.standing (next_block t n.standing.blocks time) → Holding m.standing.blocks (held (told m.store)) → IsSynced (told m.store)
-            → (told m.store).faults ≡ (told n.store).faults → CommitKeeps told {R = Receipt} {F = Unkept} (Ok receipt) None n m
+            → (told m.store).faults ≡ (told n.store).faults → CallsAtMost 4 (told n.store).content (told m.store).content → CommitKeeps told {R = Receipt} {F = Unkept} (Ok receipt) None n m
             → CommitLeaves told answers always h m t sent (Ok receipt)
-        sealed_leaves receipt is now holds synced fine images = record {
+        sealed_leaves receipt is now holds synced fine calls images = record {
           ends = put_seals receipt is now;
           unasked = tt;
           marked = tt;
@@ -190,6 +195,7 @@ module _ {S C : Type 0} (told : S → StoreTold) (answers : C → Option (List �
           holds = holds;
           synced = synced;
           part = tt;
+          calls = put_calls calls;
           fine = fine ∙ ap (λ (x : TailHeld S C). (told x.store).faults) e;
           fault = tt;
           images = record { came = None; had_come = tt; keeps = put_kept CommitFault receipt None None images };
@@ -198,9 +204,9 @@ module _ {S C : Type 0} (told : S → StoreTold) (answers : C → Option (List �
         -- memory ran out, or the store failed
         pub unkept_leaves : (fault : SettleFault) → m.standing ≡ n.standing
             → MayHoldPart n.standing.blocks (next_block t n.standing.blocks time) (held (told n.store)) (held (told m.store)) → (m ≡ n) ⊎ (m.marked ≡ true)
-            → IsSettleFault fault (told n.store) (told m.store) → (u : Unkept) (came : Option Block) → IsTriedWith (next_block t n.standing.blocks time) fault came
+            → IsSettleFault fault (told n.store) (told m.store) → CallsAtMost 4 (told n.store).content (told m.store).content → (u : Unkept) (came : Option Block) → IsTriedWith (next_block t n.standing.blocks time) fault came
             → CommitKeeps told {R = Receipt} {F = Unkept} (Err u) came n m → CommitLeaves told answers always h m t sent (Err (fault_of fault))
-        unkept_leaves fault kept part marked failed u came is_tried images = record {
+        unkept_leaves fault kept part marked failed calls u came is_tried images = record {
           ends = put_faulted fault kept;
           unasked = inl (service fault);
           marked = marked_now marked;
@@ -209,6 +215,7 @@ module _ {S C : Type 0} (told : S → StoreTold) (answers : C → Option (List �
           holds = tt;
           synced = tt;
           part = put_part part;
+          calls = put_calls calls;
           fine = tt;
           fault = commit_fault fault (told h.store) (told m.store) (subst (λ (x : TailHeld S C). IsSettleFault fault (told x.store) (told m.store)) e failed);
           images = record { came = came; had_come = put_tried fault came is_tried; keeps = put_unkept u (fault_of fault) came images };

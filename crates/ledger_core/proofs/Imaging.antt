@@ -17,8 +17,7 @@ use Rattle.journal_keeper.specs.Images.{IsAmidLine, IsSoundTold, Keeps, LineKeep
 use Rattle.journal_keeper.specs.Images as keeper
 use Rattle.journal_keeper.proofs.Images.{if_some, stays, told_map}
 use Rattle.ledger_core.specs.declared.appending.Unkept.{Unkept}
-use Rattle.ledger_core.specs.declared.commit.Uncommitted.{Uncommitted}
-use Rattle.ledger_core.specs.Images.{CommitKeeps, IsAcknowledged, IsAmid, IsSoundTail, KeepsSound, ReloadGives, SettleKeeps, Settles, came_with, tried_with}
+use Rattle.ledger_core.specs.Images.{CommitKeeps, IsAcknowledged, IsAmid, IsSoundTail, KeepsSound, ReloadGives, SettleKeeps, Settles, tried_with}
 use Rattle.ledger_core.specs.Tails.{TailHeld, joined}
 use Rattle.ledger_core.specs.Unkept.{unkept_with}
 

@@ -1,7 +1,6 @@
 -- The bytes of a store after a cut and an append.
 use Rattle.std.proofs.Common.{◌≡◌, ◌∙◌, ℕ, Bool, true, false, List, [], ◌∷◌, ◌++◌, length, take, append-nil, refl, sym, ap, subst, true≢false, inl, inr, Option, Some, None, ◌⊎◌}
 use Rattle.std.specs.Prelude.{option_map, IfSome}
-use Rattle.std.proofs.Math.Seq.{take-length}
 use Rattle.journal_keeper.specs.Keeping.{HoldsPart, MayBeCut, cleared}
 use Rattle.ledger_core.specs.Tails.{HoldsMarked}
 

@@ -67,4 +67,5 @@ module _ {S C : Type 0} (told : S → StoreTold) where
   abbrev pub SettleKeeps : {R F : Type 0} → Result R F → TailHeld S C → TailHeld S C → Type 0
   SettleKeeps (Ok done) before now =
       (now.marked ≡ false) × ((tried : List Block) → IsSoundTail tried before → Settles before now tried)
-  SettleKeeps (Err fault) before now = (tried : List Block) → IsSoundTail tried before → KeepsSound before now tried tried
+  SettleKeeps (Err fault) before now =
+      (tried : List Block) → IsSoundTail tried before → KeepsSound before now tried tried

@@ -1,10 +1,11 @@
 -- What a commit leaves, by what it returns: the blocks, the clock and the store.
-use Rattle.std.specs.Prelude.{◌≡◌, ◌⊎◌, ℕ, ℤ, true, List, Option, Result, Ok, Err, OnOk, OnErr, IfErr}
+use Rattle.std.specs.Prelude.{◌≡◌, ◌⊎◌, ℤ, true, List, Option, Result, Ok, Err, OnOk, OnErr, IfErr}
 use Rattle.ion_values.specs.declared.time.TimeParts.{TimeParts}
 use Rattle.ql_types.specs.declared.Hash32.{Hash32}
 use Rattle.ledger_model.specs.declared.block.Block.{Block}
 use Rattle.laws_history.specs.Stores.{Holding, IsSynced}
 use Rattle.outside.specs.Told.{StoreTold, held}
+use Rattle.journal_keeper.specs.Calls.{CallsAtMost}
 use Rattle.txn_core.specs.Opened.{Opened}
 use Rattle.ledger_core.specs.declared.appending.Receipt.{Receipt}
 use Rattle.ledger_core.specs.declared.commit.CommitFault.{CommitFault}
@@ -44,6 +45,8 @@ module _ {S C : Type 0} (told : S → StoreTold) (answers : C → Option (List �
     pub synced : OnOk result (IsSynced (told after.store))
     pub part : OnErr result (MayHoldPartOf before.standing t sent Asked (held (told before.store))
         (held (told after.store)))
+    -- it calls the store at most four times
+    pub calls : CallsAtMost 4 (told before.store).content (told after.store).content
     -- the store failed exactly if the commit returns so
     pub fine : OnOk result ((told after.store).faults ≡ (told before.store).faults)
     pub fault : IfErr result (λ fault. IsCommitFault fault (told before.store) (told after.store))

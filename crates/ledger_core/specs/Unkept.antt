@@ -1,5 +1,5 @@
 -- What an append of a block leaves besides its fault.
-use Rattle.std.specs.Prelude.{List, Option, None, Result, Ok, Err, option_map}
+use Rattle.std.specs.Prelude.{Option, None, Result, Ok, Err, option_map}
 use Rattle.ledger_model.specs.declared.block.Block.{Block}
 use Rattle.ledger_core.specs.declared.appending.Unkept.{Unkept}
 

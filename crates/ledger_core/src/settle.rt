@@ -3,6 +3,7 @@ ghost use Rattle.std.specs.Prelude.{◌≡◌, true, false, length, IsOk, OnOk, 
 ghost use Rattle.ledger_model.specs.Journal.{journal_bytes};
 ghost use Rattle.laws_history.specs.Stores.{Holding, IsSynced};
 ghost use Rattle.outside.specs.Told.{held};
+ghost use Rattle.journal_keeper.specs.Calls.{CallsAtMost};
 ghost use Rattle.journal_keeper.specs.Faults.{StoreLeaves};
 ghost use Rattle.ledger_core.specs.Images.{SettleKeeps};
 ghost use Rattle.journal_keeper.specs.Keeping.{MayBeCut};
@@ -20,6 +21,7 @@ impl<S: JournalStore, C> Tail<S, C> {
         ensures cut { MayBeCut (held (S.told self.old.store)) (held (S.told self.new.store))
             (length (journal_bytes self.old.standing.blocks)) }
         ensures store { StoreLeaves result (S.told self.old.store) (S.told self.new.store) }
+        ensures calls { CallsAtMost 2 (S.told self.old.store).content (S.told self.new.store).content }
         // what a stop leaves
         ensures images { SettleKeeps S.told result self.old self.new }
         // the mark

@@ -6,6 +6,7 @@ ghost use Rattle.laws_history.specs.Standings.{IsStanding};
 ghost use Rattle.laws_history.specs.Stores.{Holding, IsSynced};
 ghost use Rattle.outside.specs.Told.{held};
 ghost use Rattle.proof_model.specs.Issued.{block_hashes, IsDigest};
+ghost use Rattle.journal_keeper.specs.Calls.{CallsAtMost};
 ghost use Rattle.journal_keeper.specs.Faults.{IsSettleFault};
 ghost use Rattle.ledger_core.specs.Faults.{IsTriedWith};
 ghost use Rattle.ledger_core.specs.Images.{CommitKeeps};
@@ -122,6 +123,8 @@ impl<S: JournalStore, C> Tail<S, C> {
             ⊎ (self.new.marked ≡ true)) }
         // what a stop leaves
         ensures images { CommitKeeps S.told result (unkept_with result) self.old self.new }
+        // how often it called the store
+        ensures calls { CallsAtMost 4 (S.told self.old.store).content (S.told self.new.store).content }
         // when the store failed
         ensures later { (S.told self.old.store).faults ≤ (S.told self.new.store).faults }
         ensures fine { OnOk result ((S.told self.new.store).faults ≡ (S.told self.old.store).faults) }

@@ -40,8 +40,8 @@ IsAround o first before e m =
     IsSafe (blocks_in o before) (tried_from first before ++ carried e) m
     ⊎ IsSafe (blocks_in o (before ++ e ∷ [])) (tried_from first (before ++ e ∷ [])) m
 
--- The moments come in the order of these entries, after those before: first those of the first one's call, then those of
--- the others'.
+-- The moments come in the order of these entries, after those before: first those of the first one's call, then those
+-- of the others'.
 abbrev pub ComeInOrder : Opening → List Block → (before es : List Entry) → List Moment → Type 0
 ComeInOrder o first before [] ms = AllByRecursion (IsSafe (blocks_in o before) (tried_from first before)) ms
 ComeInOrder o first before (e ∷ es) ms =

@@ -1,4 +1,5 @@
-use Rattle.std.proofs.Common.{◌≡◌, ◌∙◌, Err, rules}
+use Rattle.std.proofs.Common.{◌≡◌, ◌∙◌, Err, refl, rules}
+use Rattle.journal_keeper.proofs.Calls.{append_call, calls_on, no_call, sync_call}
 use Rattle.journal_keeper.proofs.Images.{append_failed, append_synced, append_unsynced}
 use Rattle.journal_keeper.proofs.Syncs.{all_synced, append_part, appended_bytes, part_then, sync_keeps}
 use Rattle.journal_keeper.proofs.keeping.append_and_sync.Goals as goal
@@ -35,3 +36,14 @@ returns-in_err-sync-clause-images g c =
 
 pub returns-clause-images : goal.returns-clause-images
 returns-clause-images g c = append_synced (Unit {0}) tt c.args.line.now _ _ _ c.in_ok-append.ensures.content c.in_ok-sync.ensures.content
+
+pub returns-in_err-append-clause-calls : goal.returns-in_err-append-clause-calls
+returns-in_err-append-clause-calls g c = calls_on 1 1 _ _ _ (append_call c.append.result c.args.line.now _ _ c.append.ensures.content) (no_call 1 _ _ refl)
+
+pub returns-in_err-sync-clause-calls : goal.returns-in_err-sync-clause-calls
+returns-in_err-sync-clause-calls g c =
+    calls_on 1 1 _ _ _ (append_call c.append.result c.args.line.now _ _ c.append.ensures.content) (sync_call c.sync.result _ _ c.sync.ensures.content)
+
+pub returns-clause-calls : goal.returns-clause-calls
+returns-clause-calls g c =
+    calls_on 1 1 _ _ _ (append_call c.append.result c.args.line.now _ _ c.append.ensures.content) (sync_call c.sync.result _ _ c.sync.ensures.content)

@@ -1,4 +1,5 @@
-use Rattle.std.proofs.Common.{◌≡◌, ◌∙◌, Err, rules}
+use Rattle.std.proofs.Common.{◌≡◌, ◌∙◌, Err, refl, rules}
+use Rattle.journal_keeper.proofs.Calls.{calls_on, cut_call, no_call, sync_call}
 use Rattle.journal_keeper.proofs.Images.{cut_failed, cut_synced, sync_failed}
 use Rattle.journal_keeper.proofs.Syncs.{all_synced, cut_bytes, cut_may, may_then, sync_keeps}
 use Rattle.journal_keeper.proofs.keeping.cut_and_sync.Goals as goal
@@ -33,3 +34,14 @@ returns-in_err-sync-clause-images g c =
 
 pub returns-clause-images : goal.returns-clause-images
 returns-clause-images g c = λ marked. cut_synced (Unit {0}) tt c.args.size marked _ _ _ c.in_ok-cut.ensures.content c.in_ok-sync.ensures.content
+
+pub returns-in_err-cut-clause-calls : goal.returns-in_err-cut-clause-calls
+returns-in_err-cut-clause-calls g c = calls_on 1 1 _ _ _ (cut_call c.cut.result c.args.size _ _ c.cut.ensures.content) (no_call 1 _ _ refl)
+
+pub returns-in_err-sync-clause-calls : goal.returns-in_err-sync-clause-calls
+returns-in_err-sync-clause-calls g c =
+    calls_on 1 1 _ _ _ (cut_call c.cut.result c.args.size _ _ c.cut.ensures.content) (sync_call c.sync.result _ _ c.sync.ensures.content)
+
+pub returns-clause-calls : goal.returns-clause-calls
+returns-clause-calls g c =
+    calls_on 1 1 _ _ _ (cut_call c.cut.result c.args.size _ _ c.cut.ensures.content) (sync_call c.sync.result _ _ c.sync.ensures.content)

@@ -2,12 +2,11 @@ use Rattle.std.proofs.Common.{◌≡◌, [], ap, arith, length, map, subst, sym}
 use Rattle.atomic_table.specs.Seated.{TableId}
 use Rattle.turn_lock.specs.History.{AreWhole}
 use Rattle.turn_lock.specs.Rule.{Each}
-use Rattle.turn_lock.specs.Seats.{Rests, known}
+use Rattle.turn_lock.specs.Seats.{known}
 use Rattle.ledger_model.specs.Script.{all_placed}
 use Rattle.ledger_core.specs.Tails.{TailHeld}
-use Rattle.ledger_shared.specs.Behind.{IsRightFor, opening_of}
+use Rattle.ledger_shared.specs.Behind.{opening_of}
 use Rattle.ledger_shared.specs.Desks.{AreReady, HaveWorked}
-use Rattle.ledger_shared.specs.Workers.{WorkerHeld}
 use Rattle.ledger_shared.proofs.Ended.{have_come_back}
 use Rattle.ledger_shared.proofs.Setting.{are_at, owns_none}
 use Rattle.ledger_shared.proofs.desks.run_desks.Goals as goal

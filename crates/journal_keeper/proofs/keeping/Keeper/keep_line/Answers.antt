@@ -1,6 +1,7 @@
 use Rattle.std.proofs.Common.{◌≡◌, Err, true, refl, rules}
 use Rattle.journal_keeper.specs.declared.keeping.SettleFault.{SettleFault}
 use Rattle.journal_keeper.specs.declared.keeping.SettleFault.TheVariants as fails
+use Rattle.journal_keeper.proofs.Calls.{calls_on, no_call}
 use Rattle.journal_keeper.proofs.Images.{line_kept, line_unkept, line_unmade, line_unsettled}
 use Rattle.journal_keeper.specs.Keeping.{cleared}
 use Rattle.journal_keeper.proofs.Kept.{behind}
@@ -30,3 +31,15 @@ returns-in_err-put_behind-clause-images g c =
 pub returns-clause-images : goal.returns-clause-images
 returns-clause-images g c =
     line_kept (Unit {0}) SettleFault (Unit {0}) tt tt tt c.args.line.now c.args.self.now.size c.args.self.now.marked _ _ _ _ refl c.in_ok-settle.ensures.images c.in_ok-put_behind.ensures.images
+
+pub returns-in_err-size-clause-calls : goal.returns-in_err-size-clause-calls
+returns-in_err-size-clause-calls g c = no_call 4 _ _ refl
+
+pub returns-in_err-settle-clause-calls : goal.returns-in_err-settle-clause-calls
+returns-in_err-settle-clause-calls g c = calls_on 2 2 _ _ _ c.settle.ensures.calls (no_call 2 _ _ refl)
+
+pub returns-in_err-put_behind-clause-calls : goal.returns-in_err-put_behind-clause-calls
+returns-in_err-put_behind-clause-calls g c = calls_on 2 2 _ _ _ c.settle.ensures.calls c.put_behind.ensures.calls
+
+pub returns-clause-calls : goal.returns-clause-calls
+returns-clause-calls g c = calls_on 2 2 _ _ _ c.settle.ensures.calls c.put_behind.ensures.calls

@@ -5,6 +5,7 @@ use Rattle.ledger_core.specs.Tails.{TailHeld, joined}
 use Rattle.journal_reader.proofs.Bounds.{undamaged_bound}
 use Rattle.journal_keeper.specs.declared.keeping.SettleFault.{SettleFault}
 use Rattle.journal_keeper.specs.declared.keeping.SettleFault.TheVariants as settle
+use Rattle.journal_keeper.proofs.Calls.{no_call}
 use Rattle.ledger_core.specs.declared.appending.Unkept.{Unkept}
 use Rattle.ledger_core.proofs.Imaging.{kept_line, same_blocks, unkept_alone, unkept_line}
 use Rattle.ledger_core.proofs.Joined.{appended, faulted, holds-more, left_with, may-hold, tried_with}
@@ -86,3 +87,15 @@ returns-clause-images g c =
     rw (← c.self.view_is)
     (kept_line g.S.JournalStore.told _ _ c.args.block c.self.inside.keeper.size c.as_bytes.result.now c.self.invariant.0.long is stands
     SettleFault {T = Unit {0}} {U = Unit {0}} tt tt None c.in-Ok.ensures.images (same_blocks c.self.inside.mask.bits c.self.inside.last _ _ more) c.in-Ok.ensures.settled)
+
+pub returns-in_err-version-clause-calls : goal.returns-in_err-version-clause-calls
+returns-in_err-version-clause-calls g c = rw (← c.self.view_is) (no_call 4 _ _ refl)
+
+pub returns-in_err-make_room-clause-calls : goal.returns-in_err-make_room-clause-calls
+returns-in_err-make_room-clause-calls g c = rw (← c.self.view_is) (no_call 4 _ _ refl)
+
+pub returns-in-Err-clause-calls : goal.returns-in-Err-clause-calls
+returns-in-Err-clause-calls g c = rw (← c.self.view_is) c.in-Err.ensures.calls
+
+pub returns-clause-calls : goal.returns-clause-calls
+returns-clause-calls g c = rw (← c.self.view_is) c.in-Ok.ensures.calls

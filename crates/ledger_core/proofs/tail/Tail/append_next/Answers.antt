@@ -8,6 +8,7 @@ use Rattle.ledger_core.specs.Faults.{IsTriedWith}
 use Rattle.ledger_core.specs.Tails.{MayHoldPart}
 use Rattle.ledger_core.specs.NextBlock.{next_block}
 use Rattle.journal_keeper.specs.declared.keeping.SettleFault.TheVariants as settle
+use Rattle.journal_keeper.proofs.Calls.{no_call}
 use Rattle.ledger_core.proofs.Imaging.{passed_on, unkept_alone}
 use Rattle.ledger_core.proofs.Joined.{on-err}
 use Rattle.ledger_core.proofs.tail.Tail.append_next.Goals as goal
@@ -44,3 +45,12 @@ returns-in_err-append_block-clause-images g c =
 
 pub returns-clause-images : goal.returns-clause-images
 returns-clause-images g c = c.in_ok-append_block.ensures.images
+
+pub returns-in_err-made-clause-calls : goal.returns-in_err-made-clause-calls
+returns-in_err-made-clause-calls g c = no_call 4 _ _ refl
+
+pub returns-in_err-append_block-clause-calls : goal.returns-in_err-append_block-clause-calls
+returns-in_err-append_block-clause-calls g c = c.in_err-append_block.ensures.calls
+
+pub returns-clause-calls : goal.returns-clause-calls
+returns-clause-calls g c = c.in_ok-append_block.ensures.calls

@@ -32,7 +32,7 @@ returns-in-Err-append_next-clause-commits g c =
     subst (λ (f : CommitFault). CommitLeaves told answers always c.args.self.now c.append_next.new.self c.args.txn c.args.sent (Err f)) (sym c.from.ensures)
     (unkept_leaves told answers always c.args.self.now c.time-time.new.self c.append_next.new.self _ c.args.txn c.args.sent c.time-time.result r
     c.time-time.ensures.same c.time-time.ensures.answer failed.clock c.time-time.ensures.always c.in-Err-append_next.field-0.fault failed.same failed.part
-    failed.marked failed.fault c.in-Err-append_next.field-0 (option_map (λ b. b.value) c.in-Err-append_next.field-0.tried) failed.tried failed.images)
+    failed.marked failed.fault failed.calls c.in-Err-append_next.field-0 (option_map (λ b. b.value) c.in-Err-append_next.field-0.tried) failed.tried failed.images)
 
 pub returns-in-Err-append_next-clause-tried : goal.returns-in-Err-append_next-clause-tried
 returns-in-Err-append_next-clause-tried g c =
@@ -53,7 +53,7 @@ returns-in-Ok-append_next-clause-commits g c =
     c.place.ensures c.is_within.ensures c.is_within-2.ensures c.in-Ok.ensures in
     sealed_leaves g.S.JournalStore.told g.C.Clock.answers g.C.Clock.always c.args.self.now c.time-time.new.self c.append_next.new.self _ c.args.txn c.args.sent
     c.time-time.result r c.time-time.ensures.same c.time-time.ensures.answer kept.clock c.time-time.ensures.always c.in-Ok-append_next.receipt kept.receipt
-    kept.standing kept.holds kept.synced kept.fine kept.images
+    kept.standing kept.holds kept.synced kept.fine kept.calls kept.images
 
 pub returns-in-Err-clause-images : goal.returns-in-Err-clause-images
 returns-in-Err-clause-images g c = refused_images Receipt g.S.JournalStore.told c.args.self.now c.in-Err.fault
