@@ -1,4 +1,4 @@
-//! Tests of persistent maps, and of postings over them.
+//! Tests of sequences, texts and boxes, of persistent maps, and of postings over them.
 #![tactic(auto)]
 
 #[cfg(test)]
@@ -7,3 +7,5 @@ mod keys;
 mod maps;
 #[cfg(test)]
 mod postings;
+#[cfg(test)]
+mod sequences;

@@ -1,0 +1,52 @@
+//! The lines of four blocks.
+
+/// The table `t` with an index on `a`, the table `u`, two documents in `t` and one in `u`.
+pub const FOUR_BLOCKS: &str = "{blockAddress:{strandId:\"0000000000000000000000\",sequenceNo:0},\
+    transactionId:\"0000000000000000018OWG\",blockTimestamp:2020-01-01T00:00:00.000Z,\
+    blockHash:{{k2pcRxT3slMlZp0dYlqG+qF+Dl8YZ78o8oLCoKddrIo=}},\
+    entriesHash:{{cfDb95JO2yNgoAePEsv+FoFAI7DXZFbCvAbTrNEJ4bo=}},\
+    previousBlockHash:{{53lJLR4mqJhMC9teUhflWaT1io0nJ6QhUp8MSj38vzA=}},\
+    entriesHashList:[{{rw9P/2bIwwwYL7hPLvzvn+SR/Lh+lDMM2kOMxSNhyng=}},{{}},\
+    {{3gXaQhmon4rxq3lTmPCYTDKNWsJdBVWQLTRz6HdxkQc=}}],transactionInfo:{place:{session:1,transaction:1},\
+    statements:[],schema:[{create:\"t\",tableId:\"0000000000000000018OWH\"},{index:\"a\",\
+    tableId:\"0000000000000000018OWH\"},{create:\"u\",tableId:\"0000000000000000018OWI\"}],documents:[]},\
+    revisions:[]}\n\
+    {blockAddress:{strandId:\"0000000000000000000000\",sequenceNo:1},\
+    transactionId:\"000000000000000002Gn2W\",blockTimestamp:2020-01-01T00:00:00.000Z,\
+    blockHash:{{SM6saMlUCyhEzuQ6Z6d1cXcRJe1r+ks6kostA5VJlZ8=}},\
+    entriesHash:{{psaMQjfkRgXASsecypuPfBOj0DoewnB3guwQHMaouh0=}},\
+    previousBlockHash:{{k2pcRxT3slMlZp0dYlqG+qF+Dl8YZ78o8oLCoKddrIo=}},\
+    entriesHashList:[{{sjko2q6M1HOlfxvBsh+t0ui+zCYOTCjR9gwrISRwUJ4=}},\
+    {{V3rjhVGcx5yR4S4VTAYYsfQQbo6STXdpMHdYpqjzCRg=}},{{Wkkwoyryz8Ul69CYc6cIT9MUs85Cf1EGrle1Ot2qIrs=}}],\
+    transactionInfo:{place:{session:1,transaction:1},statements:[],schema:[],\
+    documents:[{documentId:\"000000000000000002Gn2X\",tableId:\"0000000000000000018OWH\"}]},\
+    revisions:[{blockAddress:{strandId:\"0000000000000000000000\",sequenceNo:1},\
+    hash:{{V3rjhVGcx5yR4S4VTAYYsfQQbo6STXdpMHdYpqjzCRg=}},data:{a:5},\
+    metadata:{id:\"000000000000000002Gn2X\",version:0,txTime:2020-01-01T00:00:00.000Z,\
+    txId:\"000000000000000002Gn2W\"}}]}\n\
+    {blockAddress:{strandId:\"0000000000000000000000\",sequenceNo:2},\
+    transactionId:\"000000000000000003PBYm\",blockTimestamp:2020-01-01T00:00:00.000Z,\
+    blockHash:{{j6oampqTT8E0eQ6gY0GVhYxFqv3hvi4epZi9wtv5bA4=}},\
+    entriesHash:{{vHSHZr1LXfNF2wmOKNItcUxMA5bWFhYJknmw6O4w95o=}},\
+    previousBlockHash:{{SM6saMlUCyhEzuQ6Z6d1cXcRJe1r+ks6kostA5VJlZ8=}},\
+    entriesHashList:[{{7gvfqXeYkCzp+Fv3JMCqMUd3pTFnSIUxulC8xLtH/wY=}},\
+    {{6BG1SUDySHvvsvRfGs1NSXC25Desk7QNXFygTjj0a8g=}},{{RjswSJ4AfrFMfdK8/OGJvzF9iFjd7zruVxLnl5S3ALM=}}],\
+    transactionInfo:{place:{session:1,transaction:1},statements:[],schema:[],\
+    documents:[{documentId:\"000000000000000003PBYn\",tableId:\"0000000000000000018OWH\"}]},\
+    revisions:[{blockAddress:{strandId:\"0000000000000000000000\",sequenceNo:2},\
+    hash:{{6BG1SUDySHvvsvRfGs1NSXC25Desk7QNXFygTjj0a8g=}},data:{a:1},\
+    metadata:{id:\"000000000000000003PBYn\",version:0,txTime:2020-01-01T00:00:00.000Z,\
+    txId:\"000000000000000003PBYm\"}}]}\n\
+    {blockAddress:{strandId:\"0000000000000000000000\",sequenceNo:3},\
+    transactionId:\"000000000000000004Xa52\",blockTimestamp:2020-01-01T00:00:00.000Z,\
+    blockHash:{{bZ//f6wXm2ZhrpN+WPVrZzCo+JZwPDyTmJqc9PVc2DA=}},\
+    entriesHash:{{w1h1pEepvlGi8eHQx57nvrmAn1ywme0k4rkAzPFXBdw=}},\
+    previousBlockHash:{{j6oampqTT8E0eQ6gY0GVhYxFqv3hvi4epZi9wtv5bA4=}},\
+    entriesHashList:[{{GiZPpRNpLMDaSYFLwtuAOho7CkfSqmn4z/I5NaTylQ0=}},\
+    {{5zgE4ksza9TvVg80UaaJPUhXlTM1K8JptBBafKGVvJA=}},{{kSfUQCqhuQejdMIMVbHsVGE6+D1wTgqRPQSU/p/TSto=}}],\
+    transactionInfo:{place:{session:1,transaction:1},statements:[],schema:[],\
+    documents:[{documentId:\"000000000000000004Xa53\",tableId:\"0000000000000000018OWI\"}]},\
+    revisions:[{blockAddress:{strandId:\"0000000000000000000000\",sequenceNo:3},\
+    hash:{{5zgE4ksza9TvVg80UaaJPUhXlTM1K8JptBBafKGVvJA=}},data:{a:2},\
+    metadata:{id:\"000000000000000004Xa53\",version:0,txTime:2020-01-01T00:00:00.000Z,\
+    txId:\"000000000000000004Xa52\"}}]}\n";
