@@ -28,4 +28,5 @@ HeadersAgree =
 
 abbrev pub MetadataAreNoInfo : Type 0
 MetadataAreNoInfo =
-    (m : Metadata) (i : Info) (revisions : List Revision) → is_equivalent (metadata_value m) (info_value i revisions) ≢ true
+    (m : Metadata) (i : Info) (revisions : List Revision)
+    → is_equivalent (metadata_value m) (info_value i revisions) ≢ true

@@ -91,9 +91,11 @@ fn place_below(
     Ok(place.at)
 }
 
-/// Goes from the root of the tree over these leaves down along a path, the last hash first, and returns the place of
-/// the leaf `start` at which it ends, counted from 0, or None if it ends at a pad. It stops with two different byte
-/// strings of equal SHA-256 where the path leaves the tree.
+/// Returns the place of the leaf at which a path from the root ends.
+///
+/// The root is that of the tree over these leaves, the way down begins with the path's last hash, and the leaf is
+/// `start`. Places are counted from 0; None says that the way ends at a pad. It stops with two different byte strings
+/// of equal SHA-256 where the path leaves the tree.
 pub fn descend(
     alloc: Global,
     leaves: &[Hash32],

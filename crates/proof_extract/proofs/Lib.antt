@@ -1,0 +1,9 @@
+pub mod Chain
+pub mod Comparing
+pub mod Finds
+pub mod Firsts
+pub mod Found
+pub mod Pairs
+pub mod Parts
+pub mod Strings
+pub mod Upward
