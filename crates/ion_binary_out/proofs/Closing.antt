@@ -1,10 +1,11 @@
 -- Bytes at the end, made the representation of a value.
 use Rattle.std.proofs.Common.{◌≡◌, ◌∙◌, ℕ, ◌+◌, ◌-◌, List, [], ◌∷◌, ◌++◌, map, length, refl, sym, ap, arith, append_assoc}
 use Rattle.std.proofs.lemmas.List.{length-append}
+use Rattle.std.specs.Prelude.{String, string_bytes}
 use Rattle.std.specs.List.{flat_map}
+use Rattle.std.specs.declared.alloc.Global.{Global}
 use Rattle.hash_model.specs.Numbers.{var_uint}
 use Rattle.ion_binary_out.specs.BinaryText.{Text, descriptor, table_bytes, typed}
-use denote.Ref.{Bor}
 
 -- the bytes that come last move in front of others
 abbrev pub Moves : List ℕ → List ℕ → ℕ → ℕ → Type 0
@@ -31,9 +32,9 @@ closed type start front bytes out mid new e l m moves =
 abbrev pub Closes : ℕ → List ℕ → ℕ → List ℕ → Type 0
 Closes type out start new = (front bytes : List ℕ) → out ≡ front ++ bytes → length front ≡ start → new ≡ front ++ typed type bytes
 
-pub typed_texts : (texts : List (Bor (List ℕ))) → flat_map (λ text. typed 8 text.now) texts ≡ flat_map (typed 8) (map (λ text. text.now) texts)
+pub typed_texts : (texts : List (String Global)) → flat_map (λ text. typed 8 (string_bytes text)) texts ≡ flat_map (typed 8) (map string_bytes texts)
 typed_texts [] = refl
-typed_texts (text ∷ texts) = ap (λ rest. typed 8 text.now ++ rest) (typed_texts texts)
+typed_texts (text ∷ texts) = ap (λ rest. typed 8 (string_bytes text) ++ rest) (typed_texts texts)
 
 regroup : (a b c d : List ℕ) → a ++ b ++ c ++ d ≡ a ++ (b ++ c ++ d)
 regroup a b c d = ap (λ front. front ++ d) (append_assoc a b c) ∙ append_assoc a (b ++ c) d

@@ -1,6 +1,7 @@
 mod Closing
 mod Keys
 mod Levels
+mod Made
 mod Rows
 mod Tags
 mod Typed

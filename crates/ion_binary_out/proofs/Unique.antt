@@ -7,7 +7,6 @@ use Rattle.std.specs.Cmp.Lexicographic.{bytes_decides}
 use Rattle.std.proofs.lemmas.List.{append-nil, append_cancel_left, nil_from_length}
 use Rattle.std.proofs.lemmas.Bool.Decides.{Decides-eqb}
 use Rattle.std.proofs.lemmas.List.Elements.{recursion_from_All}
-use Rattle.ion_values.specs.declared.value.Kind.{Kind}
 use Rattle.ion_values.specs.declared.value.Value.{Value}
 use Rattle.ion_values.specs.declared.value.Field.{Field}
 use Rattle.ion_values.specs.declared.value.Body.{out-Body}
@@ -15,6 +14,7 @@ use Rattle.ion_values.specs.declared.value.Body.TheOpen.{Body-F}
 use Rattle.ion_values.specs.Time.{is_time}
 use Rattle.ion_values.specs.Within.{all_true, decimal_within, field_within, text_within, within}
 use Rattle.ion_values.proofs.Induction.{EachMember, by_members}
+use Rattle.laws_serialization.proofs.Qualifiers.{same_null, same_truth}
 use Rattle.laws_serialization.specs.Numbers.{DecimalIsInjective, MagnitudeIsInjective, TimestampIsInjective, VarUIntIsPrefixFree}
 use Rattle.hash_model.specs.Numbers.{is_below_zero, magnitude, var_uint}
 use Rattle.hash_model.specs.Serialize.{decimal_bytes, joined, null_qualifier}
@@ -62,34 +62,6 @@ ids_unique symbols a b p q e =
     sym (place_of a symbols p.0 p.1 p.2) ∙ ap (λ k. slice_index_or symbols k []) places ∙ place_of b symbols q.0 q.1 q.2
 
 -- ---- scalars
-
-kind_at : ℕ → Kind
-kind_at q =
-    if q == 0x0F then Kind.Null else if q == 0x1F then Kind.Bool else if q == 0x2F then Kind.Int else if q == 0x5F then Kind.Decimal
-    else if q == 0x6F then Kind.Timestamp else if q == 0x7F then Kind.Symbol else if q == 0x8F then Kind.String
-    else if q == 0x9F then Kind.Clob else if q == 0xAF then Kind.Blob else if q == 0xBF then Kind.List
-    else if q == 0xCF then Kind.Sexp else Kind.Struct
-
-kind_back : (k : Kind) → kind_at (null_qualifier k) ≡ k
-unfolding kind_at
-kind_back Kind.Null = refl
-kind_back Kind.Bool = refl
-kind_back Kind.Int = refl
-kind_back Kind.Decimal = refl
-kind_back Kind.Timestamp = refl
-kind_back Kind.Symbol = refl
-kind_back Kind.String = refl
-kind_back Kind.Clob = refl
-kind_back Kind.Blob = refl
-kind_back Kind.List = refl
-kind_back Kind.Sexp = refl
-kind_back Kind.Struct = refl
-
-same_truth : (a b : Bool) → ◌≡◌ {A = ℕ} (if a then 0x11 else 0x10) (if b then 0x11 else 0x10) → a ≡ b
-same_truth true true e = refl
-same_truth false false e = refl
-same_truth true false e = absurd (omega arith)
-same_truth false true e = absurd (omega arith)
 
 -- an int is members by its type and its magnitude
 same_int : MagnitudeIsInjective → (a b : ℤ) → ◌≡◌ {A = ℕ} (if is_below_zero a then 3 else 2) (if is_below_zero b then 3 else 2)
@@ -299,7 +271,7 @@ module _ (laws : Laws) where
     level_unique (Body-F.Null kind) c members p q r s e =
         let k = is_null c (same_tag (Body-F.Null kind) c r s e) in
         let parts = head_same _ _ _ _ (subst (λ z. level_bytes symbols (Body-F.Null kind) ++ r ≡ level_bytes symbols z ++ s) k.1 e) in
-        (ap (λ z. Body-F.Null z) (sym (kind_back kind) ∙ ap kind_at parts.0 ∙ kind_back k.0) ∙ sym k.1, parts.1)
+        (ap (λ z. Body-F.Null z) (same_null kind k.0 parts.0) ∙ sym k.1, parts.1)
     level_unique (Body-F.Bool truth) c members p q r s e =
         let k = is_bool c (same_tag (Body-F.Bool truth) c r s e) in
         let parts = head_same _ _ _ _ (subst (λ z. level_bytes symbols (Body-F.Bool truth) ++ r ≡ level_bytes symbols z ++ s) k.1 e) in

@@ -1,5 +1,5 @@
 -- What is written denotes the values.
-use Rattle.std.proofs.Common.{◌≡◌, ◌∙◌, ℕ, suc, ◌+◌, Bool, true, false, ◌&&◌, ◌||◌, not, if◌then◌else◌, List, [], ◌∷◌, ◌++◌, map, drop, refl, sym, ap, subst, arith, append_assoc, true≢false}
+use Rattle.std.proofs.Common.{◌≡◌, ◌∙◌, ℕ, suc, Bool, true, false, ◌&&◌, ◌||◌, not, if◌then◌else◌, List, [], ◌∷◌, ◌++◌, map, drop, refl, sym, ap, subst, arith, append_assoc, true≢false}
 use Rattle.std.specs.Prelude.{IsTrue, fold}
 use Rattle.std.specs.List.{All, AllByRecursion, Contains, flat_map, list_all, list_any}
 use Rattle.std.specs.Str.{bytes_eq}
@@ -142,11 +142,12 @@ written_denotes values bytes top ranges e = record {
   stream = e;
 }
 
-pub bytes_written : (values : List Value) (symbols : List Text) (start local all : List ℕ) → symbols ≡ symbols_of values → start ≡ version_marker
-    → local ≡ start ++ table_or_nothing (table_of (drop 9 symbols)) → all ≡ local ++ joined (map (value_bytes symbols) values) → all ≡ binary_text values
+pub bytes_written : (values : List Value) (symbols : List Text) (begun all : List ℕ) → symbols ≡ symbols_of values
+    → begun ≡ version_marker ++ table_or_nothing (table_of (drop 9 symbols)) → all ≡ begun ++ joined (map (value_bytes symbols) values)
+    → all ≡ binary_text values
 unfolding binary_text
-bytes_written values symbols start local all s m t v =
+bytes_written values symbols begun all s t v =
     let own : symbols ≡ symbols_after (table_of (drop 9 (symbols_of values))) = s ∙ sym (symbols_are values) in
     v
-    ∙ (λ i. (t ∙ (λ j. m j ++ table_or_nothing (table_of (drop 9 (s j))))) i ++ joined (map (value_bytes (own i)) values))
+    ∙ (λ i. (t ∙ (λ j. version_marker ++ table_or_nothing (table_of (drop 9 (s j))))) i ++ joined (map (value_bytes (own i)) values))
     ∙ append_assoc version_marker (table_or_nothing (table_of (drop 9 (symbols_of values)))) (joined (map (value_bytes (symbols_after (table_of (drop 9 (symbols_of values))))) values))

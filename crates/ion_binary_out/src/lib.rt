@@ -3,9 +3,11 @@
 
 mod laws;
 mod occurrences;
+mod sources;
 mod stream;
 mod symbols;
 mod values;
 
 pub use laws::denoted_values_are_unique;
+pub use sources::{ValueSource, write_each};
 pub use stream::{are_top, write_binary};

@@ -10,61 +10,62 @@ use ion_values::{Body, Field, Names, Value};
 use std::alloc::Global;
 
 /// The system's symbols, and after them each other text in the values at its first occurrence.
-pub fn symbols_of<'a>(alloc: Global, values: &'a [Value]) -> Result<Symbols<'a>, OutOfMemory>
+pub fn symbols_of(alloc: Global, values: &[Value]) -> Result<Symbols, OutOfMemory>
     ensures { IfOk result (λ symbols. symbols ≡ symbols_of values.now) }
 {
     let mut symbols = Symbols::new(alloc)?;
-    add_values(&mut symbols, values)?;
+    add_values(alloc, &mut symbols, values)?;
     Ok(symbols)
 }
 
-fn add_names<'a>(symbols: &mut Symbols<'a>, names: &'a Names) -> Result<(), OutOfMemory>
+fn add_names(alloc: Global, symbols: &mut Symbols, names: &Names) -> Result<(), OutOfMemory>
     ensures { OnOk result (symbols.new ≡ fold with_symbol symbols.old names.now) }
 {
     for name in names.as_slice() {
-        symbols.add(name.as_str())?;
+        symbols.add(alloc, name.as_str())?;
     }
     Ok(())
 }
 
+/// Appends each text in the value that isn't one of the symbols.
 #[cycle(occurrences)]
-fn add_value<'a>(symbols: &mut Symbols<'a>, value: &'a Value) -> Result<(), OutOfMemory>
+pub fn add_value(alloc: Global, symbols: &mut Symbols, value: &Value) -> Result<(), OutOfMemory>
     ensures { OnOk result (symbols.new ≡ fold with_symbol symbols.old (texts_in value.now)) }
 {
-    add_names(symbols, &value.annotations)?;
-    add_body(symbols, &value.body)
+    add_names(alloc, symbols, &value.annotations)?;
+    add_body(alloc, symbols, &value.body)
 }
 
 #[cycle(occurrences)]
-fn add_body<'a>(symbols: &mut Symbols<'a>, body: &'a Body) -> Result<(), OutOfMemory>
+fn add_body(alloc: Global, symbols: &mut Symbols, body: &Body) -> Result<(), OutOfMemory>
     ensures { OnOk result (symbols.new ≡ fold with_symbol symbols.old (texts_in_body body.now)) }
 {
     match body {
-        Body::Symbol(text) => symbols.add(text.as_str()),
-        Body::List(values) => add_values(symbols, values.as_slice()),
-        Body::Sexp(values) => add_values(symbols, values.as_slice()),
-        Body::Struct(fields) => add_fields(symbols, fields.as_slice()),
+        Body::Symbol(text) => symbols.add(alloc, text.as_str()),
+        Body::List(values) => add_values(alloc, symbols, values.as_slice()),
+        Body::Sexp(values) => add_values(alloc, symbols, values.as_slice()),
+        Body::Struct(fields) => add_fields(alloc, symbols, fields.as_slice()),
         _ => Ok(()),
     }
 }
 
 #[cycle(occurrences)]
-fn add_values<'a>(symbols: &mut Symbols<'a>, values: &'a [Value]) -> Result<(), OutOfMemory>
+fn add_values(alloc: Global, symbols: &mut Symbols, values: &[Value]) -> Result<(), OutOfMemory>
     ensures { OnOk result (symbols.new ≡ fold with_symbol symbols.old (flat_map texts_in values.now)) }
 {
     for value in values {
-        add_value(symbols, value)?;
+        add_value(alloc, symbols, value)?;
     }
     Ok(())
 }
 
 #[cycle(occurrences)]
-fn add_fields<'a>(symbols: &mut Symbols<'a>, fields: &'a [Field]) -> Result<(), OutOfMemory>
+fn add_fields(alloc: Global, symbols: &mut Symbols, fields: &[Field]) -> Result<(), OutOfMemory>
     ensures { OnOk result (symbols.new ≡ fold with_symbol symbols.old (flat_map texts_in_field fields.now)) }
 {
     for field in fields {
-        symbols.add(field.name.as_str())?;
-        add_value(symbols, &field.value)?;
+        symbols.add(alloc, field.name.as_str())?;
+        add_value(alloc, symbols, &field.value)?;
     }
     Ok(())
 }

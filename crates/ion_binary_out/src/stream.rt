@@ -1,7 +1,7 @@
 //! Streams of values in binary.
-ghost use Rattle.std.specs.Prelude.{◌≡◌, ◌++◌, ◌∷◌, [], map, drop, IsTrue, IfOk, OnOk};
+ghost use Rattle.std.specs.Prelude.{◌≡◌, ◌++◌, map, drop, string_bytes, IsTrue, IfOk, OnOk};
 ghost use Rattle.std.specs.List.{flat_map, list_all};
-ghost use Rattle.ion_binary_out.specs.BinaryText.{Denotes, binary_text, is_top, table_bytes, table_of, table_or_nothing, typed};
+ghost use Rattle.ion_binary_out.specs.BinaryText.{Denotes, binary_text, is_top, table_bytes, table_of, table_or_nothing, typed, version_marker};
 
 use super::occurrences::symbols_of;
 use super::symbols::{SYSTEM, Symbols};
@@ -18,8 +18,8 @@ const SYMBOL_TABLE: u128 = 3;
 const SYMBOLS: u128 = 7;
 
 // Appends the texts as strings.
-fn put_texts(out: &mut Buffer, texts: &[&str]) -> Result<(), OutOfMemory>
-    ensures { OnOk result (out.new ≡ out.old ++ flat_map (λ text. typed 8 text.now) texts.now) }
+fn put_texts(out: &mut Buffer, texts: &[String]) -> Result<(), OutOfMemory>
+    ensures { OnOk result (out.new ≡ out.old ++ flat_map (λ text. typed 8 (string_bytes text)) texts.now) }
 {
     for text in texts {
         put_typed(out, STRING, text.as_bytes())?;
@@ -28,8 +28,8 @@ fn put_texts(out: &mut Buffer, texts: &[&str]) -> Result<(), OutOfMemory>
 }
 
 // Appends the symbol table of these texts.
-fn put_table(out: &mut Buffer, texts: &[&str]) -> Result<(), OutOfMemory>
-    ensures { OnOk result (out.new ≡ out.old ++ table_bytes (map (λ text. text.now) texts.now)) }
+fn put_table(out: &mut Buffer, texts: &[String]) -> Result<(), OutOfMemory>
+    ensures { OnOk result (out.new ≡ out.old ++ table_bytes (map string_bytes texts.now)) }
 {
     let table = out.len();
     put_var_uint(out, 1)?;
@@ -53,6 +53,16 @@ fn put_local(out: &mut Buffer, symbols: &Symbols) -> Result<(), OutOfMemory>
         return Ok(());
     }
     put_table(out, &texts[SYSTEM..])
+}
+
+/// The version marker, and the table of the local symbols, if there are any.
+pub fn begin(alloc: Global, symbols: &Symbols) -> Result<Buffer, OutOfMemory>
+    ensures { IfOk result (λ out. out ≡ version_marker ++ table_or_nothing (table_of (drop 9 symbols.now))) }
+{
+    let mut out = Buffer::new(alloc)?;
+    out.extend(&[0xE0, 0x01, 0x00, 0xEA])?;
+    put_local(&mut out, symbols)?;
+    Ok(out)
 }
 
 fn is_top(value: &Value) -> bool
@@ -86,9 +96,7 @@ fn write_stream(alloc: Global, values: &Values) -> Result<Bytes, OutOfMemory>
     ensures { IfOk result (λ bytes. bytes ≡ binary_text values.now) }
 {
     let symbols = symbols_of(alloc, values.as_slice())?;
-    let mut out = Buffer::new(alloc)?;
-    out.extend(&[0xE0, 0x01, 0x00, 0xEA])?;
-    put_local(&mut out, &symbols)?;
+    let mut out = begin(alloc, &symbols)?;
     put_values(&mut out, &symbols, values.as_slice())?;
     Ok(out.into_bytes())
 }

@@ -1,5 +1,5 @@
 //! Symbols: texts in the order of their ids.
-ghost use Rattle.std.specs.Prelude.{◌≡◌, map, IfOk, OnOk};
+ghost use Rattle.std.specs.Prelude.{◌≡◌, map, string_bytes, IfOk, OnOk};
 ghost use Rattle.ion_binary_out.specs.BinaryText.{symbol_id, system_symbols, with_symbol};
 
 use containers::OutOfMemory;
@@ -12,43 +12,47 @@ pub const SYSTEM: usize = 9;
 
 /// Texts in the order of their ids, the system's first. Contracts see them as their list.
 #[derive(Drop)]
-pub struct Symbols<'a> {
-    texts: IndexSet<&'a str>,
+pub struct Symbols {
+    texts: IndexSet<String>,
 }
 
-impl<'a> Model for Symbols<'a> {
-    ghost use Rattle.std.specs.Prelude.{ℕ, List, map};
+impl Model for Symbols {
+    ghost use Rattle.std.specs.Prelude.{ℕ, List, map, string_bytes};
 
     ghost Value = { List (List ℕ) };
 
-    ghost view = { λ s. map (λ text. text.now) s.texts.keys };
+    ghost view = { λ s. map string_bytes s.texts.keys };
 }
 
-impl<'a> Symbols<'a> {
+impl Symbols {
     /// The symbols of the system.
-    pub fn new(alloc: Global) -> Result<Symbols<'a>, OutOfMemory>
+    pub fn new(alloc: Global) -> Result<Symbols, OutOfMemory>
         ensures { IfOk result (λ symbols. symbols ≡ system_symbols) }
     {
         let mut symbols = Symbols {
             texts: IndexSet::new(alloc),
         };
-        symbols.add("$ion")?;
-        symbols.add("$ion_1_0")?;
-        symbols.add("$ion_symbol_table")?;
-        symbols.add("name")?;
-        symbols.add("version")?;
-        symbols.add("imports")?;
-        symbols.add("symbols")?;
-        symbols.add("max_id")?;
-        symbols.add("$ion_shared_symbol_table")?;
+        symbols.add(alloc, "$ion")?;
+        symbols.add(alloc, "$ion_1_0")?;
+        symbols.add(alloc, "$ion_symbol_table")?;
+        symbols.add(alloc, "name")?;
+        symbols.add(alloc, "version")?;
+        symbols.add(alloc, "imports")?;
+        symbols.add(alloc, "symbols")?;
+        symbols.add(alloc, "max_id")?;
+        symbols.add(alloc, "$ion_shared_symbol_table")?;
         Ok(symbols)
     }
 
     /// Appends the text, unless it is one of them.
-    pub fn add(&mut self, text: &'a str) -> Result<(), OutOfMemory>
+    pub fn add(&mut self, alloc: Global, text: &str) -> Result<(), OutOfMemory>
         ensures { OnOk result (self.new ≡ with_symbol self.old text.now) }
     {
-        self.texts.insert(text)?;
+        if self.texts.contains(text) {
+            return Ok(());
+        }
+        let own = String::from_str(alloc, text)?;
+        self.texts.insert(own)?;
         Ok(())
     }
 
@@ -63,8 +67,8 @@ impl<'a> Symbols<'a> {
     }
 
     /// The texts, lent.
-    pub fn as_slice(&self) -> &[&'a str]
-        ensures { map (λ text. text.now) result.now ≡ self.now }
+    pub fn as_slice(&self) -> &[String]
+        ensures { map string_bytes result.now ≡ self.now }
     {
         self.texts.as_slice()
     }

@@ -26,6 +26,7 @@ use Rattle.hash_model.specs.Timestamps.{timestamp_bytes}
 use Rattle.laws_serialization.proofs.Decimals.{decimal_is_injective}
 use Rattle.laws_serialization.proofs.Timestamps.{timestamp_is_injective}
 use Rattle.laws_serialization.proofs.Numbers.{magnitude_is_injective}
+use Rattle.laws_serialization.proofs.Qualifiers.{same_null, same_truth}
 use Rattle.ion_extract.specs.Laws.{AnnotatedIsInjective, BodiesAgree, BytesDetermineBodies, FieldFormIsInjective, IntIsInjective, NullQualifierIsInjective}
 use Rattle.ion_extract.proofs.Frames.{IsFrame, at_roll, escape_is_injective, frame_of, frame_is_injective, left, level_bytes, level_frame, joined_is_injective, value_frame}
 use Rattle.ion_extract.proofs.Hashes.{hashes_told}
@@ -248,39 +249,8 @@ annotated_is_injective (x ∷ xs) (y ∷ ys) a b e =
 
 -- ---- scalars
 
-kind_at : ℕ → Kind
-kind_at q =
-    if q == 0x0F then Kind.Null else if q == 0x1F then Kind.Bool else if q == 0x2F then Kind.Int else if q == 0x5F then Kind.Decimal
-    else if q == 0x6F then Kind.Timestamp else if q == 0x7F then Kind.Symbol else if q == 0x8F then Kind.String
-    else if q == 0x9F then Kind.Clob else if q == 0xAF then Kind.Blob else if q == 0xBF then Kind.List
-    else if q == 0xCF then Kind.Sexp else Kind.Struct
-
-kind_back : (k : Kind) → kind_at (null_qualifier k) ≡ k
-unfolding kind_at
-kind_back Kind.Null = refl
-kind_back Kind.Bool = refl
-kind_back Kind.Int = refl
-kind_back Kind.Decimal = refl
-kind_back Kind.Timestamp = refl
-kind_back Kind.Symbol = refl
-kind_back Kind.String = refl
-kind_back Kind.Clob = refl
-kind_back Kind.Blob = refl
-kind_back Kind.List = refl
-kind_back Kind.Sexp = refl
-kind_back Kind.Struct = refl
-
 pub null_qualifier_is_injective : NullQualifierIsInjective
-null_qualifier_is_injective a b e = sym (kind_back a) ∙ ap kind_at e ∙ kind_back b
-
-abbrev bool_qualifier : Bool → ℕ
-bool_qualifier truth = if truth then 0x11 else 0x10
-
-bool_is_injective : (a b : Bool) → bool_qualifier a ≡ bool_qualifier b → a ≡ b
-bool_is_injective true true e = refl
-bool_is_injective false false e = refl
-bool_is_injective true false e = absurd (omega arith)
-bool_is_injective false true e = absurd (omega arith)
+null_qualifier_is_injective = same_null
 
 pub int_is_injective : IntIsInjective
 int_is_injective (pos m) (pos n) q e = ap pos (magnitude_is_injective m n e)
@@ -318,7 +288,7 @@ level_told : (a b : Body-F Body Field Value) → Within a → Within b → quali
     → BodiesAgree a b (same_level a b ≡ true)
 unfolding qualifier content rank
 level_told (Body-F.Null a) (Body-F.Null b) p q e c r = own same_kind a b kind_own (null_qualifier_is_injective a b e)
-level_told (Body-F.Bool a) (Body-F.Bool b) p q e c r = own same_bool a b bool_own (bool_is_injective a b e)
+level_told (Body-F.Bool a) (Body-F.Bool b) p q e c r = own same_bool a b bool_own (same_truth a b e)
 level_told (Body-F.Int a) (Body-F.Int b) p q e c r = own int_eq a b int_own (int_is_injective a b e (escape_is_injective (magnitude (unsigned_abs a)) (magnitude (unsigned_abs b)) c))
 level_told (Body-F.Decimal a) (Body-F.Decimal b) p q e c r = own same_decimal a b decimal_own (decimal_is_injective a b p q (escape_is_injective (decimal_bytes a) (decimal_bytes b) c))
 level_told (Body-F.Timestamp a) (Body-F.Timestamp b) p q e c r = own same_time a b time_own (timestamp_is_injective a b p q (escape_is_injective (timestamp_bytes a) (timestamp_bytes b) c))

@@ -1,3 +1,4 @@
 pub mod Decimals
 pub mod Numbers
+pub mod Qualifiers
 pub mod Timestamps

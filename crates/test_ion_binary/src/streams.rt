@@ -1,6 +1,7 @@
 //! Values in Ion's binary encoding. A row is a text of values, ` => ` and the bytes in hexadecimal.
-use ion_binary_out::{are_top, write_binary};
+use ion_binary_out::{ValueSource, are_top, write_binary, write_each};
 use ion_text::read_stream;
+use ion_values::{OutOfMemory, Value, copy};
 use std::alloc::Global;
 use std::test::Fail;
 
@@ -29,13 +30,39 @@ false true => e00100ea1011
 [0,0,0,0,0,0,0,0,0,0,0,0,0,0] => e00100eabe8e2020202020202020202020202020
 "#;
 
-// None where the values may not stand in a stream.
+// Values of which a copy is made when one is asked for.
+#[derive(Drop)]
+struct Copied<'a> {
+    values: &'a [Value],
+}
+
+impl<'a> ValueSource for Copied<'a> {
+    ghost values = { λ s. s.values.now };
+
+    fn count(&self) -> usize {
+        self.values.len()
+    }
+
+    fn value_at(&self, alloc: Global, at: usize) -> Result<Value, OutOfMemory> {
+        let value = copy(alloc, &self.values[at])?;
+        Ok(value)
+    }
+}
+
+// None where the values may not stand in a stream, or where they are written otherwise if they are made one at a time.
 fn written(alloc: Global, text: &str) -> Option<String> {
     let values = read_stream(alloc, text.as_bytes(), 4).ok()?;
     if !are_top(values.as_slice()) {
         return None;
     }
     let bytes = write_binary(alloc, &values).ok()?;
+    let each = Copied {
+        values: values.as_slice(),
+    };
+    let made = write_each(alloc, &each).ok()?;
+    if made.as_slice() != bytes.as_slice() {
+        return None;
+    }
     hex::encode(alloc, bytes.as_slice()).ok()
 }
 
