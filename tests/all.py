@@ -30,6 +30,7 @@ OTHER_SECONDS = {
     "crash_images.py": 240,
     "deb.py": 240,
     "docs.py": 240,
+    "forged_bundles.py": 240,
     "journal_page.py": 240,
     "ledgerctl.py": 240,
     "nesting.py": 240,

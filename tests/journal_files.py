@@ -24,8 +24,17 @@ MAKE = ["make", "--seed", "1", "--sessions", "1", "--transactions", "1"]
 CREATE = b'[{statements:["CREATE TABLE t"]}]'
 INSERT = b'{statements:["INSERT INTO t {\'n\':1}"]}'
 FAULT = b"{status:5,faults:1}\n"
-READING = [["audit"], ["digest"], ["prove", "0", "0"]]
+READING = [["audit"], ["digest"], ["export"], ["prove", "0", "0"]]
 NOBODY = 65534
+
+# a bundle of no journal
+ADDRESS = b'{strandId:"0000000000000000000000",sequenceNo:0}'
+HASH = b"{{AAAAAAAAAAAAAAAAAAAAAAAAAAAAAAAAAAAAAAAAAAA=}}"
+ID, TIME = b'"0000000000000000018OWG"', b"2020-01-01T00:00:00.000Z"
+BUNDLE = b"{digest:%s,digestTipAddress:%s}" % (HASH, ADDRESS)
+BUNDLE += b"{blockAddress:%s,hash:%s,metadata:{id:%s,version:0,txTime:%s,txId:%s}}" % (ADDRESS, HASH, ID, TIME, ID)
+BUNDLE += b"{header:{blockAddress:%s,transactionId:%s,blockTimestamp:%s,revisionCount:1},index:0,path:[]}" % (ADDRESS, ID, TIME)
+NOT_PUBLISHED = b"{status:7,fault:{kind:NotPublished}}\n"
 
 
 def check(holds, what):
@@ -83,13 +92,15 @@ def locked(program, journal):
     whole = left(journal)
     with open(journal, "rb") as file:
         fcntl.flock(file, fcntl.LOCK_SH)
-        for words in READING[:2]:
+        for words in READING[:3]:
             check(run(program, [journal] + words)[0] == 0, f"{words} beside another reader")
+        check(run(program, [journal, "extract"], BUNDLE) == (7, NOT_PUBLISHED), "extract beside another reader")
         check(run(program, [journal] + RUN, CREATE) == (5, FAULT), "a run beside a reader")
         check(run(program, [journal] + MAKE) == (5, FAULT), "a make beside a reader")
         fcntl.flock(file, fcntl.LOCK_EX)
         for words in READING:
             check(run(program, [journal] + words) == (5, FAULT), f"{words} beside a run")
+        check(run(program, [journal, "extract"], BUNDLE) == (5, FAULT), "extract beside a run")
     check(left(journal) == whole, "the journal is left")
 
 
@@ -99,11 +110,12 @@ def read_only(program, folder, journal):
         person = {}
     else:
         person = {"user": NOBODY, "group": NOBODY, "extra_groups": []}
-    ends = [run(program, [journal] + words) for words in READING[:2]]
+    ends = [run(program, [journal] + words) for words in READING[:3]]
     whole = left(journal)
     os.chmod(journal, 0o444)
     for words, end in zip(READING, ends):
         check(run(program, [journal] + words, **person) == end, f"{words} on a file that one may only read")
+    check(run(program, [journal, "extract"], BUNDLE, **person) == (7, NOT_PUBLISHED), "extract on a file that one may only read")
     check(run(program, [journal] + RUN, CREATE, **person) == (5, FAULT), "a run on a file that one may only read")
     os.chmod(journal, 0o644)
     check(left(journal) == whole, "the journal is left")

@@ -112,7 +112,8 @@ def commands(refuser, program, step):
     """The commands that read the journal of three blocks, or a proof from it."""
     check(program.run("whole", RUN, THREE_BLOCKS)[0] == 0, "the journal is made")
     proof = program.run("whole", ["prove", "2", "0"])[1]
-    for words, given in [(["digest"], b""), (["prove", "2", "0"], b""), (["verify"], proof), (["audit"], b"")]:
+    nothing = [(words, b"") for words in (["digest"], ["prove", "2", "0"], ["audit"], ["export"])]
+    for words, given in [*nothing, (["verify"], proof), (["extract"], proof)]:
         status, output, total = refuser.run(program, "whole", words, given, NEVER)
         check(status == 0, f"{words} with ample memory")
         ample = (status, output)

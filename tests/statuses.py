@@ -62,7 +62,8 @@ def inputs(program, journal):
     fault = b"{status:2,fault:{session:1,transaction:0,kind:NotASession}}\n"
     check(run(program, [journal] + RUN, b"5") == (2, fault, b""), "5 is no script")
     bundle = b"{status:7,fault:{code:1,field:\"count\"}}\n"
-    check(run(program, [journal, "verify"], b"5") == (7, bundle, b""), "5 is no bundle")
+    for command in ["verify", "extract"]:
+        check(run(program, [journal, command], b"5") == (7, bundle, b""), f"5 is no bundle for {command}")
     none = b"{status:2,fault:{kind:NoSuchBlock,sequence:0,blocks:0}}\n"
     check(run(program, [journal, "digest"]) == (2, none, b""), "there is no block")
     with open_folder(os.path.dirname(journal)) as folder:

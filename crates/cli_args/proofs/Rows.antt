@@ -4,7 +4,7 @@ use Rattle.clap.specs.Faults.{defaults_fault, walk_fault}
 use Rattle.clap.specs.Walk.{walked}
 use Rattle.cli_args.specs.declared.Command.TheVariants as command
 use Rattle.cli_args.specs.declared.IdSource.TheVariants as ids
-use Rattle.cli_args.specs.Forms.{audit_app, digest_app, found_in, make_app, prove_app, run_app, verify_app}
+use Rattle.cli_args.specs.Forms.{audit_app, digest_app, export_app, extract_app, found_in, make_app, prove_app, run_app, verify_app}
 use Rattle.cli_args.specs.Numbers.{number_of}
 use Rattle.cli_args.specs.Words.{asked}
 
@@ -78,6 +78,22 @@ verifies = refl
 audits : asked (codes "audit" ∷ []) ≡ Some command.Audit
 unfolding found_in walk_fault defaults_fault walked audit_app
 audits = refl
+
+extracts : asked (codes "extract" ∷ []) ≡ Some command.Extract
+unfolding found_in walk_fault defaults_fault walked extract_app
+extracts = refl
+
+extract_more : asked (codes "extract" ∷ codes "1" ∷ []) ≡ None
+unfolding found_in walk_fault defaults_fault walked extract_app
+extract_more = refl
+
+exports : asked (codes "export" ∷ []) ≡ Some command.Export
+unfolding found_in walk_fault defaults_fault walked export_app
+exports = refl
+
+export_more : asked (codes "export" ∷ codes "1" ∷ []) ≡ None
+unfolding found_in walk_fault defaults_fault walked export_app
+export_more = refl
 
 word_more : asked (codes "audit" ∷ codes "x" ∷ []) ≡ None
 unfolding found_in walk_fault defaults_fault walked audit_app

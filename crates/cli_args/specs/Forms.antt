@@ -53,9 +53,17 @@ prove_app =
 unfoldable pub verify_app : App
 verify_app = bare_app (codes "verify")
 
+-- `extract`
+unfoldable pub extract_app : App
+extract_app = bare_app (codes "extract")
+
 -- `audit`
 unfoldable pub audit_app : App
 audit_app = bare_app (codes "audit")
+
+-- `export`
+unfoldable pub export_app : App
+export_app = bare_app (codes "export")
 
 -- `make --seed S --sessions K --transactions N [--workers W]`
 unfoldable pub make_app : App

@@ -5,7 +5,8 @@ ghost use Rattle.cli_args.specs.Forms.{Gives, found_in, rows_in};
 ghost use Rattle.cli_args.specs.Words as spec;
 
 use crate::forms::{
-    audit_form, digest_form, found_in, make_form, prove_form, run_form, verify_form,
+    audit_form, digest_form, export_form, extract_form, found_in, make_form, prove_form, run_form,
+    verify_form,
 };
 use crate::values::{
     count_at, ids_of, number_at, number_at_will, small_number_at, time_at_will, workers_of,
@@ -84,12 +85,28 @@ pub fn verify_in(alloc: Global, words: &[String]) -> Result<Command, WordsFault>
     Ok(Command::Verify)
 }
 
+/// What the words behind `extract` ask for.
+pub fn extract_in(alloc: Global, words: &[String]) -> Result<Command, WordsFault>
+    ensures { Gives result (option_map (λ _. Command.Extract) (found_in form.extract_app (map string_bytes words.now))) }
+{
+    let _found = found_in(extract_form(alloc), words)?;
+    Ok(Command::Extract)
+}
+
 /// What the words behind `audit` ask for.
 pub fn audit_in(alloc: Global, words: &[String]) -> Result<Command, WordsFault>
     ensures { Gives result (option_map (λ _. Command.Audit) (found_in form.audit_app (map string_bytes words.now))) }
 {
     let _found = found_in(audit_form(alloc), words)?;
     Ok(Command::Audit)
+}
+
+/// What the words behind `export` ask for.
+pub fn export_in(alloc: Global, words: &[String]) -> Result<Command, WordsFault>
+    ensures { Gives result (option_map (λ _. Command.Export) (found_in form.export_app (map string_bytes words.now))) }
+{
+    let _found = found_in(export_form(alloc), words)?;
+    Ok(Command::Export)
 }
 
 /// What the words behind `make` ask for.

@@ -50,6 +50,15 @@ pub fn verify_form<'a>(alloc: Global) -> Command<'a>
     bare(alloc, "verify")
 }
 
+/// `extract`.
+#[tactic(auto, unfolding(crate::specs::Forms::extract_app))]
+pub fn extract_form<'a>(alloc: Global) -> Command<'a>
+    ensures app { app_of result ≡ spec.extract_app }
+    ensures simple { is_simple_and_free spec.extract_app ≡ true }
+{
+    bare(alloc, "extract")
+}
+
 /// `audit`.
 #[tactic(auto, unfolding(crate::specs::Forms::audit_app))]
 pub fn audit_form<'a>(alloc: Global) -> Command<'a>
@@ -57,6 +66,15 @@ pub fn audit_form<'a>(alloc: Global) -> Command<'a>
     ensures simple { is_simple_and_free spec.audit_app ≡ true }
 {
     bare(alloc, "audit")
+}
+
+/// `export`.
+#[tactic(auto, unfolding(crate::specs::Forms::export_app))]
+pub fn export_form<'a>(alloc: Global) -> Command<'a>
+    ensures app { app_of result ≡ spec.export_app }
+    ensures simple { is_simple_and_free spec.export_app ≡ true }
+{
+    bare(alloc, "export")
 }
 
 /// `make --seed S --sessions K --transactions N [--workers W]`.

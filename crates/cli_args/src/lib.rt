@@ -12,7 +12,7 @@ mod numbers;
 mod times;
 mod values;
 
-use commands::{audit_in, digest_in, make_in, prove_in, run_in, verify_in};
+use commands::{audit_in, digest_in, export_in, extract_in, make_in, prove_in, run_in, verify_in};
 use std::alloc::{AllocError, Global};
 
 /// A command of the program, with what its words say of it. Blocks and revisions are counted from 0.
@@ -33,8 +33,12 @@ pub enum Command {
     },
     /// Verifies the digest, the revision and the proof of the input.
     Verify,
+    /// Finds the revision of the proof that the input has in the journal.
+    Extract,
     /// Counts the blocks and the revisions of the journal.
     Audit,
+    /// Writes the blocks of the journal in Ion's binary encoding.
+    Export,
     /// Runs a workload that is made from a seed.
     Make(MakeOptions),
 }
@@ -95,7 +99,7 @@ impl From<AllocError> for WordsFault {
 }
 
 /// The command that the words name. The first word is the command's own: `run`, `digest`, `prove`,
-/// `verify`, `audit` or `make`. Those behind it are read by `clap`, each option at most once.
+/// `verify`, `extract`, `audit`, `export` or `make`. Those behind it are read by `clap`, each option at most once.
 /// `Refused` comes exactly where there is no first word or another; where `clap` has a cause to
 /// refuse those behind it; where a number isn't decimal digits without a sign and without a zero in
 /// front, or passes 64 bits or, for the index of a revision, 32; where the number of workers isn't
@@ -127,8 +131,14 @@ fn asked_by(alloc: Global, word: &str, rest: &[String]) -> Result<Command, Words
     if word == "verify" {
         return verify_in(alloc, rest);
     }
+    if word == "extract" {
+        return extract_in(alloc, rest);
+    }
     if word == "audit" {
         return audit_in(alloc, rest);
+    }
+    if word == "export" {
+        return export_in(alloc, rest);
     }
     if word == "make" {
         return make_in(alloc, rest);

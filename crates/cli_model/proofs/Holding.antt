@@ -7,7 +7,7 @@ use Rattle.laws_history.specs.Calls.{Span}
 use Rattle.laws_history.specs.Records.{RunRecord}
 use Rattle.laws_history.proofs.Stored.{all-HoldingWithRest}
 use Rattle.cli_model.specs.Clocks.{Answers}
-use Rattle.cli_model.specs.Making.{IsSummaryOf, made_jobs, made_terms}
+use Rattle.cli_model.specs.Making.{IsSummaryOf, TellsMade, made_jobs, made_terms}
 use Rattle.cli_model.proofs.Imaged.{alone_from}
 use Rattle.cli_model.specs.Runs.{Terms, IsDone, IsLeft, IsReportOf, HoldsRun, HoldsRunAfter, TellsRun}
 
@@ -42,3 +42,12 @@ summarized_holds o store clock text r = record {
 pub done_tells : (terms : Terms) (workers : ℕ) (jobs : List Placed) (store : Span StoreTold) (t : RunRecord)
     → IsDone terms workers jobs store t → TellsRun terms workers jobs store
 done_tells terms workers jobs store t done = record { told = t; of_run = done.of_run; fits = done.fits }
+
+pub summarized_tells : (o : MakeOptions) (store : Span StoreTold) (clock : Span Answers) (text : List ℕ)
+    → IsSummaryOf o store clock text
+    → TellsMade (made_terms o clock) o.workers (made_jobs o) store
+summarized_tells o store clock text r = record {
+  tells = record { told = r.told; of_run = r.done.of_run; fits = r.done.fits };
+  empty = r.empty;
+  alone = r.alone;
+}

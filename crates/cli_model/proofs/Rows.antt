@@ -1,5 +1,5 @@
 -- Worked rows: what the commands print, with which status.
-use Rattle.std.proofs.Common.{◌≡◌, [], ◌∷◌, Some, None, refl, rules}
+use Rattle.std.proofs.Common.{◌≡◌, ◌<◌, [], ◌∷◌, Some, None, refl, rules, arith}
 use Rattle.std.specs.Prelude.{codes}
 use Rattle.std.specs.Fmt.{digits}
 use Rattle.ion_values.specs.declared.value.Body.TheFolds.{the_lemmas}
@@ -7,11 +7,14 @@ use Rattle.ledger_model.specs.declared.block.Block.{Block}
 use Rattle.ledger_model.specs.declared.damage.Damage.TheVariants as damage
 use Rattle.ledger_model.specs.declared.script.ScriptKind.TheVariants as script
 use Rattle.proof_issue.specs.declared.NoSuch.TheVariants as none_such
+use Rattle.proof_model.specs.declared.Digest.{Digest}
 use Rattle.proof_verify.specs.declared.ProofFault.TheVariants as fault
-use Rattle.cli_model.specs.Lines.{words_line, misspelt, input_line, no_such_line, not_empty_line, damaged_line, faults_line, proof_fault_line}
+use Rattle.proof_extract.specs.declared.Extracted.TheVariants as extracted
+use Rattle.cli_model.specs.Lines.{words_line, misspelt, input_line, no_such_line, not_empty_line, damaged_line, faults_line, proof_fault_line, unpublished_line}
+use Rattle.cli_model.specs.Extracts.{IsUnpublished}
 use Rattle.cli_model.specs.Journals.{HasNone, tip_in}
 use Rattle.cli_model.specs.declared.Question.TheVariants as asks
-use Rattle.cli_model.specs.Outputs.{verified_text, counts_text}
+use Rattle.cli_model.specs.Outputs.{verified_text, extracted_text, counts_text}
 use Rattle.cli_model.specs.Claims.{number_of, bad_words, bad_input, damaged, not_accepted}
 
 -- the line begins with the status
@@ -69,6 +72,19 @@ row_source = refl
 
 row_verified : verified_text ≡ codes "{verified:true}\n"
 row_verified = refl
+
+row_found : extracted_text (extracted.Found 0) ≡ codes "{found:0}\n"
+unfolding digits
+row_found = search (rules, the_lemmas)
+
+row_unpublished : unpublished_line ≡ codes "{status:7,fault:{kind:NotPublished}}\n"
+row_unpublished = refl
+
+-- no digest is that of an empty journal
+row_none_published : (d : Digest) → IsUnpublished d []
+row_none_published d is =
+    let below : d.tip.sequence < 0 = is.0 in
+    omega (arith, below)
 
 row_counts : counts_text [] ≡ codes "{blocks:0,revisions:0}\n"
 unfolding digits

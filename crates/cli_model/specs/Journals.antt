@@ -1,5 +1,5 @@
--- The commands `digest`, `prove` and `audit`, which ask something of a journal: its digest, the proof of a revision,
--- and how much it holds (QLDB Developer Guide, "Data verification in Amazon QLDB", for digests).
+-- The commands `digest`, `prove`, `audit` and `export`, which ask something of a journal: its digest, the proof of a
+-- revision, how much it holds, and its blocks (QLDB Developer Guide, "Data verification in Amazon QLDB", for digests).
 use Rattle.std.specs.Prelude.{◌≡◌, ◌-◌, ◌⊎◌, ℕ, List, length, Option, Some, None, slice_get}
 use Rattle.ledger_model.specs.declared.block.Block.{Block}
 use Rattle.ledger_model.specs.declared.block.Revision.{Revision}
@@ -13,6 +13,7 @@ use Rattle.cli_model.specs.declared.Question.{Question}
 use Rattle.cli_model.specs.declared.Question.TheVariants as asks
 use Rattle.cli_model.specs.Calls.{Outside}
 use Rattle.cli_model.specs.Claims.{Claim, Status, DamagedLine, StoreLine, bad_input, damaged, store_failed, tells_none}
+use Rattle.cli_model.specs.Exports.{IsExport}
 use Rattle.cli_model.specs.Inputs.{IsIdle}
 use Rattle.cli_model.specs.Lines.{no_such_line}
 use Rattle.cli_model.specs.Outputs.{digest_text, bundle_text, counts_text}
@@ -56,12 +57,14 @@ abbrev pub Answers : Question → List Block → List ℕ → Type 0
 Answers (asks.Digest tip) blocks text = PublishesDigest (tip_in tip blocks) blocks text
 Answers (asks.Proof sequence index tip) blocks text = PublishesProof sequence index (tip_in tip blocks) blocks text
 Answers asks.Counts blocks text = text ≡ counts_text blocks
+Answers asks.Export blocks bytes = IsExport blocks bytes
 
 -- there is no such digest or proof
 abbrev pub HasNone : Question → List Block → NoSuch → Type 0
 HasNone (asks.Digest tip) blocks why = past_end blocks (tip_in tip blocks) ≡ Some why
 HasNone (asks.Proof sequence index tip) blocks why = refusal blocks sequence index (tip_in tip blocks) ≡ Some why
 HasNone asks.Counts blocks why = ⊥
+HasNone asks.Export blocks why = ⊥
 
 -- ---- the claim
 

@@ -5,10 +5,13 @@ pub mod Clocks
 pub mod Inputs
 pub mod Journals
 pub mod Lines
+pub mod FirstAlone
 pub mod Making
 pub mod Outputs
 pub mod Runs
 pub mod Stores
+pub mod Exports
+pub mod Extracts
 pub mod Images
 pub mod Top
 pub mod Written

@@ -143,3 +143,7 @@ proof_fault_fields fault.OutOfMemory = field (codes "code") (number 9) ∷ []
 abbrev pub proof_fault_line : ProofFault → List ℕ
 proof_fault_line refused =
     codes "{status:7,fault:" ++ value_text (structure (proof_fault_fields refused)) ++ codes "}" ++ 10 ∷ []
+
+-- that its digest isn't the journal's
+abbrev pub unpublished_line : List ℕ
+unpublished_line = codes "{status:7,fault:{kind:NotPublished}}" ++ 10 ∷ []

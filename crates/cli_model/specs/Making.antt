@@ -16,6 +16,7 @@ use Rattle.laws_history.specs.Records.{RunRecord}
 use Rattle.cli_model.specs.Calls.{Outside}
 use Rattle.cli_model.specs.Claims.{Claim, Status, DamagedLine, StoreLine, bad_input, damaged, store_failed}
 use Rattle.cli_model.specs.Clocks.{Answers, times_between}
+use Rattle.cli_model.specs.FirstAlone.{FirstRanAlone}
 use Rattle.cli_model.specs.Images.{IsStill}
 use Rattle.cli_model.specs.Inputs.{IsIdle}
 use Rattle.cli_model.specs.Lines.{not_empty_line}
@@ -46,12 +47,13 @@ made_totals o = record {
   amounts = made_total o.seed o.sessions o.transactions;
 }
 
--- The workload was run on an empty journal, the transaction of session 0 in front of all others, and the text is the
--- summary of the blocks that are left. Where each transaction has its block, these are the workload's own numbers.
+-- The workload was run on an empty journal, the transaction of session 0 first and alone, and the text is the summary
+-- of the blocks that are left. Where each transaction has its block, these are the workload's own numbers.
 pub record IsSummaryOf (o : MakeOptions) (store : Span StoreTold) (clock : Span Answers) (text : List ℕ) : Type 0 where
   pub told : RunRecord
   pub empty : told.before ≡ []
   pub first : ComesFirst told.after
+  pub alone : FirstRanAlone told
   pub done : IsDone (made_terms o clock) o.workers (made_jobs o) store told
   pub text_is : text ≡ summary_text (summary told.after)
   pub adds_up : length told.after ≡ o.sessions * o.transactions + 1 → text ≡ summary_text (made_totals o)
@@ -62,11 +64,16 @@ abbrev pub LeavesWorkload : MakeOptions → Span StoreTold → Span Answers → 
 LeavesWorkload o store clock =
     IsStill store ⊎ HoldsRunAfter [] (made_terms o clock) o.workers (made_jobs o) store
 
--- The store has failed as often as the outcomes of the run say, or those of the first transaction's run alone, if
--- memory ran out after it.
+-- The jobs were run on an empty journal, the first one alone, and the store has failed as often as the outcomes say.
+pub record TellsMade (terms : Terms) (workers : ℕ) (jobs : List Placed) (store : Span StoreTold) : Type 0 where
+  pub tells : TellsRun terms workers jobs store
+  pub empty : tells.told.before ≡ []
+  pub alone : FirstRanAlone tells.told
+
+-- so were all jobs of the workload, or if memory ran out after the first transaction, that one
 abbrev pub TellsWorkload : MakeOptions → Span StoreTold → Span Answers → Type 0
 TellsWorkload o store clock =
-    TellsRun (made_terms o clock) o.workers (made_jobs o) store ⊎ TellsRun (made_terms o clock) 1 (first_job ∷ []) store
+    TellsMade (made_terms o clock) o.workers (made_jobs o) store ⊎ TellsMade (made_terms o clock) 1 (first_job ∷ []) store
 
 -- ---- the claim
 

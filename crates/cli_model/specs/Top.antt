@@ -12,6 +12,7 @@ use Rattle.cli_model.specs.declared.Question.TheVariants as asks
 use Rattle.cli_model.specs.Bundles.{verifies}
 use Rattle.cli_model.specs.Calls.{Outside, Call}
 use Rattle.cli_model.specs.Claims.{Claim, Status, done, bad_words, bad_input, damaged, source_failed, store_failed, sink_failed, not_accepted, out_of_memory, number_of, tells_none}
+use Rattle.cli_model.specs.Extracts.{extracts}
 use Rattle.cli_model.specs.Inputs.{IsFine, IsIdle}
 use Rattle.cli_model.specs.Journals.{asks_journal}
 use Rattle.cli_model.specs.Lines.{words_line, faults_line, memory_line}
@@ -38,7 +39,9 @@ claim_of (Some (command.Run options)) = runs options
 claim_of (Some (command.Digest tip)) = asks_journal (asks.Digest tip)
 claim_of (Some (command.Prove sequence index tip)) = asks_journal (asks.Proof sequence index tip)
 claim_of (Some command.Verify) = verifies
+claim_of (Some command.Extract) = extracts
 claim_of (Some command.Audit) = asks_journal asks.Counts
+claim_of (Some command.Export) = asks_journal asks.Export
 claim_of (Some (command.Make options)) = makes options
 
 -- this text is what was asked for

@@ -16,4 +16,6 @@ pub enum Question {
     },
     /// The number of blocks and the number of their revisions.
     Counts,
+    /// The blocks, in Ion's binary encoding.
+    Export,
 }

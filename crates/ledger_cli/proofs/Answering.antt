@@ -56,6 +56,7 @@ unanswered question blocks stop.SourceFailed store reads h = absurd h
 unanswered question blocks stop.StoreFailed store reads h = absurd h
 unanswered question blocks (stop.NotEmpty count) store reads h = absurd h
 unanswered question blocks (stop.NotAccepted fault) store reads h = absurd h
+unanswered question blocks stop.NotPublished store reads h = absurd h
 unanswered question blocks stop.OutOfMemory store reads h = reads.only_read.faults
 
 pub answered_so : (question : Question) (blocks : List Block) (r : Result (List ℕ) CommandFault) (store : Span StoreTold) → Reads store blocks
@@ -99,6 +100,7 @@ module _ (same : Type 0) (what : Option Command) (question : Question) (x : Outs
       (refuses _ _ (inr (inr (refl, record { failed = h; line_is = refl }))), ap (λ (t : SourceTold). t.faults) idle)
   works_so (Err (stop.NotEmpty blocks)) h = absurd h
   works_so (Err (stop.NotAccepted fault)) h = absurd h
+  works_so (Err stop.NotPublished) h = absurd h
   works_so (Err stop.OutOfMemory) h = told h
 
 pub works_digest : (same : Type 0) (tip : Option ℕ) (x : Outside) (came : Result (List ℕ) CommandFault) → IsIdle x.source → Tells (asks.Digest tip) came x.store
@@ -114,3 +116,7 @@ works_proof same sequence index tip x came idle tells =
 pub works_counts : (same : Type 0) (x : Outside) (came : Result (List ℕ) CommandFault) → IsIdle x.source → Tells asks.Counts came x.store
     → Works same (Some command.Audit) came x
 works_counts same x came idle tells = works_so same (Some command.Audit) asks.Counts x idle (λ text g. g) (λ s line r. r) came tells.0
+
+pub works_export : (same : Type 0) (x : Outside) (came : Result (List ℕ) CommandFault) → IsIdle x.source → Tells asks.Export came x.store
+    → Works same (Some command.Export) came x
+works_export same x came idle tells = works_so same (Some command.Export) asks.Export x idle (λ text g. g) (λ s line r. r) came tells.0

@@ -1,16 +1,16 @@
 -- What comes of a run, from its script to the end.
-use Rattle.std.proofs.Common.{◌≡◌, ◌∙◌, ℕ, ℤ, List, false, refl, ap, inl, inr, sym, subst, ◌⊎◌, Option, Some, None, Result, Ok, Err}
+use Rattle.std.proofs.Common.{◌≡◌, ◌∙◌, ℕ, ℤ, List, false, refl, ap, inl, inr, sym, subst, Option, Some, None, Result, Ok, Err}
 use Rattle.std.specs.Prelude.{IfOk, IfErr, IfSome, is_none, ◌||◌}
 use Rattle.ion_time.specs.Millis.{BeginsAt, nearest}
 use Rattle.ion_values.specs.declared.time.TimeParts.{TimeParts}
 use Rattle.ledger_model.specs.declared.script.Job.{Job}
-use Rattle.ledger_model.specs.Script.{Placed, all_placed}
+use Rattle.ledger_model.specs.Script.{all_placed}
 use Rattle.outside.specs.Told.{StoreTold}
 use Rattle.cli_args.specs.declared.Command.TheVariants as command
 use Rattle.cli_args.specs.declared.IdSource.{IdSource}
 use Rattle.cli_args.specs.declared.IdSource.TheVariants as ids
 use Rattle.cli_args.specs.declared.RunOptions.{RunOptions}
-use Rattle.laws_history.specs.Calls.{Span, span}
+use Rattle.laws_history.specs.Calls.{span}
 use Rattle.laws_history.specs.Records.{Times, one_time}
 use Rattle.cli_model.specs.Calls.{Outside}
 use Rattle.cli_model.specs.Clocks.{Answers, AreTimes, GaveFirst, given_by, times_between}
@@ -21,7 +21,7 @@ use Rattle.cli_model.specs.Top.{TellsStore, is_first_answer}
 use Rattle.ledger_cli.specs.declared.command_fault.CommandFault.{CommandFault}
 use Rattle.ledger_cli.specs.declared.command_fault.CommandFault.TheVariants as stop
 use Rattle.ledger_cli.specs.Clocks.{AreCovered, ClockTold, Extends, IsAsked, IsOnTerms}
-use Rattle.ledger_cli.specs.Ends.{IsTold, Works}
+use Rattle.ledger_cli.specs.Ends.{Works}
 use Rattle.ledger_cli.specs.Inputs.{IsReadStop}
 use Rattle.ledger_cli.specs.Runs.{IsEnded, LeavesJobs, TellsJobs}
 use Rattle.ledger_cli.specs.Stops.{IsLoadStop}
@@ -102,6 +102,7 @@ module _ (same : Type 0) (o : RunOptions) (x : Outside) (script : List (List Job
       (inr (inr (inr (refl, record { script = script; has = has }, record { failed = h; line_is = refl }))), fine)
   ends_so (stop.NotEmpty blocks) h on = absurd h
   ends_so (stop.NotAccepted fault) h on = absurd h
+  ends_so stop.NotPublished h on = absurd h
   ends_so stop.OutOfMemory h on = record { source = fine; store = tells_so on.terms on.are (on.is.tells refl) }
 
   pub works_run : (came : Result (List ℕ) CommandFault) → IfOk came (λ text. IsOnTerms o x.clock (Reported text))
@@ -144,6 +145,7 @@ works_unread same o x stop.SourceFailed un h =
 works_unread same o x stop.StoreFailed un h = absurd h
 works_unread same o x (stop.NotEmpty blocks) un h = absurd h
 works_unread same o x (stop.NotAccepted fault) un h = absurd h
+works_unread same o x stop.NotPublished un h = absurd h
 works_unread same o x stop.OutOfMemory un h = record { source = h; store = inl (unfailed same x un) }
 
 -- ---- the clock

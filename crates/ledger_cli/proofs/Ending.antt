@@ -1,6 +1,6 @@
 -- What is so where a command ends, by its exit status.
-use Rattle.std.proofs.Common.{◌≡◌, ◌∙◌, ℕ, List, [], length, arith, ap, sym, refl, subst, inl, inr, ◌⊎◌, Option, Some, None, Result, Ok, Err}
-use Rattle.std.specs.Prelude.{codes, option_map}
+use Rattle.std.proofs.Common.{◌≡◌, ℕ, List, [], arith, ap, sym, refl, subst, inl, inr, Option, Some, None, Result, Ok, Err}
+use Rattle.std.specs.Prelude.{option_map}
 use Rattle.std.specs.Io.KnownBytes.{Consumes}
 use Rattle.outside.specs.Store.{Content}
 use Rattle.outside.specs.Told.{SourceTold, SinkTold, StoreTold, held}
@@ -11,12 +11,12 @@ use Rattle.laws_history.specs.Calls.{Span, span}
 use Rattle.laws_history.specs.Streams.{TakesFew}
 use Rattle.cli_model.specs.Calls.{Outside, Call}
 use Rattle.cli_model.specs.Claims as top
-use Rattle.cli_model.specs.Inputs.{IsFine, IsIdle}
-use Rattle.cli_model.specs.Lines.{faults_line, memory_line}
+use Rattle.cli_model.specs.Inputs.{IsIdle}
+use Rattle.cli_model.specs.Lines.{memory_line}
 use Rattle.cli_model.specs.Runs.{LeavesRun}
 use Rattle.cli_model.specs.Stores.{IsUncalled}
 use Rattle.cli_model.proofs.Imaged.{stays_still}
-use Rattle.cli_model.specs.Top.{Gives, Refuses, Keeps, Ends, RunsOut, TellsStore, WritesLast, Does, asked_by}
+use Rattle.cli_model.specs.Top.{Gives, Refuses, Keeps, Ends, RunsOut, WritesLast, Does, asked_by}
 use Rattle.cli_model.specs.Written.{WritesLine, RunsOutIn}
 use Rattle.ledger_cli.specs.declared.ends.Status.{Status}
 use Rattle.ledger_cli.specs.declared.ends.Status.TheVariants as status
@@ -45,7 +45,9 @@ keeps_all same (Some (command.Run options)) x un idle = inl (stays_still x.store
 keeps_all same (Some (command.Digest tip)) x un idle = (ap (λ (t : StoreTold). t.content) un.told, idle)
 keeps_all same (Some (command.Prove sequence index tip)) x un idle = (ap (λ (t : StoreTold). t.content) un.told, idle)
 keeps_all same (Some command.Verify) x un idle = un
+keeps_all same (Some command.Extract) x un idle = ap (λ (t : StoreTold). t.content) un.told
 keeps_all same (Some command.Audit) x un idle = (ap (λ (t : StoreTold). t.content) un.told, idle)
+keeps_all same (Some command.Export) x un idle = (ap (λ (t : StoreTold). t.content) un.told, idle)
 keeps_all same (Some (command.Make options)) x un idle = (inl (stays_still x.store (ap (λ (t : StoreTold). t.content) un.told)), idle)
 
 -- a run that isn't begun leaves what there was
@@ -116,6 +118,9 @@ module _ (same : Type 0) (what : Option Command) (x : Outside) (sink : Span Sink
       line_ends s status.BadInput _ works.0 end works.1 (λ line. (record { line = _; cause = works.0; written = line }, works.1.source))
   by_work (Err (stop.NotAccepted fault)) s works end =
       line_ends s status.NotAccepted _ works.0 end works.1 (λ line. (record { line = _; cause = works.0; written = line }, works.1.source))
+  by_work (Err stop.NotPublished) s works end =
+      own_line_ends s status.NotAccepted _ works.0 end (λ line. (record { line = _; cause = works.0; written = line }, works.1.source))
+      (λ out. told_out works.1 (broken s status.NotAccepted _ works.0 out))
   by_work (Err stop.OutOfMemory) s works end = runs_out s end.0 (told_out works (last_line end.1))
 
 -- ---- words that ask for nothing

@@ -2,6 +2,9 @@ pub mod Answering
 pub mod Asked
 pub mod Clocks
 pub mod Ending
+pub mod Exporting
+pub mod Extracting
+pub mod FirstAlone
 pub mod Loaded
 pub mod Making
 pub mod Pieces

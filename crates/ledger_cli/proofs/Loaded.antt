@@ -102,6 +102,7 @@ later_stop stop.SourceFailed before ran after low h = absurd h
 later_stop stop.StoreFailed before ran after low h = record { rose = omega (arith, low, h.rose); last = h.last }
 later_stop (stop.NotEmpty blocks) before ran after low h = absurd h
 later_stop (stop.NotAccepted fault) before ran after low h = absurd h
+later_stop stop.NotPublished before ran after low h = absurd h
 later_stop stop.OutOfMemory before ran after low h = tt
 
 pub settle_stops : (why : SettleFault) (ran now : StoreTold) → IsSettleFault why ran now → IsTailStop (settle_stop why) (span ran now)
@@ -127,7 +128,7 @@ module _ {S C : Type 0} (told : S → StoreTold) (answers : C → Option (List �
     run_of blocks outcomes closed =
         run_record told answers always given before opened has workers some jobs in_order terms masks blocks outcomes closed
 
-    of_run : (after : StoreTold) (blocks : List Block) (outcomes : List PlacedOutcome)
+    pub of_run : (after : StoreTold) (blocks : List Block) (outcomes : List PlacedOutcome)
         → IsOfRun terms workers jobs (span before after) (run_of blocks outcomes after.faults)
     of_run after blocks outcomes = record {
       found = loaded_journal (held before) opened.standing.blocks opened.marked has.journal;
@@ -205,14 +206,14 @@ module _ {S C : Type 0} (told : S → StoreTold) (answers : C → Option (List �
       abbrev failed : ℕ
       failed = (told ran.store).faults
 
-      fits : Fits (run_of ran.standing.blocks outcomes failed)
+      pub fits : Fits (run_of ran.standing.blocks outcomes failed)
       fits = run_fits told answers always given before opened has workers some jobs in_order terms masks ran outcomes all covered
 
       ordered : workers ≡ 1 → RunsInOrder (run_of ran.standing.blocks outcomes failed)
       ordered = run_in_order told answers always given before opened has workers some jobs in_order terms masks ran outcomes all covered
 
       -- the store has failed as often as their outcomes say, if it didn't fail since
-      ran_tells : (now : TailHeld S C) → (told now.store).faults ≡ failed → TellsRun terms workers jobs (span before (told now.store))
+      abbrev pub ran_tells : (now : TailHeld S C) → (told now.store).faults ≡ failed → TellsRun terms workers jobs (span before (told now.store))
       ran_tells now same = record {
         told = run_of ran.standing.blocks outcomes (told now.store).faults;
         of_run = of_run (told now.store) ran.standing.blocks outcomes;

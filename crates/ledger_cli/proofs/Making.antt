@@ -25,8 +25,9 @@ use Rattle.turn_lock.specs.History.{Stands}
 use Rattle.laws_history.specs.Calls.{Span, span}
 use Rattle.laws_history.specs.Records.{RunRecord, IsOfSomeJob, made, untold, InOrder, IsBehind}
 use Rattle.laws_history.proofs.Places.{InOrder-all_placed}
+use Rattle.laws_history.specs.Standings.{Standing}
 use Rattle.cli_model.proofs.First.{comes_first}
-use Rattle.cli_model.proofs.Holding.{done_leaves, done_tells, summarized_holds}
+use Rattle.cli_model.proofs.Holding.{done_leaves, summarized_holds, summarized_tells}
 use Rattle.cli_model.proofs.Imaged.{stays_still}
 use Rattle.cli_model.specs.Making.{IsSummaryOf, TellsWorkload, made_jobs, made_terms}
 use Rattle.cli_model.specs.Calls.{Outside}
@@ -47,14 +48,15 @@ use Rattle.ledger_shared.specs.Sessions.{AreNumbered}
 use Rattle.ledger_cli.specs.declared.make.Workload.{Workload}
 use Rattle.ledger_cli.specs.declared.command_fault.CommandFault.{CommandFault}
 use Rattle.ledger_cli.specs.declared.command_fault.CommandFault.TheVariants as stop
-use Rattle.ledger_cli.specs.Clocks.{AreCovered, GoesOn, clock_told}
+use Rattle.ledger_cli.specs.Clocks.{AreCovered, Covers, GoesOn, clock_told}
 use Rattle.ledger_cli.specs.Ends.{Works}
-use Rattle.ledger_cli.specs.Making.{HasMade, IsMakeStop, IsUnmade, IsWorkload, Makes, MakesAll, SumsUp, at_first}
-use Rattle.ledger_cli.specs.Runs.{Comes, HasLoaded, HasStopped, TellsJobs}
-use Rattle.ledger_cli.specs.Stops.{IsLoadStop, load_stop}
+use Rattle.ledger_cli.specs.Making.{HasHalted, HasMade, IsMakeStop, IsUnmade, IsWorkload, Makes, MakesAll, SumsUp, at_first}
+use Rattle.ledger_cli.specs.Runs.{Comes, HasLoaded, HasStopped}
+use Rattle.ledger_cli.specs.Stops.{IsLoadStop, IsTailStop, load_stop}
 use Rattle.ledger_cli.proofs.Clocks.{between_covers, extends_same}
 use Rattle.ledger_cli.proofs.Leaving.{loaded_journal}
-use Rattle.ledger_cli.proofs.Loaded.{goes_at, settled_done, settled_record, stopped_by, stopped_left, stopped_tells, unloaded_cause}
+use Rattle.ledger_cli.proofs.FirstAlone.{first_alone, first_alone_told}
+use Rattle.ledger_cli.proofs.Loaded.{goes_at, ran_tells, settled_done, settled_record, stopped_by, stopped_left, unloaded_cause}
 use Rattle.ledger_cli.proofs.Running.{clock_goes, run_fits}
 
 -- ---- the jobs
@@ -169,9 +171,13 @@ module _ {S C : Type 0} (told : S → StoreTold) (answers : C → Option (List �
         mid = h.mid;
         begun = h.begun;
         settled = record { ran = ran; all = h.all; settled = comes.1 };
+        in_turn = h.in_turn;
       })
-  makes_all (Err why) now comes =
-      inl (record { ran = ran; outcomes = h.begun.outcome ∷ outcomes; all = h.all; stopped = comes })
+  makes_all (Err why) now comes = inl (record {
+    mid = h.mid;
+    stopped = record { ran = ran; outcomes = h.begun.outcome ∷ outcomes; all = h.all; stopped = comes };
+    in_turn = h.in_turn;
+  })
 
 -- ---- what is told of it
 
@@ -200,6 +206,11 @@ module _ {S C : Type 0} (told : S → StoreTold) (answers : C → Option (List �
         (extends_same (answers opened.clock)) goes.extends;
   }
 
+  covered_then : (ran : TailHeld S C) → now.clock ≡ ran.clock → Goes
+      → Covers (clock_told answers always opened.clock) (clock_told answers always ran.clock) terms.times
+  covered_then ran same goes =
+      subst (λ (c : C). Covers (clock_told answers always opened.clock) (clock_told answers always c) terms.times) same (covered goes).times
+
   summed : (outcomes : List PlacedOutcome) (text : List ℕ) → text ≡ summary_text (summary now.standing.blocks)
       → HasMade told answers always o.workers first_job (rest_of o) opened outcomes now → IsSummaryOf o store clock text
   summed outcomes text is h =
@@ -214,6 +225,9 @@ module _ {S C : Type 0} (told : S → StoreTold) (answers : C → Option (List �
         told = t;
         empty = empty;
         first = comes_first t _ first_job (rest_of o) h.begun.outcome outcomes empty refl refl (later_sessions o) done.fits empty refl refl first;
+        alone = first_alone told answers always (mask_of o.seed) before opened has o.workers some first_job refl (rest_of o) (in_order o) terms refl
+            h.settled.ran h.mid all h.settled.all (covered_then h.settled.ran h.settled.settled.clock goes) h.in_turn now.standing.blocks
+            (told now.store).faults (ap (λ (s : Standing). s.blocks) h.settled.settled.standing) h.settled.settled.fine;
         done = done;
         text_is = is;
         adds_up = λ many.
@@ -233,13 +247,20 @@ module _ {S C : Type 0} (told : S → StoreTold) (answers : C → Option (List �
   abbrev Told : Type 0
   Told = IsUnfailed store ⊎ TellsWorkload o store clock
 
-  told_whole : TellsJobs o.workers (made_jobs o) store terms → Told
-  told_whole (inl fine) = inl fine
-  told_whole (inr tells) = inr (inl tells)
-
-  told_first : TellsJobs 1 (first_job ∷ []) store terms → Told
-  told_first (inl fine) = inl fine
-  told_first (inr tells) = inr (inr tells)
+  -- all were run, and the store didn't fail since
+  halted_tells : (why : CommandFault) → HasHalted told answers always o.workers first_job (rest_of o) opened why now → Goes
+      → why ≡ stop.OutOfMemory → Told
+  halted_tells why h goes e =
+      let s = h.stopped in
+      let covers = covered_then s.ran s.stopped.clock goes in
+      let same = subst (λ (x : CommandFault). IsTailStop x (span (told s.ran.store) (told now.store))) e s.stopped.stop in
+      inr (inl (record {
+        tells = ran_tells told answers always (mask_of o.seed) before opened has o.workers some (made_jobs o) (in_order o) terms refl s.ran
+            s.outcomes s.all covers now same;
+        empty = empty;
+        alone = first_alone_told told answers always (mask_of o.seed) before opened has o.workers some first_job refl (rest_of o) (in_order o) terms
+            refl s.ran h.mid s.outcomes s.all covers h.in_turn (told now.store).faults same;
+      }))
 
   -- the first job alone, as a run that was stopped after it
   begun_stopped : HasBegun told answers always first_job opened now
@@ -263,9 +284,12 @@ module _ {S C : Type 0} (told : S → StoreTold) (answers : C → Option (List �
 
   begun_tells : HasBegun told answers always first_job opened now → Told
   begun_tells h =
-      told_first
-      (stopped_tells told answers always (mask_of o.seed) before opened has 1 (omega arith) (first_job ∷ []) first_in_order law now
-      stop.OutOfMemory terms (covered (begun_goes h)) (inl (begun_stopped h)) refl)
+      inr (inr (record {
+        tells = ran_tells told answers always (mask_of o.seed) before opened has 1 (omega arith) (first_job ∷ []) first_in_order terms refl now
+            (h.outcome ∷ []) h.alone (covered_then now refl (begun_goes h)) now refl;
+        empty = empty;
+        alone = tt;
+      }))
 
   as_make : (why : CommandFault) → IsLoadStop why store → IsMakeStop why store
   as_make stop.BadWords h = h
@@ -276,19 +300,20 @@ module _ {S C : Type 0} (told : S → StoreTold) (answers : C → Option (List �
   as_make stop.SourceFailed h = h
   as_make stop.StoreFailed h = h
   as_make (stop.NotAccepted fault) h = h
+  as_make stop.NotPublished h = h
   as_make stop.OutOfMemory h = h
 
-  stopped : (why : CommandFault) → HasStopped told answers always o.workers (made_jobs o) opened why now
+  stopped : (why : CommandFault) → HasHalted told answers always o.workers first_job (rest_of o) opened why now
       ⊎ ((why ≡ stop.OutOfMemory) × (HasBegun told answers always first_job opened now ⊎ (now ≡ opened)))
       → IsUnmade o why store clock
   stopped why (inl h) =
-      let goes = goes_at told answers always o.workers (made_jobs o) opened now (Err why) (inl h) in
+      let goes = goes_at told answers always o.workers (made_jobs o) opened now (Err why) (inl h.stopped) in
       record {
         left = inr (from_empty (stopped_left told answers always (mask_of o.seed) before opened has o.workers some (made_jobs o) (in_order o) law now
-            why terms (covered goes) (inl h)));
-        is = as_make why (stopped_by told answers always (mask_of o.seed) before opened has o.workers some (made_jobs o) (in_order o) now why (inl h));
-        tells = λ e. told_whole (stopped_tells told answers always (mask_of o.seed) before opened has o.workers some (made_jobs o) (in_order o) law
-            now why terms (covered goes) (inl h) e);
+            why terms (covered goes) (inl h.stopped)));
+        is = as_make why
+            (stopped_by told answers always (mask_of o.seed) before opened has o.workers some (made_jobs o) (in_order o) now why (inl h.stopped));
+        tells = halted_tells why h goes;
       }
   stopped why (inr (is, inl h)) = record { left = inr (begun_left h); is = wanted why is; tells = λ e. begun_tells h }
   stopped why (inr (is, inr same)) = record {
@@ -310,7 +335,7 @@ module _ {S C : Type 0} (told : S → StoreTold) (answers : C → Option (List �
           left = done_leaves terms o.workers (made_jobs o) store one.told one.done;
         });
         is = wanted why sums;
-        tells = λ e. inr (inl (done_tells terms o.workers (made_jobs o) store one.told one.done));
+        tells = λ e. inr (inl (summarized_tells o store clock (summary_text (summary now.standing.blocks)) one));
       }
   made_so (Err why) (Ok text) h sums = absurd sums
   made_so (Err why) (Err other) h sums = subst (λ (x : CommandFault). IsUnmade o x store clock) (sym sums) (stopped why h)
@@ -391,6 +416,7 @@ works_none same o x (stop.NotEmpty blocks) fine un h = (
   record { source = fine; store = inl h.reads.only_read.faults },
 )
 works_none same o x (stop.NotAccepted fault) fine un h = absurd h
+works_none same o x stop.NotPublished fine un h = absurd h
 works_none same o x stop.OutOfMemory fine un h = record { source = fine; store = un.tells refl }
 
 pub works_made : (same : Type 0) (o : MakeOptions) (x : Outside) (came : Result (List ℕ) CommandFault) → IsIdle x.source
@@ -399,7 +425,7 @@ works_made same o x (Ok text) idle h = (
   h,
   record {
     source = ap (λ (t : SourceTold). t.faults) idle;
-    store = inr (inl (done_tells (made_terms o x.clock) o.workers (made_jobs o) x.store h.told h.done));
+    store = inr (inl (summarized_tells o x.store x.clock text h));
   },
 )
 works_made same o x (Err why) idle h = works_none same o x why (ap (λ (t : SourceTold). t.faults) idle) h h.is

@@ -161,6 +161,7 @@ reads_input source input (Err stop.SourceFailed) read fine is runs = absurd is
 reads_input source input (Err stop.StoreFailed) read fine is runs = absurd is
 reads_input source input (Err (stop.NotEmpty blocks)) read fine is runs = absurd is
 reads_input source input (Err (stop.NotAccepted fault)) read fine is runs = absurd is
+reads_input source input (Err stop.NotPublished) read fine is runs = absurd is
 reads_input source input (Err stop.OutOfMemory) read fine is runs = fine
 
 -- an input that wasn't read
@@ -179,4 +180,5 @@ unread_input source stop.SourceFailed is long = is
 unread_input source stop.StoreFailed is long = absurd is
 unread_input source (stop.NotEmpty blocks) is long = absurd is
 unread_input source (stop.NotAccepted fault) is long = absurd is
+unread_input source stop.NotPublished is long = absurd is
 unread_input source stop.OutOfMemory is long = is

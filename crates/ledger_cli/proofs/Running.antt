@@ -25,7 +25,7 @@ use Rattle.laws_history.proofs.Sealed.{drop_front}
 use Rattle.laws_history.proofs.Tried.{tried_fit}
 use Rattle.ledger_core.specs.Tails.{TailHeld}
 use Rattle.ledger_shared.specs.Behind as behind
-use Rattle.ledger_shared.specs.Behind.{AreTimed, GaveBetween, HasTimeOf, IsTimeOf, Keeps}
+use Rattle.ledger_shared.specs.Behind.{AreTimed, HasTimeOf, IsTimeOf, Keeps}
 use Rattle.ledger_shared.specs.Ran.{AllHaveRun}
 use Rattle.ledger_cli.specs.Clocks.{Covers, Extends, GoesOn, clock_told}
 use Rattle.ledger_cli.specs.Runs.{HasLoaded}

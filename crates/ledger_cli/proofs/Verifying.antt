@@ -82,6 +82,7 @@ unread_verifies source stop.SourceFailed h long = h
 unread_verifies source stop.StoreFailed h long = absurd h
 unread_verifies source (stop.NotEmpty blocks) h long = absurd h
 unread_verifies source (stop.NotAccepted fault) h long = absurd h
+unread_verifies source stop.NotPublished h long = absurd h
 unread_verifies source stop.OutOfMemory h long = h
 
 module _ (source : Span SourceTold) (input : List ℕ) (read : WasRead source input) (short : length input ≤ longest)
@@ -101,6 +102,7 @@ module _ (source : Span SourceTold) (input : List ℕ) (read : WasRead source in
   no_values_verifies stop.StoreFailed h = absurd h
   no_values_verifies (stop.NotEmpty blocks) h = absurd h
   no_values_verifies (stop.NotAccepted fault) h = absurd h
+  no_values_verifies stop.NotPublished h = absurd h
   no_values_verifies stop.OutOfMemory h = fine
 
   module _ (values : List Value) (reads : ReadsValues (Ok values) input) where
@@ -130,6 +132,7 @@ module _ (source : Span SourceTold) (input : List ℕ) (read : WasRead source in
       },
       fine,
     )
+    values_verify (Err stop.NotPublished) h = absurd h
     values_verify (Err stop.OutOfMemory) h = fine
 
 -- ---- the command
@@ -156,4 +159,5 @@ works_verify same x (Err (stop.NotAccepted why)) un h = (
   inr (inr (refl, record { values = h.0.values; has = h.0.has; why = why; is = h.0.is; line_is = refl })),
   verified_told x un h.1,
 )
+works_verify same x (Err stop.NotPublished) un h = absurd h
 works_verify same x (Err stop.OutOfMemory) un h = verified_told x un h

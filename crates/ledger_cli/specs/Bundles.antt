@@ -60,4 +60,5 @@ Verifies (Err stop.SourceFailed) source = SourceFailed source
 Verifies (Err stop.StoreFailed) source = ⊥
 Verifies (Err (stop.NotEmpty blocks)) source = ⊥
 Verifies (Err (stop.NotAccepted why)) source = IsRefused source why × IsFine source
+Verifies (Err stop.NotPublished) source = ⊥
 Verifies (Err stop.OutOfMemory) source = IsFine source

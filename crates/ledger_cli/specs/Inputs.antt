@@ -20,6 +20,7 @@ IsUnread stop.SourceFailed source = SourceFailed source
 IsUnread stop.StoreFailed source = ⊥
 IsUnread (stop.NotEmpty blocks) source = ⊥
 IsUnread (stop.NotAccepted fault) source = ⊥
+IsUnread stop.NotPublished source = ⊥
 IsUnread stop.OutOfMemory source = IsFine source
 
 -- why there is no script: the source failed only where that is the cause, and a store is not asked
@@ -32,6 +33,7 @@ IsReadStop stop.SourceFailed source = SourceFailed source
 IsReadStop stop.StoreFailed source = ⊥
 IsReadStop (stop.NotEmpty blocks) source = ⊥
 IsReadStop (stop.NotAccepted fault) source = ⊥
+IsReadStop stop.NotPublished source = ⊥
 IsReadStop stop.OutOfMemory source = IsFine source
 
 -- there is a script, or a cause why not

@@ -30,4 +30,5 @@ JudgesTo (Err stop.SourceFailed) judgement = ⊥
 JudgesTo (Err stop.StoreFailed) judgement = ⊥
 JudgesTo (Err (stop.NotEmpty blocks)) judgement = ⊥
 JudgesTo (Err (stop.NotAccepted fault)) judgement = ⊥
+JudgesTo (Err stop.NotPublished) judgement = ⊥
 JudgesTo (Err stop.OutOfMemory) judgement = Unit {0}

@@ -1,6 +1,7 @@
 pub mod Bundles
 pub mod Clocks
 pub mod Ends
+pub mod Extracting
 pub mod Inputs
 pub mod Judgements
 pub mod Making

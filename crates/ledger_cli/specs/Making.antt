@@ -13,7 +13,7 @@ use Rattle.cli_model.specs.Clocks.{Answers}
 use Rattle.cli_model.specs.Making.{IsSummaryOf, LeavesWorkload, TellsWorkload}
 use Rattle.cli_model.specs.Stores.{IsUnfailed, Reads}
 use Rattle.ledger_core.specs.Tails.{TailHeld}
-use Rattle.run_after_setup.specs.FirstRuns.{HasBegun}
+use Rattle.run_after_setup.specs.FirstRuns.{HasBegun, RanInTurn}
 use Rattle.ledger_cli.specs.Runs.{HasSettled, HasStopped}
 use Rattle.ledger_cli.specs.Stops.{IsLoadStop}
 use Rattle.ledger_cli.specs.declared.make.Workload.{Workload}
@@ -38,12 +38,19 @@ module _ {S C : Type 0} (told : S → StoreTold) (answers : C → Option (List �
     pub mid : TailHeld S C
     pub begun : HasBegun told answers always first opened mid
     pub settled : HasSettled told answers always workers (first ∷ jobs) opened (begun.outcome ∷ outcomes) now
+    pub in_turn : RanInTurn told workers opened mid settled.all.served settled.all.entries
 
-  -- or that wasn't settled; or memory ran out after the first job, or before it
+  -- so they were run, and what they left wasn't settled
+  pub record HasHalted (why : CommandFault) (now : TailHeld S C) : Type 0 where
+    pub mid : TailHeld S C
+    pub stopped : HasStopped told answers always workers (first ∷ jobs) opened why now
+    pub in_turn : RanInTurn told workers opened mid stopped.all.served stopped.all.entries
+
+  -- or memory ran out after the first job, or before it
   abbrev pub MakesAll : Result (List PlacedOutcome) CommandFault → TailHeld S C → Type 0
   MakesAll (Ok outcomes) now = HasMade outcomes now
   MakesAll (Err why) now =
-      HasStopped told answers always workers (first ∷ jobs) opened why now
+      HasHalted why now
       ⊎ ((why ≡ stop.OutOfMemory) × (HasBegun told answers always first opened now ⊎ (now ≡ opened)))
 
 -- the text is the summary of the blocks, if all was settled, or memory ran out

@@ -25,6 +25,7 @@ IsUnanswered question store stop.SourceFailed = ⊥
 IsUnanswered question store stop.StoreFailed = HasFailed store
 IsUnanswered question store (stop.NotEmpty blocks) = ⊥
 IsUnanswered question store (stop.NotAccepted fault) = ⊥
+IsUnanswered question store stop.NotPublished = ⊥
 IsUnanswered question store stop.OutOfMemory = IsUnfailed store
 
 abbrev pub Comes : Question → Result (List ℕ) CommandFault → Span StoreTold → Type 0

@@ -48,6 +48,7 @@ IsTailStop stop.SourceFailed store = ⊥
 IsTailStop stop.StoreFailed store = HasFailed store
 IsTailStop (stop.NotEmpty blocks) store = ⊥
 IsTailStop (stop.NotAccepted fault) store = ⊥
+IsTailStop stop.NotPublished store = ⊥
 IsTailStop stop.OutOfMemory store = IsUnfailed store
 
 -- Why a run ended: the store's journal is damaged there, and it was only read; or the store failed. Nothing is said if
@@ -61,6 +62,7 @@ IsLoadStop stop.SourceFailed store = ⊥
 IsLoadStop stop.StoreFailed store = HasFailed store
 IsLoadStop (stop.NotEmpty blocks) store = ⊥
 IsLoadStop (stop.NotAccepted fault) store = ⊥
+IsLoadStop stop.NotPublished store = ⊥
 IsLoadStop stop.OutOfMemory store = Unit {0}
 
 -- the blocks have no answer to the question, or memory ran out
@@ -73,4 +75,5 @@ IsAnswerStop question blocks stop.SourceFailed = ⊥
 IsAnswerStop question blocks stop.StoreFailed = ⊥
 IsAnswerStop question blocks (stop.NotEmpty count) = ⊥
 IsAnswerStop question blocks (stop.NotAccepted fault) = ⊥
+IsAnswerStop question blocks stop.NotPublished = ⊥
 IsAnswerStop question blocks stop.OutOfMemory = Unit {0}

@@ -26,6 +26,8 @@ pub enum CommandFault {
     NotEmpty { blocks: u64 },
     /// The input is no bundle whose proof is accepted.
     NotAccepted(ProofFault),
+    /// The digest of the input isn't that of the journal.
+    NotPublished,
     OutOfMemory,
 }
 

@@ -2,7 +2,7 @@
 ghost use Rattle.std.specs.Prelude.{◌≡◌, Err};
 ghost use Rattle.laws_history.specs.Calls.{span};
 ghost use Rattle.cli_model.specs.Claims as top;
-ghost use Rattle.cli_model.specs.Lines.{damaged_line, input_line, no_such_line, not_empty_line, proof_fault_line};
+ghost use Rattle.cli_model.specs.Lines.{damaged_line, input_line, no_such_line, not_empty_line, proof_fault_line, unpublished_line};
 ghost use Rattle.ledger_cli.specs.Ends.{EndsBy, IsLine, IsOutputEnd, IsOwnLine, WritesMemoryLine, count_line, status_of};
 ghost use Rattle.ledger_cli.specs.Judgements.{cause_of};
 
@@ -10,7 +10,7 @@ use crate::command_fault::CommandFault;
 use crate::faults::proof_fault_line;
 use crate::lines::{BadInput, damaged_line, input_line, no_such_line, not_empty_line};
 use crate::output::{write_all, write_count};
-use ion_values::Text;
+use containers::Bytes;
 use ledger_model::Damage;
 use outside::{JournalStore, OutFault, Sink, Source};
 use proof_issue::NoSuch;
@@ -41,7 +41,7 @@ pub fn number_of(status: Status) -> u8
 /// Ends with the output, or with the error line of why there is none.
 pub fn end<So: Source, Si: Sink, St: JournalStore>(
     alloc: Global,
-    value: Result<Text, CommandFault>,
+    value: Result<Bytes, CommandFault>,
     source: &So,
     sink: &mut Si,
     store: &St,
@@ -50,7 +50,7 @@ pub fn end<So: Source, Si: Sink, St: JournalStore>(
         (span (Si.told sink.old) (Si.told sink.new)) }
 {
     match value {
-        Ok(text) => end_by_output(sink, text),
+        Ok(bytes) => end_by_output(sink, bytes),
         Err(stop) => end_by_stop(alloc, stop, source, sink, store),
     }
 }
@@ -72,6 +72,7 @@ fn end_by_stop<So: Source, Si: Sink, St: JournalStore>(
         CommandFault::NoSuch(refused) => end_by_none(alloc, sink, refused),
         CommandFault::NotEmpty { blocks } => end_by_blocks(alloc, sink, blocks),
         CommandFault::NotAccepted(fault) => end_by_fault(alloc, sink, &fault),
+        CommandFault::NotPublished => end_unpublished(sink),
         CommandFault::Damaged { sequence, kind } => end_by_damage(alloc, sink, sequence, kind),
         CommandFault::SourceFailed => {
             end_by_count(
@@ -94,10 +95,10 @@ fn end_by_stop<So: Source, Si: Sink, St: JournalStore>(
 }
 
 /// Ends with the output.
-fn end_by_output<Si: Sink>(sink: &mut Si, text: Text) -> Status
-    ensures { IsOutputEnd result (span (Si.told sink.old) (Si.told sink.new)) text }
+fn end_by_output<Si: Sink>(sink: &mut Si, bytes: Bytes) -> Status
+    ensures { IsOutputEnd result (span (Si.told sink.old) (Si.told sink.new)) bytes }
 {
-    match write_all(sink, text.as_str().as_bytes()) {
+    match write_all(sink, bytes.as_slice()) {
         Ok(()) => Status::Done,
         Err(OutFault::Failed) => Status::SinkFailed,
         Err(OutFault::OutOfMemory) => Status::OutOfMemory,
@@ -175,6 +176,17 @@ fn end_by_fault<Si: Sink>(alloc: Global, sink: &mut Si, fault: &ProofFault) -> S
         Ok(line) => end_by_line(sink, line.as_str(), Status::NotAccepted),
         Err(_) => end_without_memory(sink),
     }
+}
+
+/// Ends with the error line of a digest that isn't the journal's.
+fn end_unpublished<Si: Sink>(sink: &mut Si) -> Status
+    ensures { IsOwnLine result Status.NotAccepted (span (Si.told sink.old) (Si.told sink.new)) unpublished_line }
+{
+    end_by_line(
+        sink,
+        "{status:7,fault:{kind:NotPublished}}\n",
+        Status::NotAccepted,
+    )
 }
 
 /// Ends with the error line of a damaged journal.

@@ -4,6 +4,8 @@
 mod command_fault;
 mod counts;
 mod ends;
+mod export;
+mod extract;
 mod faults;
 mod input;
 mod journal;

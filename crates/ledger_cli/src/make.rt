@@ -10,11 +10,13 @@ ghost use Rattle.ledger_cli.specs.Runs.{HasLoaded};
 
 use crate::command_fault::CommandFault;
 use crate::journal::unloaded;
+use crate::output::bytes_of;
 use crate::returned::{Host, Resources, Returned};
 use crate::run::{Settled, settle};
 use cli_args::MakeOptions;
+use containers::Bytes;
 use id_seed::from_seed;
-use ion_values::{OutOfMemory, Text};
+use ion_values::OutOfMemory;
 use journal_text::written_on_one_line;
 use ledger_core::Tail;
 use ledger_model::{Blocks, Job, Outcomes, Script};
@@ -79,13 +81,13 @@ fn summed_up(
     alloc: Global,
     blocks: &Blocks,
     value: Result<Outcomes, CommandFault>,
-) -> Result<Text, CommandFault>
+) -> Result<Bytes, CommandFault>
     ensures { SumsUp blocks.now.list value result }
 {
     match value {
         Ok(_outcomes) => {
             let totals = summary(alloc, blocks.as_slice())?;
-            Ok(summary_text(alloc, &totals)?)
+            Ok(bytes_of(summary_text(alloc, &totals)?))
         }
         Err(stop) => Err(stop),
     }
@@ -98,7 +100,7 @@ fn make_all<S: JournalStore + Send, C: Clock + Send, G: Gate + Sync, R: Threads 
     options: MakeOptions,
     workload: &Workload,
     tail: Tail<S, C>,
-) -> Returned<Result<Text, CommandFault>, S, C>
+) -> Returned<Result<Bytes, CommandFault>, S, C>
     requires some { 0 < options.workers }
     requires of { IsWorkload options workload.now }
     ensures { (before : StoreTold) → HasLoaded S.told (mask_of options.seed) before tail → tail.standing.blocks ≡ []
@@ -128,7 +130,7 @@ fn make_if_empty<S: JournalStore + Send, C: Clock + Send, G: Gate + Sync, R: Thr
     options: MakeOptions,
     workload: &Workload,
     tail: Tail<S, C>,
-) -> Returned<Result<Text, CommandFault>, S, C>
+) -> Returned<Result<Bytes, CommandFault>, S, C>
     requires some { 0 < options.workers }
     requires of { IsWorkload options workload.now }
     ensures { (before : StoreTold) → HasLoaded S.told (mask_of options.seed) before tail
@@ -157,7 +159,7 @@ pub fn make<S: JournalStore + Send, C: Clock + Send, G: Gate + Sync, R: Threads 
     host: &Host<'_, R, G>,
     options: MakeOptions,
     resources: Resources<S, C>,
-) -> Returned<Result<Text, CommandFault>, S, C>
+) -> Returned<Result<Bytes, CommandFault>, S, C>
     requires { 0 < options.workers }
     ensures { Makes options result.value (span (S.told resources.store) (S.told result.store))
         (span (C.answers resources.clock) (C.answers result.clock)) }
@@ -182,7 +184,7 @@ fn make_by<S: JournalStore + Send, C: Clock + Send, G: Gate + Sync, R: Threads +
     options: MakeOptions,
     workload: &Workload,
     resources: Resources<S, C>,
-) -> Returned<Result<Text, CommandFault>, S, C>
+) -> Returned<Result<Bytes, CommandFault>, S, C>
     requires some { 0 < options.workers }
     requires of { IsWorkload options workload.now }
     ensures { Makes options result.value (span (S.told resources.store) (S.told result.store))

@@ -1,4 +1,4 @@
-//! Writing a whole text.
+//! Texts and bytes that are written whole.
 ghost use Rattle.std.specs.Prelude.{◌≡◌, ◌++◌, OnOk, OnErr};
 ghost use Rattle.outside.specs.Causes.{HasCause};
 ghost use Rattle.laws_history.specs.Calls.{span};
@@ -6,6 +6,7 @@ ghost use Rattle.laws_history.specs.Streams.{Writes, WritesPart, BreaksOff};
 ghost use Rattle.cli_model.specs.Outputs.{value_line};
 ghost use Rattle.ledger_cli.specs.Ends.{count_line};
 
+use containers::{Bytes, Sequence};
 use ion_text::write;
 use ion_values::{OutOfMemory, Text, Value};
 use itoa::Buffer;
@@ -19,6 +20,13 @@ pub fn put_line(alloc: Global, text: &mut Text, value: &Value) -> Result<(), Out
     let written = write(alloc, value)?;
     text.push_str(written.as_str())?;
     text.push_str("\n")
+}
+
+/// The text's bytes. It takes no memory.
+pub fn bytes_of(text: Text) -> Bytes
+    ensures { result ≡ text }
+{
+    Sequence::from_vec(text.into_string().into_bytes())
 }
 
 /// Writes all of the text. After a fault a front part of it was written, and not all.

@@ -1,4 +1,4 @@
-//! Questions to a journal: its digest, the proof of a revision, and how much it holds.
+//! Questions to a journal: its digest, the proof of a revision, how much it holds, and its blocks.
 ghost use Rattle.std.specs.Prelude.{◌≡◌, IfOk, IfErr};
 ghost use Rattle.laws_history.specs.Calls.{span};
 ghost use Rattle.cli_model.specs.Journals.{Answers};
@@ -7,10 +7,12 @@ ghost use Rattle.ledger_cli.specs.Stops.{IsAnswerStop};
 
 use crate::command_fault::CommandFault;
 use crate::counts::counts_text;
+use crate::export::export_bytes;
+use crate::output::bytes_of;
 use crate::prove::{digest_text, proof_text};
 use crate::returned::{Resources, Returned};
 use cli_model::Question;
-use ion_values::Text;
+use containers::Bytes;
 use journal_reader::Journal;
 use outside::JournalStore;
 use std::alloc::Global;
@@ -20,7 +22,7 @@ pub fn ask<S: JournalStore, C>(
     alloc: Global,
     question: Question,
     resources: Resources<S, C>,
-) -> Returned<Result<Text, CommandFault>, S, C>
+) -> Returned<Result<Bytes, CommandFault>, S, C>
     ensures tells { Tells question result.value (span (S.told resources.store) (S.told result.store)) }
     ensures clock { result.clock ≡ resources.clock }
 {
@@ -38,7 +40,7 @@ fn ask_store<S: JournalStore>(
     alloc: Global,
     question: Question,
     store: &mut S,
-) -> Result<Text, CommandFault>
+) -> Result<Bytes, CommandFault>
     ensures { Tells question result (span (S.told store.old) (S.told store.new)) }
 {
     match Journal::read(alloc, store) {
@@ -51,17 +53,18 @@ fn ask_store<S: JournalStore>(
 }
 
 /// The answer of this journal.
-fn answer_in(alloc: Global, question: Question, journal: &Journal) -> Result<Text, CommandFault>
+fn answer_in(alloc: Global, question: Question, journal: &Journal) -> Result<Bytes, CommandFault>
     ensures answers { IfOk result (λ text. Answers question journal.now.blocks text) }
     ensures stop { IfErr result (λ stop. IsAnswerStop question journal.now.blocks stop) }
 {
     match question {
-        Question::Digest { tip } => digest_text(alloc, journal, tip),
+        Question::Digest { tip } => Ok(bytes_of(digest_text(alloc, journal, tip)?)),
         Question::Proof {
             sequence,
             index,
             tip,
-        } => proof_text(alloc, journal, sequence, index, tip),
-        Question::Counts => counts_text(alloc, journal.blocks()),
+        } => Ok(bytes_of(proof_text(alloc, journal, sequence, index, tip)?)),
+        Question::Counts => Ok(bytes_of(counts_text(alloc, journal.blocks())?)),
+        Question::Export => export_bytes(alloc, journal.blocks()),
     }
 }

@@ -13,10 +13,11 @@ ghost use Rattle.ledger_cli.specs.Stops.{IsLoadStop};
 
 use crate::command_fault::CommandFault;
 use crate::journal::unloaded;
+use crate::output::bytes_of;
 use crate::returned::{Host, Resources, Returned};
 use crate::times::{FixedClock, mask_by, moments_have_times};
 use cli_args::RunOptions;
-use ion_values::Text;
+use containers::Bytes;
 use journal_text::written_on_one_line;
 use ledger_core::Tail;
 use ledger_model::{Blocks, Outcomes, Script, Session};
@@ -78,11 +79,11 @@ fn reported(
     alloc: Global,
     blocks: &Blocks,
     value: Result<Outcomes, CommandFault>,
-) -> Result<Text, CommandFault>
+) -> Result<Bytes, CommandFault>
     ensures { Reports blocks.now.list value result }
 {
     match value {
-        Ok(outcomes) => Ok(report(alloc, blocks, &outcomes)?),
+        Ok(outcomes) => Ok(bytes_of(report(alloc, blocks, &outcomes)?)),
         Err(stop) => Err(stop),
     }
 }
@@ -93,7 +94,7 @@ fn run_on<S: JournalStore + Send, C: Clock + Send, G: Gate + Sync, R: Threads + 
     crew: &Crew<'_, R, G>,
     script: &Script,
     tail: Tail<S, C>,
-) -> Returned<Result<Text, CommandFault>, S, C>
+) -> Returned<Result<Bytes, CommandFault>, S, C>
     requires some { 0 < crew.now.workers }
     requires few { AreNumbered script.now }
     ensures done { (given : ℕ) (before : StoreTold) → HasLoaded S.told given before tail
@@ -129,7 +130,7 @@ fn run_by<S: JournalStore + Send, C: Clock + Send, G: Gate + Sync, R: Threads + 
     script: &Script,
     mask: IdMask,
     resources: Resources<S, C>,
-) -> Returned<Result<Text, CommandFault>, S, C>
+) -> Returned<Result<Bytes, CommandFault>, S, C>
     requires some { 0 < crew.now.workers }
     requires few { AreNumbered script.now }
     ensures done { IfOk result.value (λ text. (terms : Terms) → AreCovered mask.bits
@@ -166,7 +167,7 @@ pub fn run_script<
     script: &Script,
     options: RunOptions,
     resources: Resources<S, C>,
-) -> Returned<Result<Text, CommandFault>, S, C>
+) -> Returned<Result<Bytes, CommandFault>, S, C>
     requires some { 0 < options.workers }
     requires few { AreNumbered script.now }
     ensures done { IfOk result.value (λ text.

@@ -12,7 +12,7 @@ use crate::ends::{end, number_of};
 use crate::returned::{Host, Resources, Returned};
 use crate::work::work;
 use cli_args::{WordsFault, command_in};
-use ion_values::Text;
+use containers::Bytes;
 use outside::{Clock, Gate, JournalStore, Sink, Source};
 use std::alloc::Global;
 use std::sync::Wait;
@@ -26,15 +26,17 @@ pub struct Ended<St, C> {
     pub clock: C,
 }
 
-/// Does what the words say: `run`, `make`, `digest`, `prove`, `verify` or `audit`, with the words after it.
+/// Does what the words say: `run`, `make`, `digest`, `prove`, `verify`, `extract`, `audit` or `export`, with the words
+/// after it.
 ///
 /// `run` reads a script from the source, runs it on the journal that the store keeps, and writes its report to the
 /// sink. `make` runs a workload that is made from a seed, on an empty journal, and writes how much it then holds. The
 /// workers of both run in threads of their own. Worker w of N runs the sessions w, w + N and so on, each whole and in
 /// order. Each worker calls the gate before it begins, executes and commits.
-/// `digest`, `prove` and `audit` read the journal and write its digest, the proof of a revision, or how much it holds;
-/// `verify` reads such a proof from the source. These four leave the store's bytes as they are. The clock is asked by
-/// `make`, and by `run` if the words give no time or leave out where the ids come from.
+/// `digest`, `prove`, `audit` and `export` read the journal and write its digest, the proof of a revision, how much it
+/// holds, or its blocks in Ion's binary encoding; `verify` reads such a proof from the source, and `extract` finds its
+/// revision in the journal. These six leave the store's bytes as they are. The clock is asked by `make`, and by `run` if the words give no time or leave out where
+/// the ids come from.
 pub fn ledger_top<
     R: Threads + Wait + Sync,
     So: Source,
@@ -87,7 +89,7 @@ fn answer<
     words: &[String],
     source: &mut So,
     resources: Resources<St, C>,
-) -> Returned<Result<Text, CommandFault>, St, C>
+) -> Returned<Result<Bytes, CommandFault>, St, C>
     ensures works { Works (result.store ≡ resources.store) (asked (map string_bytes words.now)) result.value
         (outside (span (So.told source.old) (So.told source.new))
         (span (St.told resources.store) (St.told result.store))

@@ -9,6 +9,8 @@ use crate::command_fault::CommandFault;
 use crate::input::read_all;
 use crate::judging::DEEPEST;
 use crate::lines::BadInput;
+use crate::output::bytes_of;
+use containers::Bytes;
 use ion_text::{ReadFault, read_stream};
 use ion_values::{Text, Values};
 use outside::Source;
@@ -16,7 +18,7 @@ use proof_verify::{ProofFault, read_bundle, verify};
 use std::alloc::Global;
 
 /// The values that the input spells.
-fn read_values(alloc: Global, input: &[u8]) -> Result<Values, CommandFault>
+pub fn read_values(alloc: Global, input: &[u8]) -> Result<Values, CommandFault>
     ensures { ReadsValues result input.now }
 {
     match read_stream(alloc, input, DEEPEST) {
@@ -36,16 +38,16 @@ fn judge(alloc: Global, values: &Values) -> Result<(), ProofFault>
 }
 
 /// The text that says that the proof of the values is accepted.
-fn verdict(alloc: Global, values: &Values) -> Result<Text, CommandFault>
+fn verdict(alloc: Global, values: &Values) -> Result<Bytes, CommandFault>
     ensures { Decides result values.now }
 {
     judge(alloc, values)?;
     let text = Text::from_text(alloc, "{verified:true}\n")?;
-    Ok(text)
+    Ok(bytes_of(text))
 }
 
 /// Reads the bundle that the source gives, and says that its proof is accepted.
-pub fn verify_input<So: Source>(alloc: Global, source: &mut So) -> Result<Text, CommandFault>
+pub fn verify_input<So: Source>(alloc: Global, source: &mut So) -> Result<Bytes, CommandFault>
     ensures verifies { Verifies result (span (So.told source.old) (So.told source.new)) }
     ensures few { TakesFew (span (So.told source.old) (So.told source.new)) }
 {

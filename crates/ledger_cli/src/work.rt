@@ -10,6 +10,7 @@ ghost use Rattle.ledger_cli.specs.Inputs.{ReadsScript};
 ghost use Rattle.ledger_cli.specs.Workers.{HasWorkers};
 
 use crate::command_fault::CommandFault;
+use crate::extract::extract_input;
 use crate::input::read_all;
 use crate::judging::judge;
 use crate::make::make;
@@ -19,7 +20,7 @@ use crate::run::run_script;
 use crate::verify::verify_input;
 use cli_args::{Command, RunOptions};
 use cli_model::Question;
-use ion_values::Text;
+use containers::Bytes;
 use ledger_model::Script;
 use outside::{Clock, Gate, JournalStore, Source};
 use std::alloc::Global;
@@ -39,7 +40,7 @@ pub fn work<
     command: Command,
     source: &mut So,
     resources: Resources<St, C>,
-) -> Returned<Result<Text, CommandFault>, St, C>
+) -> Returned<Result<Bytes, CommandFault>, St, C>
     requires some { HasWorkers command }
     ensures works { Works (result.store ≡ resources.store) (Some command) result.value
         (outside (span (So.told source.old) (So.told source.new))
@@ -76,7 +77,9 @@ pub fn work<
                 clock,
             }
         }
+        Command::Extract => extract_input(alloc, source, resources),
         Command::Audit => ask(alloc, Question::Counts, resources),
+        Command::Export => ask(alloc, Question::Export, resources),
         Command::Make(options) => make(alloc, host, options, resources),
     }
 }
@@ -94,7 +97,7 @@ fn run<
     options: RunOptions,
     source: &mut So,
     resources: Resources<St, C>,
-) -> Returned<Result<Text, CommandFault>, St, C>
+) -> Returned<Result<Bytes, CommandFault>, St, C>
     requires { 0 < options.workers }
     ensures works { Works (result.store ≡ resources.store) (Some (asked.Run options)) result.value
         (outside (span (So.told source.old) (So.told source.new))

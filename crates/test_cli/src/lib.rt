@@ -8,6 +8,8 @@ mod damaged;
 #[cfg(test)]
 mod digests;
 #[cfg(test)]
+mod extracts;
+#[cfg(test)]
 mod failing;
 #[cfg(test)]
 mod faults;

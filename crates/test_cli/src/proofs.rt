@@ -28,7 +28,8 @@ digest 1||@LINE_FEED@||1 {status:1}|=
 prove 2||@LINE_FEED@||1 {status:1}|=
 prove 2 4294967296||@LINE_FEED@||1 {status:1}|=
 verify x|5|@LINE_FEED@||1 {status:1}|=
-audit --help||@LINE_FEED@||1 {status:1}|="#;
+audit --help||@LINE_FEED@||1 {status:1}|=
+export 1|5|@LINE_FEED@||1 {status:1}|="#;
 
 /// Proofs, and that they are verified.
 pub const PROOFS: &str = r#"prove 0 0||@ONE_BLOCK@||0 @ONE_PROOF@|*

@@ -8,6 +8,7 @@
 use crate::commands::{Given, Left, run};
 use crate::damaged::DAMAGED;
 use crate::digests::SENT;
+use crate::extracts::EXTRACTS;
 use crate::failing::{MENDED, STORES, STREAMS};
 use crate::faults::FAULTS;
 use crate::limits::LONGEST;
@@ -153,6 +154,13 @@ fn rows_of_statements_and_questions(rt: HostRuntime) {
         for row in rows.lines() {
             assert!(rt; row_holds(&rt, rt.alloc(), row) == Some(true), "{row}");
         }
+    }
+}
+
+#[test]
+fn rows_of_extracts(rt: HostRuntime) {
+    for row in EXTRACTS.lines() {
+        assert!(rt; row_holds(&rt, rt.alloc(), row) == Some(true), "{row}");
     }
 }
 

@@ -1,4 +1,5 @@
 //! Texts that rows name.
+use crate::extracts::SIX_BLOCKS;
 use crate::failing::{MENDED_BY_SETTLE, MENDED_LATER, STORE_FAULT, THREE};
 use crate::runs::{COMMITTED, FIRST, FOUR_OUTCOMES, RUN, SESSIONS};
 use crate::verdicts::HONEST;
@@ -34,6 +35,7 @@ fn named(name: &str) -> Option<&'static str> {
         "THREE_BUNDLE" => Some(THREE_BUNDLE),
         "THREE_PROOF" => Some(THREE_BUNDLE.trim_end()),
         "HONEST" => Some(HONEST),
+        "SIX_BLOCKS" => Some(SIX_BLOCKS),
         "LINE_FEED" => Some("\n"),
         _ => None,
     }

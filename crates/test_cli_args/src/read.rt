@@ -170,7 +170,11 @@ fn words_without_values(rt: HostRuntime) {
     for (line, wanted) in [
         ("verify", Command::Verify),
         ("verify --", Command::Verify),
+        ("extract", Command::Extract),
+        ("extract --", Command::Extract),
         ("audit", Command::Audit),
+        ("export", Command::Export),
+        ("export --", Command::Export),
     ] {
         assert!(rt; asked(rt.alloc(), line) == Some(Ok(wanted)), "{line}");
     }

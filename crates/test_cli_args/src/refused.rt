@@ -110,9 +110,15 @@ prove 0 0 --plain-ids
 verify 1
 verify --tip 1
 verify --help
+extract 1
+extract --tip 1
+extracts
 audit 1
 audit --plain-ids
-audit --version";
+audit --version
+export 1
+export --tip 1
+Export";
 
 const MAKES: &str = "make
 make --seed 1

@@ -1,4 +1,4 @@
-use Rattle.std.proofs.Common.{◌≡◌, ℕ, ℤ, List, Option, None, Some, refl, sym, subst, to_z, of_z, to_z-of_z, FitsSigned, w64, rules}
+use Rattle.std.proofs.Common.{ℕ, List, None, Some, refl, to_z, of_z, to_z-of_z, FitsSigned, w64, rules}
 use Rattle.ledger_model.specs.Script.{all_placed}
 use Rattle.laws_history.specs.Calls.{span}
 use Rattle.cli_model.specs.Runs.{Terms, IsReportOf}
