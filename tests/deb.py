@@ -299,7 +299,9 @@ def examples(tally, place):
         place.empty()
         for script in scripts:
             at = re.match("// at (.*)", script.read_text())
+            rules = re.match("// at .*\n// rules (.*)", script.read_text())
             run = f"ledger {name}.journal run --workers 1 --plain-ids --at {at[1] if at else '2020-01-01T00:00:00.000Z'}"
+            run += f" --rules {rules[1]}" if rules else ""
             tally.same(script.name, place.run(run, script.read_bytes()), script.with_suffix(".report").read_text())
 
 

@@ -61,6 +61,9 @@ def inputs(program, journal):
     check(run(program, [journal] + RUN) == (0, b"", b""), "an empty script is done")
     fault = b"{status:2,fault:{session:1,transaction:0,kind:NotASession}}\n"
     check(run(program, [journal] + RUN, b"5") == (2, fault, b""), "5 is no script")
+    for rules, kind in [(b"", b"BadRules"), (b"5", b"BadRules"), (b"{s:[]} 5", b"NoSuchRules")]:
+        fault = b"{status:2,fault:{kind:" + kind + b"}}\n"
+        check(run(program, [journal] + RUN + ["--rules", "r"], rules) == (2, fault, b""), f"{rules} has no rules r")
     bundle = b"{status:7,fault:{code:1,field:\"count\"}}\n"
     for command in ["verify", "extract"]:
         check(run(program, [journal, command], b"5") == (7, bundle, b""), f"5 is no bundle for {command}")

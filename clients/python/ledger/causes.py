@@ -44,6 +44,8 @@ INPUT_KINDS = {
     "BadTimestamp": "a date or a time that doesn't exist",
     "BadBase64": "a blob that is no base64",
     "InputTooLong": "more than 16,777,216 bytes",
+    "BadRules": "the first value isn't named sets of rules",
+    "NoSuchRules": "no set of rules has the name",
     "NotASession": "a session is a list of transactions",
     "NotATransaction": "a transaction is a struct",
     "RepeatedField": "a field stands twice",
@@ -268,6 +270,9 @@ def outcome_words(path: str, outcome: Outcome) -> str:
         return f"the journal couldn't be written: {write_fault(path)}"
     if outcome.outcome == "refused":
         return f"statement {value['statement']} was {cause_text(value['cause'])}"
+    if outcome.outcome == "denied":
+        rule = "no rule allows it" if value.get("rule") is None else f"the rule {printable(str(value['rule']))} denies it"
+        return f"statement {value['statement']} was denied {value['action']} on {printable(str(value['table']))}: {rule}"
     words = {
         "conflict": f"conflict: block {value.get('block')} touched what it had read, at each try",
         "aborted": "aborted, as its script says",

@@ -247,6 +247,17 @@ class Aborted(NotCommitted):
     """It was aborted otherwise than its script asked for."""
 
 
+class Denied(NotCommitted):
+    """The rules deny one of its statements, counted from 1, an action on a table: by this rule, or by none."""
+
+    def __init__(self, outcome: Outcome, report: list[Outcome]) -> None:
+        super().__init__(outcome, report)
+        self.statement: int = outcome.value["statement"]
+        self.action: str = str(outcome.value["action"])
+        self.table: str = outcome.value["table"]
+        self.rule: str | None = outcome.value["rule"]
+
+
 class TransactionOutOfMemory(NotCommitted):
     """Its transaction found no memory."""
 
@@ -267,7 +278,7 @@ STATUSES: dict[int, type[StatusError]] = {
 }
 OUTCOMES: dict[str, type[NotCommitted]] = {
     "conflict": Conflict, "refused": Refused, "digest_differs": DigestDiffers, "store_fault": StoreFault,
-    "journal_full": JournalFull, "ids_spent": IdsSpent, "aborted": Aborted, "out_of_memory": TransactionOutOfMemory,
+    "journal_full": JournalFull, "ids_spent": IdsSpent, "aborted": Aborted, "denied": Denied, "out_of_memory": TransactionOutOfMemory,
 }
 
 

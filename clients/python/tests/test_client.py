@@ -62,6 +62,7 @@ class Outcomes(WithJournal):
             'conflict,tx:"x",since:3,block:3,item:{kind:table_list}}': Conflict, 'store_fault,tx:"x",count:1}': client.StoreFault,
             'journal_full,tx:"x",blocks:9}': client.JournalFull, "ids_spent,last:9}": client.IdsSpent,
             'aborted,tx:"x",since:1}': client.Aborted, "out_of_memory}": client.TransactionOutOfMemory,
+            'denied,statement:1,action:PartiQLInsert,table:"t",rule:null}': client.Denied,
         }
         for text, error in wanted.items():
             outcome = Outcome.of(ion.read_one("{session:1,transaction:1,outcome:" + text))

@@ -1,3 +1,4 @@
 mod Resolving
 mod Repeats
 mod Each
+mod Numbering

@@ -3,3 +3,4 @@ pub mod Demands
 pub mod Permission
 pub mod ReadRules
 pub mod Answers
+pub mod Scripts

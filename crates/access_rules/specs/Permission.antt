@@ -4,14 +4,15 @@ use Rattle.std.specs.Prelude.{ℕ, ◌+◌, ◌==◌, ◌&&◌, ◌||◌, not, B
 use Rattle.std.specs.List.{find, list_any}
 use Rattle.std.specs.Str.{bytes_eq}
 use denote.Enum.Bare.{sameb}
+use Rattle.ledger_model.specs.declared.script.Denial.{Denial}
 use Rattle.ledger_model.specs.declared.script.Request.{Request}
 use Rattle.access_rules.specs.contracts.rule.Action.{the_type as actions}
 use Rattle.access_rules.specs.declared.demand.Demand.{Demand}
-use Rattle.access_rules.specs.declared.demand.Denial.{Denial}
 use Rattle.access_rules.specs.declared.demand.Verdict.{Verdict}
 use Rattle.access_rules.specs.declared.demand.Verdict.TheVariants.{Allowed, Denied}
 use Rattle.access_rules.specs.declared.rule.Action.{Action}
 use Rattle.access_rules.specs.declared.rule.Rule.{Rule}
+use Rattle.access_rules.specs.Actions.{action_name}
 use Rattle.access_rules.specs.Demands.{demanded_by}
 
 -- ---- a rule meets a demand of a session
@@ -60,9 +61,13 @@ verdict rules session (d ∷ ds) = or_next (judged rules session d) (verdict rul
 
 -- ---- the statements of a job
 
+abbrev pub denial : ℕ → Demand → Option (List ℕ) → Denial
+denial number d rule =
+    record { statement = number; action = action_name d.action; table = d.table; rule = rule }
+
 abbrev pub denial_or : ℕ → Verdict → Option Denial → Option Denial
 denial_or number Allowed next = next
-denial_or number (Denied d rule) next = Some (record { statement = number; demand = d; rule = rule })
+denial_or number (Denied d rule) next = Some (denial number d rule)
 
 -- of the statements, of which the first has this number, the first that is denied
 abbrev pub denied_from : List Rule → ℕ → ℕ → List Request → Option Denial

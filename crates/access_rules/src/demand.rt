@@ -19,12 +19,3 @@ pub enum Verdict {
     Allowed,
     Denied { demand: Demand, rule: Option<Text> },
 }
-
-/// What of a transaction is denied: its statement of this number, counted from 1, whose demand the rule
-/// of that name denies, or no rule allows.
-#[derive(Drop)]
-pub struct Denial {
-    pub statement: u32,
-    pub demand: Demand,
-    pub rule: Option<Text>,
-}

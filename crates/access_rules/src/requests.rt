@@ -4,12 +4,13 @@ ghost use Rattle.pql_model.specs.Parse.{parsed};
 ghost use Rattle.access_rules.specs.Demands.{demanded_by, demanded_of, tree};
 ghost use Rattle.access_rules.specs.Permission as spec;
 
-use crate::demand::{Denial, Verdict};
+use crate::demand::{Demand, Verdict};
 use crate::judging::judge;
 use crate::rule::Rules;
 use crate::statements::demands;
+use containers::Text;
 use ion_values::{OutOfMemory, Value};
-use ledger_model::Request;
+use ledger_model::{Denial, Request};
 use pql_model::{Statement, parameters};
 use pql_parse::{ParseAnswer, parse};
 use std::alloc::Global;
@@ -36,15 +37,30 @@ pub fn denied(
         match judge_request(alloc, rules, session, request)? {
             Verdict::Allowed => {}
             Verdict::Denied { demand, rule } => {
-                return Ok(Some(Denial {
-                    statement,
-                    demand,
-                    rule,
-                }));
+                let denial = denial(alloc, statement, demand, rule)?;
+                return Ok(Some(denial));
             }
         }
     }
     Ok(None)
+}
+
+/// What is denied of the statement of that number, by this rule or by none.
+fn denial(
+    alloc: Global,
+    statement: u32,
+    demand: Demand,
+    rule: Option<Text>,
+) -> Result<Denial, OutOfMemory>
+    ensures { IfOk result (λ denial. denial ≡ spec.denial statement demand rule) }
+{
+    let action = Text::from_text(alloc, demand.action.name())?;
+    Ok(Denial {
+        statement,
+        action,
+        table: demand.table,
+        rule,
+    })
 }
 
 /// Whether the rules allow what the request demands.

@@ -15,7 +15,7 @@ mod values;
 pub use checked::{CheckedBlock, checked_from_ion};
 pub use read_blocks::{from_ion, values_tell_blocks};
 pub use read_revisions::revision_in;
-pub use revisions::revision_value;
+pub use revisions::{metadata_value, revision_value};
 pub use seals::{
     Valued, header_hash, revision_hash, seal, seal_revision, seal_with_value, strand_hash,
 };

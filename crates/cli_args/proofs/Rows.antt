@@ -15,16 +15,16 @@ no_command : asked (codes "frobnicate" ∷ []) ≡ None
 no_command = refl
 
 plain_run : asked (codes "run" ∷ codes "--plain-ids" ∷ [])
-    ≡ Some (command.Run (record { ids = ids.Plain; time = None; workers = 4 }))
+    ≡ Some (command.Run (record { ids = ids.Plain; time = None; workers = 4; rules = None }))
 unfolding found_in walk_fault defaults_fault walked run_app
 plain_run = refl
 
-bare_run : asked (codes "run" ∷ []) ≡ Some (command.Run (record { ids = ids.FirstAnswer; time = None; workers = 4 }))
+bare_run : asked (codes "run" ∷ []) ≡ Some (command.Run (record { ids = ids.FirstAnswer; time = None; workers = 4; rules = None }))
 unfolding found_in walk_fault defaults_fault walked run_app
 bare_run = refl
 
 seeded_run : asked (codes "run" ∷ codes "--seed" ∷ codes "1" ∷ [])
-    ≡ Some (command.Run (record { ids = ids.Seed 1; time = None; workers = 4 }))
+    ≡ Some (command.Run (record { ids = ids.Seed 1; time = None; workers = 4; rules = None }))
 unfolding found_in walk_fault defaults_fault walked run_app number_of
 seeded_run = refl
 
@@ -100,9 +100,19 @@ unfolding found_in walk_fault defaults_fault walked audit_app
 word_more = refl
 
 workers : asked (codes "run" ∷ codes "--plain-ids" ∷ codes "--workers" ∷ codes "64" ∷ [])
-    ≡ Some (command.Run (record { ids = ids.Plain; time = None; workers = 64 }))
+    ≡ Some (command.Run (record { ids = ids.Plain; time = None; workers = 64; rules = None }))
 unfolding found_in walk_fault defaults_fault walked run_app number_of
 workers = refl
+
+under_rules : asked (codes "run" ∷ codes "--rules" ∷ codes "clerks" ∷ codes "--plain-ids" ∷ [])
+    ≡ Some (command.Run (record { ids = ids.Plain; time = None; workers = 4; rules = Some (codes "clerks") }))
+unfolding found_in walk_fault defaults_fault walked run_app
+under_rules = refl
+
+-- an option without its value
+no_name : asked (codes "run" ∷ codes "--plain-ids" ∷ codes "--rules" ∷ []) ≡ None
+unfolding found_in walk_fault defaults_fault walked run_app
+no_name = refl
 
 no_workers : asked (codes "run" ∷ codes "--workers" ∷ codes "0" ∷ []) ≡ None
 unfolding found_in walk_fault defaults_fault walked run_app number_of

@@ -31,12 +31,12 @@ bare_app name =
     on_top (λ s. record s { no_binary_name = true; disable_help_flag = true; disable_version_flag = true })
     (new_app name)
 
--- `run [--seed S] [--plain-ids] [--at TIME] [--workers N]`
+-- `run [--seed S] [--plain-ids] [--at TIME] [--workers N] [--rules NAME]`
 unfoldable pub run_app : App
 run_app =
-    with_rule (with_rule
+    with_rule (with_rule (with_rule
     (with_rule (with_rule (bare_app (codes "run")) (option_rule (codes "seed"))) (flag_rule (codes "plain-ids")))
-    (option_rule (codes "at"))) (option_rule (codes "workers"))
+    (option_rule (codes "at"))) (option_rule (codes "workers"))) (option_rule (codes "rules"))
 
 -- `digest [--tip N]`
 unfoldable pub digest_app : App

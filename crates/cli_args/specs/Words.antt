@@ -1,5 +1,5 @@
 -- What the words of the command line ask for.
-use Rattle.std.specs.Prelude.{ℕ, ◌*◌, nat_lt, Bool, true, false, List, [], ◌∷◌, Option, Some, None, option_and_then, option_map, codes, if◌then◌else◌}
+use Rattle.std.specs.Prelude.{ℕ, ℤ, ◌*◌, nat_lt, Bool, true, false, List, [], ◌∷◌, Option, Some, None, option_and_then, option_map, codes, if◌then◌else◌}
 use Rattle.std.specs.Option.{option_map_or}
 use Rattle.std.specs.Str.{bytes_eq}
 use Rattle.clap.specs.Words.{Row, Text, first_of}
@@ -11,6 +11,7 @@ use Rattle.cli_args.specs.declared.Command.TheVariants as command
 use Rattle.cli_args.specs.declared.IdSource.{IdSource}
 use Rattle.cli_args.specs.declared.IdSource.TheVariants as ids
 use Rattle.cli_args.specs.declared.MakeOptions.{MakeOptions}
+use Rattle.cli_args.specs.declared.RunOptions.{RunOptions}
 
 -- ---- values
 
@@ -49,10 +50,15 @@ workers_of rows = workers_in (first_of (codes "workers") rows)
 
 -- ---- commands
 
+-- with the name of the rules, if one is given
+abbrev pub options_of : IdSource → Option ℤ → ℕ → List Row → RunOptions
+options_of source time workers rows =
+    record { ids = source; time = time; workers = workers; rules = first_of (codes "rules") rows }
+
 abbrev pub run_of : List Row → Option Command
 run_of rows =
     option_and_then (λ source. option_and_then (λ time.
-    option_map (λ workers. command.Run (record { ids = source; time = time; workers = workers })) (workers_of rows))
+    option_map (λ workers. command.Run (options_of source time workers rows)) (workers_of rows))
     (at_will time_of (first_of (codes "at") rows))) (ids_of rows)
 
 abbrev pub tip_of : List Row → Option (Option ℕ)

@@ -1,7 +1,7 @@
 //! The commands, each from the words behind its own.
 ghost use Rattle.std.specs.Prelude.{◌≡◌, map, string_bytes, option_map, option_and_then};
 ghost use Rattle.cli_args.specs.Forms as form;
-ghost use Rattle.cli_args.specs.Forms.{Gives, found_in, rows_in};
+ghost use Rattle.cli_args.specs.Forms.{Gives, extract_app, found_in, rows_in};
 ghost use Rattle.cli_args.specs.Words as spec;
 
 use crate::forms::{
@@ -9,7 +9,8 @@ use crate::forms::{
     verify_form,
 };
 use crate::values::{
-    count_at, ids_of, number_at, number_at_will, small_number_at, time_at_will, workers_of,
+    count_at, ids_of, number_at, number_at_will, small_number_at, text_at_will, time_at_will,
+    workers_of,
 };
 use crate::{Command, MakeOptions, RunOptions, WordsFault};
 use clap::ArgMatches;
@@ -38,7 +39,13 @@ fn run_of(alloc: Global, found: &ArgMatches<'_>) -> Result<Command, WordsFault>
     let ids = ids_of(found).ok_or(WordsFault::Refused)?;
     let time = time_at_will(alloc, found, "at")?;
     let workers = workers_of(found).ok_or(WordsFault::Refused)?;
-    Ok(Command::Run(RunOptions { ids, time, workers }))
+    let rules = text_at_will(alloc, found, "rules")?;
+    Ok(Command::Run(RunOptions {
+        ids,
+        time,
+        workers,
+        rules,
+    }))
 }
 
 /// What the words behind `digest` ask for.
@@ -87,7 +94,7 @@ pub fn verify_in(alloc: Global, words: &[String]) -> Result<Command, WordsFault>
 
 /// What the words behind `extract` ask for.
 pub fn extract_in(alloc: Global, words: &[String]) -> Result<Command, WordsFault>
-    ensures { Gives result (option_map (λ _. Command.Extract) (found_in form.extract_app (map string_bytes words.now))) }
+    ensures { Gives result (option_map (λ _. Command.Extract) (found_in extract_app (map string_bytes words.now))) }
 {
     let _found = found_in(extract_form(alloc), words)?;
     Ok(Command::Extract)

@@ -9,7 +9,7 @@ use clap::error::ErrorKind;
 use clap::{Arg, ArgAction, ArgMatches, Command, Error};
 use std::alloc::{AllocError, Global};
 
-/// `run [--seed S] [--plain-ids] [--at TIME] [--workers N]`.
+/// `run [--seed S] [--plain-ids] [--at TIME] [--workers N] [--rules NAME]`.
 #[tactic(auto, unfolding(crate::specs::Forms::run_app))]
 pub fn run_form<'a>(alloc: Global) -> Result<Command<'a>, AllocError>
     ensures app { IfOk result (λ form. app_of form ≡ spec.run_app) }
@@ -18,7 +18,8 @@ pub fn run_form<'a>(alloc: Global) -> Result<Command<'a>, AllocError>
     let form = with(bare(alloc, "run"), option(alloc, "seed"))?;
     let form = with(form, flag(alloc, "plain-ids"))?;
     let form = with(form, option(alloc, "at"))?;
-    with(form, option(alloc, "workers"))
+    let form = with(form, option(alloc, "workers"))?;
+    with(form, option(alloc, "rules"))
 }
 
 /// `digest [--tip N]`.

@@ -13,10 +13,11 @@ mod times;
 mod values;
 
 use commands::{audit_in, digest_in, export_in, extract_in, make_in, prove_in, run_in, verify_in};
+use ion_values::{OutOfMemory, Text};
 use std::alloc::{AllocError, Global};
 
 /// A command of the program, with what its words say of it. Blocks and revisions are counted from 0.
-#[derive(Clone, Copy, Debug, PartialEq, Eq)]
+#[derive(Debug, Drop)]
 pub enum Command {
     /// Runs the script of the input.
     Run(RunOptions),
@@ -44,7 +45,7 @@ pub enum Command {
 }
 
 /// What the words of `run` say.
-#[derive(Clone, Copy, Debug, PartialEq, Eq)]
+#[derive(Debug, Drop)]
 pub struct RunOptions {
     /// Where the mask of the ids comes from.
     pub ids: IdSource,
@@ -53,6 +54,8 @@ pub struct RunOptions {
     pub time: Option<i64>,
     /// How many workers run the sessions, 1 to 64.
     pub workers: u32,
+    /// The name of the rules that the input's first value holds, or none if it holds none.
+    pub rules: Option<Text>,
 }
 
 /// What the words of `make` say.
@@ -94,6 +97,17 @@ impl From<AllocError> for WordsFault {
     ghost from_gives = { λ _ e. e ≡ fault.OutOfMemory };
 
     fn from(_error: AllocError) -> WordsFault {
+        WordsFault::OutOfMemory
+    }
+}
+
+impl From<OutOfMemory> for WordsFault {
+    ghost use Rattle.std.specs.Prelude.{◌≡◌};
+    ghost use Rattle.cli_args.specs.declared.WordsFault.TheVariants as fault;
+
+    ghost from_gives = { λ _ e. e ≡ fault.OutOfMemory };
+
+    fn from(_error: OutOfMemory) -> WordsFault {
         WordsFault::OutOfMemory
     }
 }

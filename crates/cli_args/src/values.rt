@@ -1,5 +1,5 @@
 //! The values among what was found in a command's words.
-ghost use Rattle.std.specs.Prelude.{◌≡◌, option_map, codes};
+ghost use Rattle.std.specs.Prelude.{◌≡◌, option_map, codes, IfOk};
 ghost use Rattle.clap.specs.Words.{first_of};
 ghost use Rattle.cli_args.specs.Forms.{Gives, rows_in};
 ghost use Rattle.cli_args.specs.Numbers.{count_of, number_of};
@@ -11,6 +11,7 @@ use crate::numbers::{count_of, number_of, small_number_of};
 use crate::times::time_of;
 use crate::{IdSource, WordsFault};
 use clap::ArgMatches;
+use ion_values::{OutOfMemory, Text};
 use std::alloc::Global;
 
 /// The most workers of a run.
@@ -56,6 +57,20 @@ pub fn time_at_will(
 {
     match word_of(found, name) {
         Some(word) => Ok(Some(time_of(alloc, word)?)),
+        None => Ok(None),
+    }
+}
+
+/// A copy of the word that was given for an option, if one was.
+pub fn text_at_will(
+    alloc: Global,
+    found: &ArgMatches<'_>,
+    name: &str,
+) -> Result<Option<Text>, OutOfMemory>
+    ensures { IfOk result (λ text. text ≡ first_of name.now (rows_in found.now)) }
+{
+    match word_of(found, name) {
+        Some(word) => Ok(Some(Text::from_text(alloc, word)?)),
         None => Ok(None),
     }
 }

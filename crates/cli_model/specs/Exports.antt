@@ -1,5 +1,5 @@
--- The command `export`, which writes the blocks of a journal in Ion's binary encoding (Amazon Ion 1.0 specification, "Ion
--- Binary Encoding").
+-- The command `export`, which writes the blocks of a journal in Ion's binary encoding (Amazon Ion 1.0 specification,
+-- "Ion Binary Encoding").
 use Rattle.std.specs.Prelude.{◌≡◌, ℕ, List, map}
 use Rattle.ion_binary_out.specs.BinaryText.{Denotes, binary_text}
 use Rattle.ion_values.specs.declared.value.Value.{Value}

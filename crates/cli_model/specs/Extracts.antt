@@ -1,5 +1,5 @@
--- The command `extract`: the revision of an accepted proof in the journal of its digest, or two different byte strings of
--- equal SHA-256 (QLDB Developer Guide, "Data verification in Amazon QLDB", for digests and proofs).
+-- The command `extract`: the revision of an accepted proof in the journal of its digest, or two different byte strings
+-- of equal SHA-256 (QLDB Developer Guide, "Data verification in Amazon QLDB", for digests and proofs).
 use Rattle.std.specs.Prelude.{◌≡◌, ◌⊎◌, ℕ, List, Some}
 use Rattle.ion_values.specs.declared.value.Value.{Value}
 use Rattle.ledger_model.specs.declared.block.Block.{Block}

@@ -1,13 +1,13 @@
 -- How the input of a call is read, and the script or the bundle that it spells.
-use Rattle.std.specs.Prelude.{◌≡◌, ◌<◌, ◌≤◌, ℕ, List, length, Ok, Err}
+use Rattle.std.specs.Prelude.{◌≡◌, ◌<◌, ◌≤◌, ℕ, List, length, Option, Ok, Err}
 use Rattle.ion_model.specs.Read.{read_text}
 use Rattle.ion_values.specs.declared.fault.IonFault.{IonFault}
 use Rattle.ion_values.specs.declared.value.Value.{Value}
 use Rattle.ledger_model.specs.declared.script.Job.{Job}
-use Rattle.ledger_model.specs.Judging.{Judged, faulty, misspelt, scripted, judged}
 use Rattle.outside.specs.Told.{SourceTold}
 use Rattle.laws_history.specs.Calls.{Span}
 use Rattle.laws_history.specs.Streams.{Taken, WasRead}
+use Rattle.cli_model.specs.Judging.{Judged, bad_rules, faulty, judged, misspelt, no_such_rules, scripted}
 use Rattle.cli_model.specs.Lines.{BadInput}
 use Rattle.cli_model.specs.Lines as bad
 
@@ -38,26 +38,28 @@ SourceFailed source = source.before.faults < source.after.faults
 
 -- ---- scripts
 
--- the whole input was read, and it is judged so
-pub record IsJudged (source : Span SourceTold) (what : Judged) : Type 0 where
+-- the whole input was read, and it is judged so, under the rules of that name or under none
+pub record IsJudged (rules : Option (List ℕ)) (source : Span SourceTold) (what : Judged) : Type 0 where
   pub input : List ℕ
   pub read : WasRead source input
-  pub judged_is : judged input ≡ what
+  pub judged_is : judged rules input ≡ what
 
--- the input spells this script
-abbrev pub HasScript : Span SourceTold → List (List Job) → Type 0
-HasScript source script = IsJudged source (scripted script)
+-- the input spells this script, under the rules that it holds
+abbrev pub HasScript : Option (List ℕ) → Span SourceTold → List (List Job) → Type 0
+HasScript rules source script = IsJudged rules source (scripted script)
 
 -- the whole input was read, and it is a script
-pub record SpellsScript (source : Span SourceTold) : Type 0 where
+pub record SpellsScript (rules : Option (List ℕ)) (source : Span SourceTold) : Type 0 where
   pub script : List (List Job)
-  pub has : HasScript source script
+  pub has : HasScript rules source script
 
 -- why the input is no script
-abbrev pub IsNoScript : BadInput → Span SourceTold → Type 0
-IsNoScript bad.too_long source = IsTooLong source
-IsNoScript (bad.faulty fault) source = IsJudged source (faulty fault)
-IsNoScript (bad.misspelt fault) source = IsJudged source (misspelt fault)
+abbrev pub IsNoScript : Option (List ℕ) → BadInput → Span SourceTold → Type 0
+IsNoScript rules bad.too_long source = IsTooLong source
+IsNoScript rules (bad.faulty fault) source = IsJudged rules source (faulty fault)
+IsNoScript rules bad.bad_rules source = IsJudged rules source bad_rules
+IsNoScript rules bad.no_such_rules source = IsJudged rules source no_such_rules
+IsNoScript rules (bad.misspelt fault) source = IsJudged rules source (misspelt fault)
 
 -- ---- values
 
@@ -79,4 +81,6 @@ pub record HasNoValues (source : Span SourceTold) (fault : IonFault) : Type 0 wh
 abbrev pub IsNoText : BadInput → Span SourceTold → Type 0
 IsNoText bad.too_long source = IsTooLong source
 IsNoText (bad.faulty fault) source = HasNoValues source fault
+IsNoText bad.bad_rules source = ⊥
+IsNoText bad.no_such_rules source = ⊥
 IsNoText (bad.misspelt fault) source = ⊥

@@ -4,6 +4,7 @@ pub mod Claims
 pub mod Clocks
 pub mod Inputs
 pub mod Journals
+pub mod Judging
 pub mod Lines
 pub mod FirstAlone
 pub mod Making

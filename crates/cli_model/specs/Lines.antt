@@ -34,6 +34,8 @@ fault_line text = codes "{status:2,fault:{" ++ text ++ codes "}}" ++ 10 ∷ []
 pub data BadInput : Type 0 where
   too_long : BadInput
   faulty : IonFault → BadInput
+  bad_rules : BadInput
+  no_such_rules : BadInput
   misspelt : ScriptFault → BadInput
 
 abbrev pub kind_name : IonKind → List ℕ
@@ -68,6 +70,8 @@ script_fault_text f =
 abbrev pub fault_text : BadInput → List ℕ
 fault_text too_long = codes "kind:InputTooLong"
 fault_text (faulty f) = codes "at:" ++ decimal f.at ++ codes ",kind:" ++ kind_name f.kind
+fault_text bad_rules = codes "kind:BadRules"
+fault_text no_such_rules = codes "kind:NoSuchRules"
 fault_text (misspelt f) = script_fault_text f
 
 abbrev pub input_line : BadInput → List ℕ

@@ -73,7 +73,8 @@ pub record TellsMade (terms : Terms) (workers : ℕ) (jobs : List Placed) (store
 -- so were all jobs of the workload, or if memory ran out after the first transaction, that one
 abbrev pub TellsWorkload : MakeOptions → Span StoreTold → Span Answers → Type 0
 TellsWorkload o store clock =
-    TellsMade (made_terms o clock) o.workers (made_jobs o) store ⊎ TellsMade (made_terms o clock) 1 (first_job ∷ []) store
+    TellsMade (made_terms o clock) o.workers (made_jobs o) store
+    ⊎ TellsMade (made_terms o clock) 1 (first_job ∷ []) store
 
 -- ---- the claim
 

@@ -95,7 +95,7 @@ pub record TellsRun (terms : Terms) (workers : ℕ) (jobs : List Placed) (store 
 -- the whole input was read, it is a script, and this is the report of its run with these options
 pub record Reports (o : RunOptions) (x : Outside) (text : List ℕ) : Type 0 where
   pub script : List (List Job)
-  pub has : HasScript x.source script
+  pub has : HasScript o.rules x.source script
   pub terms : Terms
   pub are : AreTerms o x.clock terms
   pub reported : IsReportOf terms o.workers (all_placed script) x.store text
@@ -103,7 +103,7 @@ pub record Reports (o : RunOptions) (x : Outside) (text : List ℕ) : Type 0 whe
 -- the store holds the journal of such a run or a part of one
 pub record HoldsAsked (o : RunOptions) (x : Outside) : Type 0 where
   pub script : List (List Job)
-  pub has : HasScript x.source script
+  pub has : HasScript o.rules x.source script
   pub terms : Terms
   pub are : AreTerms o x.clock terms
   pub holds : HoldsRun terms o.workers (all_placed script) x.store
@@ -115,26 +115,27 @@ LeavesRun o x = IsStill x.store ⊎ HoldsAsked o x
 -- such a run's outcomes say how often the store has failed
 pub record TellsAsked (o : RunOptions) (x : Outside) : Type 0 where
   pub script : List (List Job)
-  pub has : HasScript x.source script
+  pub has : HasScript o.rules x.source script
   pub terms : Terms
   pub are : AreTerms o x.clock terms
   pub tells : TellsRun terms o.workers (all_placed script) x.store
 
 -- ---- the claim
 
--- At 2 the input is refused, and at 4 the source failed, before the store is called. At 3 the input is a script, and
--- the journal is damaged. At 5 it is one, and the store failed when the journal was read or was to be cut at the end.
-abbrev pub RunRefuses : Type 0 → Outside → Status → List ℕ → Type 0
-RunRefuses same x status line =
-    ((status ≡ bad_input) × BadInputLine (λ cause. IsNoScript cause x.source) line × IsUncalled same x.store)
-    ⊎ ((status ≡ damaged) × SpellsScript x.source × DamagedLine x line)
+-- At 2 the input is refused, also for its rules, and at 4 the source failed, before the store is called. At 3 the input
+-- is a script, and the journal is damaged. At 5 it is one, and the store failed when the journal was read or was to be
+-- cut at the end.
+abbrev pub RunRefuses : Type 0 → RunOptions → Outside → Status → List ℕ → Type 0
+RunRefuses same o x status line =
+    ((status ≡ bad_input) × BadInputLine (λ cause. IsNoScript o.rules cause x.source) line × IsUncalled same x.store)
+    ⊎ ((status ≡ damaged) × SpellsScript o.rules x.source × DamagedLine x line)
     ⊎ ((status ≡ source_failed) × SourceLine x line × IsUncalled same x.store)
-    ⊎ ((status ≡ store_failed) × SpellsScript x.source × StoreLine x line)
+    ⊎ ((status ≡ store_failed) × SpellsScript o.rules x.source × StoreLine x line)
 
 abbrev pub runs : RunOptions → Claim
 runs o = record {
   gives = Reports o;
-  refuses = RunRefuses;
+  refuses = λ same. RunRefuses same o;
   keeps = λ same x. LeavesRun o x;
   tells = TellsAsked o;
 }

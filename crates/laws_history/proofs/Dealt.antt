@@ -2,7 +2,7 @@
 use Rattle.std.proofs.Common.{◌≡◌, ◌⊎◌, ℕ, zero, suc, ◌+◌, ◌%◌, ◌≤◌, Bool, true, false, cond, List, [], ◌∷◌, map, sym, refl, ap, ◌∙◌, inl, inr, arith, eqb-true, eq-eqb, ne_eqb}
 use Rattle.std.specs.List.{AllByRecursion, filter}
 use Rattle.ledger_model.specs.declared.outcome.Outcome.{Outcome}
-use Rattle.ledger_model.specs.declared.outcome.Outcome.TheVariants.{Committed, Conflict, Refused, DigestDiffers, StoreFault, JournalFull, IdsSpent, Aborted, OutOfMemory}
+use Rattle.ledger_model.specs.declared.outcome.Outcome.TheVariants.{Committed, Conflict, Refused, DigestDiffers, StoreFault, JournalFull, IdsSpent, Aborted, Denied, OutOfMemory}
 use Rattle.ledger_model.specs.Script.{Placed}
 use Rattle.turn_lock.specs.History.{Stands}
 use Rattle.laws_history.specs.Records.{attempts, InOrder, IsBehind}
@@ -155,6 +155,7 @@ one_more (StoreFault tx count) = refl
 one_more (JournalFull tx blocks) = refl
 one_more (IdsSpent last) = refl
 one_more (Aborted tx since) = refl
+one_more (Denied statement action table rule) = refl
 one_more OutOfMemory = refl
 
 pub draws_most : (ss : List Served) → all_may_draw ss ≤ attempts (map (λ (s : Served). s.placed) ss)

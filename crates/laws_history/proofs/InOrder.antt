@@ -8,7 +8,7 @@ use mathlib.Core.List.{IsPrefix}
 use Rattle.ql_types.specs.Ids.{raw_id, transaction_in}
 use Rattle.ledger_model.specs.declared.block.Block.{Block}
 use Rattle.ledger_model.specs.declared.outcome.Outcome.{Outcome}
-use Rattle.ledger_model.specs.declared.outcome.Outcome.TheVariants.{Committed, Conflict, Refused, DigestDiffers, StoreFault, JournalFull, IdsSpent, Aborted, OutOfMemory}
+use Rattle.ledger_model.specs.declared.outcome.Outcome.TheVariants.{Committed, Conflict, Refused, DigestDiffers, StoreFault, JournalFull, IdsSpent, Aborted, Denied, OutOfMemory}
 use Rattle.ledger_model.specs.declared.outcome.PlacedOutcome.{PlacedOutcome}
 use Rattle.ledger_model.specs.Script.{Placed}
 use Rattle.turn_lock.specs.declared.view.Known.{Known}
@@ -52,6 +52,7 @@ drawn_told (StoreFault tx count) h = omega arith
 drawn_told (JournalFull tx blocks) h = omega arith
 drawn_told (IdsSpent last) h = omega arith
 drawn_told (Aborted tx since) h = omega arith
+drawn_told (Denied statement action table rule) h = omega arith
 drawn_told OutOfMemory h = absurd (h refl)
 
 draws_one : (x : Outcome) → draws x ≤ 1
@@ -63,6 +64,7 @@ draws_one (StoreFault tx count) = omega arith
 draws_one (JournalFull tx blocks) = omega arith
 draws_one (IdsSpent last) = omega arith
 draws_one (Aborted tx since) = omega arith
+draws_one (Denied statement action table rule) = omega arith
 draws_one OutOfMemory = omega arith
 
 spent_draws : (x : Outcome) → is_spent x ≡ true → draws x ≡ 0
@@ -74,6 +76,7 @@ spent_draws (StoreFault tx count) e = let bad : ⊥ = cc e in absurd bad
 spent_draws (JournalFull tx blocks) e = let bad : ⊥ = cc e in absurd bad
 spent_draws (IdsSpent last) e = refl
 spent_draws (Aborted tx since) e = let bad : ⊥ = cc e in absurd bad
+spent_draws (Denied statement action table rule) e = let bad : ⊥ = cc e in absurd bad
 spent_draws OutOfMemory e = let bad : ⊥ = cc e in absurd bad
 
 calm_drawn : (ls : List Link) → AllByRecursion (λ (l : Link). l.tries ≡ 0) ls

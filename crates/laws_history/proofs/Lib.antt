@@ -20,6 +20,7 @@ pub mod Fitting
 pub mod Tried
 pub mod Pairs
 pub mod Made
+mod Denials
 pub mod NoConflicts
 pub mod InRows
 pub mod InOrder

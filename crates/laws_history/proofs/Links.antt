@@ -8,7 +8,7 @@ use Rattle.ql_types.specs.declared.Place.{Place}
 use Rattle.ql_types.specs.declared.TxId.{TxId}
 use Rattle.ledger_model.specs.declared.outcome.Named.{Named}
 use Rattle.ledger_model.specs.declared.outcome.Outcome.{Outcome}
-use Rattle.ledger_model.specs.declared.outcome.Outcome.TheVariants.{Committed, Conflict, Refused, DigestDiffers, StoreFault, JournalFull, IdsSpent, Aborted, OutOfMemory}
+use Rattle.ledger_model.specs.declared.outcome.Outcome.TheVariants.{Committed, Conflict, Refused, DigestDiffers, StoreFault, JournalFull, IdsSpent, Aborted, Denied, OutOfMemory}
 use Rattle.ledger_model.specs.declared.script.Job.{Job}
 use Rattle.ledger_model.specs.Script.{Placed}
 use Rattle.session_driver.specs.Retries.{Conflicted, Retried, is_conflict}
@@ -105,6 +105,7 @@ retried_most job (StoreFault tx count') count f = omega arith
 retried_most job (JournalFull tx blocks) count f = omega arith
 retried_most job (IdsSpent last) count f = omega arith
 retried_most job (Aborted tx since) count f = omega arith
+retried_most job (Denied statement action table rule) count f = omega arith
 retried_most job OutOfMemory count f = omega arith
 
 retried_all : (job : Job) (x : Outcome) (count : ℕ) → (count < job.retries → is_conflict x ≡ false)
@@ -142,6 +143,7 @@ one_met o job place k now (StoreFault tx count) h c = let bad : ⊥ = cc c in ab
 one_met o job place k now (JournalFull tx blocks) h c = let bad : ⊥ = cc c in absurd bad
 one_met o job place k now (IdsSpent last) h c = let bad : ⊥ = cc c in absurd bad
 one_met o job place k now (Aborted tx since) h c = let bad : ⊥ = cc c in absurd bad
+one_met o job place k now (Denied statement action table rule) h c = let bad : ⊥ = cc c in absurd bad
 one_met o job place k now OutOfMemory h c = let bad : ⊥ = cc c in absurd bad
 
 -- attempts that all met conflicts draw a number each, and the pass has come past as many blocks more

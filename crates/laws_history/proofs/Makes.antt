@@ -38,6 +38,7 @@ is_committed other = false
 pub record IsTriedAs (o : Opening) (p : Placed) (x : Outcome) (front : List Entry) (b : Block) : Type 0 where
   pub untold : is_committed x ≡ false
   pub commits : p.job.abort ≡ false
+  pub admitted : p.job.denied ≡ None
   pub digest : SendsOwn p.job b.header.tx
   pub last : ℕ
   pub counted : last + 1 < 2 ^ 64

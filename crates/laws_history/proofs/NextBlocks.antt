@@ -1,5 +1,5 @@
 -- What holds of the block that a job becomes as the next transaction.
-use Rattle.std.proofs.Common.{◌≡◌, ℕ, ◌+◌, ◌-◌, ◌^◌, ◌<◌, false, List, [], ◌∷◌, ◌++◌, length, map, refl, sym, ap, subst, ◌∙◌}
+use Rattle.std.proofs.Common.{◌≡◌, ℕ, ◌+◌, ◌-◌, ◌^◌, ◌<◌, false, List, [], ◌∷◌, ◌++◌, length, map, None, refl, sym, ap, subst, ◌∙◌}
 use Rattle.ion_values.specs.declared.time.TimeParts.{TimeParts}
 use Rattle.ql_types.specs.declared.Place.{Place}
 use Rattle.ledger_model.specs.declared.block.Block.{Block}
@@ -26,6 +26,7 @@ pub record IsNextBlock (s : Standing) (time : TimeParts) (p : Placed) (b : Block
   pub made : IsMadeOf (next s) s.blocks p.place time p.job.statements b
   pub undamaged : Undamaged (s.blocks ++ b ∷ [])
   pub commits : p.job.abort ≡ false
+  pub admitted : p.job.denied ≡ None
   pub room : length s.blocks < 2 ^ 32 - 1
   pub counted : s.last + 1 < 2 ^ 64
 
@@ -79,4 +80,5 @@ module _ (s : Standing) (time : TimeParts) (p : Placed) (b : Block) (is : IsNext
         ap (λ (x : Block). asked_in (said_in x.info.said)) block_is
         ∙ said_of_run (next s) (state s.blocks) p.job.statements is.made.progress is.made.runs;
     commits = is.commits;
+    admitted = is.admitted;
   }

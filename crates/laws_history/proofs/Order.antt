@@ -7,7 +7,7 @@ use mathlib.Core.List.{IsPrefix}
 use Rattle.ql_types.specs.Ids.{raw_id, transaction_in}
 use Rattle.ql_types.specs.declared.TxId.{TxId}
 use Rattle.ledger_model.specs.declared.outcome.Outcome.{Outcome}
-use Rattle.ledger_model.specs.declared.outcome.Outcome.TheVariants.{Committed, Conflict, Refused, DigestDiffers, StoreFault, JournalFull, IdsSpent, Aborted, OutOfMemory}
+use Rattle.ledger_model.specs.declared.outcome.Outcome.TheVariants.{Committed, Conflict, Refused, DigestDiffers, StoreFault, JournalFull, IdsSpent, Aborted, Denied, OutOfMemory}
 use Rattle.ledger_model.specs.declared.outcome.PlacedOutcome.{PlacedOutcome}
 use Rattle.ledger_model.specs.Script.{Placed}
 use Rattle.turn_lock.specs.declared.view.Known.{Known}
@@ -130,6 +130,7 @@ module _ (t : RunRecord) (ss : List Served) (es : List Entry) (pass_of : ℕ →
   past_fewer p (DigestDiffers tx since mine given) low high less h = tt
   past_fewer p (IdsSpent last) low high less h = tt
   past_fewer p (Aborted tx since) low high less h = tt
+  past_fewer p (Denied statement action table rule) low high less h = tt
   past_fewer p OutOfMemory low high less h = tt
 
   past_all : (p : Placed) (x : Outcome) (few many : ℕ) (behind : Option ℕ) → few ≤ many → IfSome behind (λ m. m ≤ few)

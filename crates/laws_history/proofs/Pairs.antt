@@ -4,7 +4,7 @@ use Rattle.std.specs.List.{AllByRecursion}
 use Rattle.ql_types.specs.declared.Place.{Place}
 use Rattle.ledger_model.specs.declared.block.Block.{Block}
 use Rattle.ledger_model.specs.declared.outcome.Outcome.{Outcome}
-use Rattle.ledger_model.specs.declared.outcome.Outcome.TheVariants.{Committed, Conflict, Refused, DigestDiffers, StoreFault, JournalFull, IdsSpent, Aborted, OutOfMemory}
+use Rattle.ledger_model.specs.declared.outcome.Outcome.TheVariants.{Committed, Conflict, Refused, DigestDiffers, StoreFault, JournalFull, IdsSpent, Aborted, Denied, OutOfMemory}
 use Rattle.ledger_model.specs.declared.outcome.PlacedOutcome.{PlacedOutcome}
 use Rattle.ledger_model.specs.Script.{Placed}
 use Rattle.turn_lock.specs.History.{Stands}
@@ -146,4 +146,5 @@ no_block t p (StoreFault tx count) h e = (h.0).blockless
 no_block t p (JournalFull tx blocks) h e = (h.0).blockless
 no_block t p (IdsSpent last) h e = h.blockless
 no_block t p (Aborted tx since) h e = h.blockless
+no_block t p (Denied statement action table rule) h e = h.blockless
 no_block t p OutOfMemory h e = h

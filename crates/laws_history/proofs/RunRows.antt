@@ -15,7 +15,8 @@ use Rattle.ledger_model.specs.declared.block.Schema.TheVariants.{Create}
 use Rattle.ledger_model.specs.declared.outcome.Item.{Item}
 use Rattle.ledger_model.specs.declared.outcome.Item.TheVariants as item
 use Rattle.ledger_model.specs.declared.outcome.Named.{Named}
-use Rattle.ledger_model.specs.declared.outcome.Outcome.TheVariants.{Committed, Conflict}
+use Rattle.ledger_model.specs.declared.outcome.Outcome.TheVariants.{Committed, Conflict, Denied}
+use Rattle.ledger_model.specs.declared.script.Denial.{Denial}
 use Rattle.ledger_model.specs.declared.script.Job.{Job}
 use Rattle.ledger_model.specs.declared.script.Request.{Request}
 use Rattle.ledger_model.specs.Damages.{Undamaged}
@@ -64,10 +65,10 @@ abbrev did_u : ℕ → Progress
 did_u n = did n (codes "CREATE TABLE u") (codes "u")
 
 abbrev job_t : Job
-job_t = record { statements = creates (codes "CREATE TABLE t") ∷ []; retries = 0; digest = None; abort = false }
+job_t = record { statements = creates (codes "CREATE TABLE t") ∷ []; retries = 0; digest = None; abort = false; denied = None }
 
 abbrev job_u : Job
-job_u = record { statements = creates (codes "CREATE TABLE u") ∷ []; retries = 1; digest = None; abort = false }
+job_u = record { statements = creates (codes "CREATE TABLE u") ∷ []; retries = 1; digest = None; abort = false; denied = None }
 
 abbrev numbered : ℕ → Begun
 numbered n = record { mask = 5; number = n }
@@ -204,6 +205,7 @@ module _ (time : TimeParts) where
       progress = did_u 1;
       ends = runs_u;
       commits = refl;
+      admitted = refl;
     };
     digest = tt;
     since_is = refl;
@@ -225,6 +227,7 @@ module _ (time : TimeParts) where
       progress = did_u 3;
       ends = runs_again;
       commits = refl;
+      admitted = refl;
     };
     digest = tt;
     made = second;
@@ -259,6 +262,7 @@ module _ (time : TimeParts) where
       progress = did_t;
       ends = runs_t;
       commits = refl;
+      admitted = refl;
     };
     digest = tt;
     made = first;
@@ -278,6 +282,22 @@ module _ (time : TimeParts) where
     at_most = omega arith;
     fewer = λ less. refl;
   }
+
+  -- of a job that the rules deny, an attempt adds nothing
+  abbrev denial : Denial
+  denial = record { statement = 1; action = codes "PartiQLCreateTable"; table = codes "t"; rule = None }
+
+  abbrev job_denied : Job
+  job_denied = record {
+    statements = creates (codes "CREATE TABLE t") ∷ [];
+    retries = 0;
+    digest = None;
+    abort = false;
+    denied = Some denial;
+  }
+
+  denied_once : Attempted o newborn job_denied (at 3) (Denied 1 (codes "PartiQLCreateTable") (codes "t") None) newborn
+  denied_once = record { denied = refl; sees = record { later = ([], refl); same = refl } }
 
   -- ---- the run
 

@@ -82,6 +82,7 @@ module _ (o : Opening) (job : Job) (place : Place) (k : Known Entry) (tx : TxId)
         (λ i. run (record { mask = sym r.mask i; number = sym r.number i }) (state (sym r.base i)) (sym r.asked i))
         ∙ on_base.runs ∙ r.done;
     commits = r.commits;
+    admitted = r.admitted;
   }
 
   sees : Sees begun.now (with_seen begun.now front)
@@ -125,6 +126,7 @@ module _ (o : Opening) (job : Job) (place : Place) (k : Known Entry) (tx : TxId)
         → Comes o job place k tx begun front (own_block m t c r.progress)
     comes is = record {
       commits = r.commits;
+      admitted = r.admitted;
       digest = digest;
       progress = r.progress;
       ends = (ready).ends;

@@ -9,8 +9,9 @@ use Rattle.ql_types.specs.declared.TxId.{TxId}
 use Rattle.ledger_model.specs.declared.block.Block.{Block}
 use Rattle.ledger_model.specs.declared.outcome.Named.{Named}
 use Rattle.ledger_model.specs.declared.outcome.Outcome.{Outcome}
-use Rattle.ledger_model.specs.declared.outcome.Outcome.TheVariants.{Committed, Conflict, Refused, DigestDiffers, StoreFault, JournalFull, IdsSpent, Aborted, OutOfMemory}
+use Rattle.ledger_model.specs.declared.outcome.Outcome.TheVariants.{Committed, Conflict, Refused, DigestDiffers, StoreFault, JournalFull, IdsSpent, Aborted, Denied, OutOfMemory}
 use Rattle.ledger_model.specs.declared.outcome.Refusal.{Refusal}
+use Rattle.ledger_model.specs.declared.script.Denial.{Denial}
 use Rattle.ledger_model.specs.Journal.{said_in}
 use Rattle.ledger_model.specs.Legal.{asked_in}
 use Rattle.ledger_model.specs.Making.{IsMadeOf, block_of}
@@ -23,7 +24,7 @@ use Rattle.laws_footprint.specs.Touches.{conflict}
 use Rattle.session_driver.specs.Retries.{is_conflict}
 use Rattle.turn_lock.specs.declared.view.Known.{Known}
 use Rattle.turn_lock.proofs.Lists.{prefix_get, prefix_trans}
-use Rattle.laws_history.specs.Records.{RunRecord, CameToCommit, HasNoBlock, HasNumber, IsAborted, IsCommitted, IsFresh, IsJournalFull, IsOfJob, IsRefused, IsStoreFault, IsUntouched, attempts, greatest, ran_on, stood_before, told_count, told_id}
+use Rattle.laws_history.specs.Records.{RunRecord, CameToCommit, HasNoBlock, HasNumber, IsAborted, IsCommitted, IsDenied, IsFresh, IsJournalFull, IsOfJob, IsRefused, IsStoreFault, IsUntouched, attempts, greatest, ran_on, stood_before, told_count, told_id}
 use Rattle.laws_history.proofs.Lists.{slice_get_seam, prefix_front, prefix_take}
 use Rattle.laws_machine.specs.Entries.{Entry, Opening, Reach, begun_at, failed, reach_at, sealed, wanted}
 use Rattle.laws_history.specs.Seen.{IsRight, blocks_in, reach}
@@ -58,14 +59,16 @@ pub record IsFailed (o : Opening) (place : Place) (until : List Entry) (count : 
   pub start : List Entry
   pub begun : IsPrefix (start ++ begun_at place number since ∷ []) until
 
--- one more where the outcome says that an attempt drew no number
+-- one more if the outcome says that an attempt drew no number
 abbrev pub spare : Outcome → ℕ
 spare (IdsSpent last) = 1
+spare (Denied statement action table rule) = 1
 spare other = 0
 
 -- how many numbers an attempt draws at most
 abbrev pub draws : Outcome → ℕ
 draws (IdsSpent last) = 0
+draws (Denied statement action table rule) = 0
 draws other = 1
 
 begun_numbered : (o : Opening) (place : Place) (k now : Known Entry) (tx : TxId) (b : Begins o place k tx)
@@ -259,6 +262,7 @@ module _ (t : RunRecord) (es : List Entry) (right : IsRight (opening_of t) es)
         record {
           untold = untold;
           commits = h.commits;
+          admitted = h.admitted;
           digest = subst (SendsOwn p.job) (sym id) h.digest;
           last = (reach o b.adds.front).last;
           counted = subst (λ n. n < 2 ^ 64) next b.counted;
@@ -301,6 +305,19 @@ module _ (t : RunRecord) (es : List Entry) (right : IsRight (opening_of t) es)
           starts = tt;
           ends = tt;
           spends = λ e. h.last_is ∙ h.greatest_last;
+        }
+
+    told_Denied : (statement : ℕ) (action table : List ℕ) (rule : Option (List ℕ))
+        → attempt.Denies o p.job p.place k (record { statement = statement; action = action; table = table; rule = rule }) now
+        → IsTold o p (Denied statement action table rule) k now
+    told_Denied statement action table rule h =
+        record {
+          makes = makes_none o p (Denied statement action table rule) k now h.sees;
+          numbers = tt;
+          counts = tt;
+          starts = tt;
+          ends = tt;
+          spends = λ e. not_so e;
         }
 
     says_wanted : (tx : TxId) (b : Begins o p.place k tx) (block : Option Block) (a : Adds b.now (wanted b.number block) now)
@@ -373,6 +390,7 @@ module _ (t : RunRecord) (es : List Entry) (right : IsRight (opening_of t) es)
             ∙ said_of_run (begun_as o b.number) (state (blocks_in o h.adds.front)) p.job.statements h.is_made.progress
             h.is_made.runs;
         commits = h.ready.commits;
+        admitted = h.ready.admitted;
       }
 
       committed_as : IsCommittedAs o p (Committed tx block) h.adds.front h.made
@@ -432,6 +450,7 @@ module _ (t : RunRecord) (es : List Entry) (right : IsRight (opening_of t) es)
             id = tx_is;
             number = b.number;
             numbered = numbered tx b (begun_inside tx b sealed_later) bound;
+            admitted = h.ready.admitted;
           }
 
     -- ---- a transaction that came to its commit
@@ -487,6 +506,7 @@ module _ (t : RunRecord) (es : List Entry) (right : IsRight (opening_of t) es)
                 (conflict_on (blocks_in o now.seen) (blocks_in o es) since h.ready.progress.footprint named
                 (blocks_on (reach_at o) now.seen es inside) (by_since tx b h.sees.later since h.since_is) h.finds);
             commits = h.ready.commits;
+            admitted = h.ready.admitted;
             digest = h.digest;
             blockless = blockless;
           }
@@ -501,6 +521,7 @@ module _ (t : RunRecord) (es : List Entry) (right : IsRight (opening_of t) es)
             numbered = numbered tx h.begun b_inside bound;
             fresh = fresh tx h.begun b_inside since h.since_is;
             ends = ran_same tx h.begun b_inside since h.since_is ∙ h.ends;
+            admitted = h.admitted;
             blockless = blockless;
           }
 
@@ -515,6 +536,7 @@ module _ (t : RunRecord) (es : List Entry) (right : IsRight (opening_of t) es)
             progress = h.progress;
             ends = ran_same tx h.begun b_inside since h.since_is ∙ h.ends;
             aborts = h.aborts;
+            admitted = h.admitted;
             blockless = blockless;
           }
 
@@ -531,6 +553,7 @@ module _ (t : RunRecord) (es : List Entry) (right : IsRight (opening_of t) es)
             progress = h.ready.progress;
             ends = ran_same tx b b_inside since h.since_is ∙ h.ready.ends;
             commits = h.ready.commits;
+            admitted = h.ready.admitted;
             mine_is = h.mine_is;
             given_is = h.given_is;
             differ = h.differ;
@@ -543,6 +566,7 @@ module _ (t : RunRecord) (es : List Entry) (right : IsRight (opening_of t) es)
         free = untouched tx blocks h (length t.before) from_before;
         numbered = numbered tx h.ready.begun (begun_inside tx h.ready.begun h.sees.later) bound;
         commits = h.ready.commits;
+        admitted = h.ready.admitted;
         full = ap length after
             ∙ stays_full (blocks_in o now.seen) (blocks_in o es)
             (blocks_on (reach_at o) now.seen es inside) right.undamaged
@@ -571,6 +595,7 @@ module _ (t : RunRecord) (es : List Entry) (right : IsRight (opening_of t) es)
             came = came tx h.ready (adds_later b.now e now h.adds) (length t.before) from_before;
             numbered = numbered tx b b_inside bound;
             commits = h.ready.commits;
+            admitted = h.ready.admitted;
             rose = omega (arith, low, risen);
             not_past = omega (arith, high, own, closed);
             blockless = blockless;
@@ -583,8 +608,12 @@ module _ (t : RunRecord) (es : List Entry) (right : IsRight (opening_of t) es)
           record {
             greatest_last = h.greatest_last;
             used = omega (arith, high, more, h.greatest_last, h.last_is);
+            admitted = h.admitted;
             blockless = blockless;
           }
+
+      holds_Denied : (denial : Denial) → attempt.Denies o p.job p.place k denial now → HasNoBlock t p → IsDenied t p denial
+      holds_Denied denial h blockless = record { denied = h.denied; blockless = blockless }
 
   -- ---- by cases of the outcome
 
@@ -598,6 +627,7 @@ module _ (t : RunRecord) (es : List Entry) (right : IsRight (opening_of t) es)
   told (JournalFull tx blocks) now inside h = told_JournalFull now inside tx blocks h
   told (IdsSpent last) now inside h = told_IdsSpent now inside last h
   told (Aborted tx since) now inside h = told_Aborted now inside tx since h
+  told (Denied statement action table rule) now inside h = told_Denied now inside statement action table rule h
   told OutOfMemory now inside h = told_OutOfMemory now inside h
 
   pub holds : (x : Outcome) (now : Known Entry) → IsPrefix now.seen es → Attempted o k p.job p.place x now
@@ -621,6 +651,8 @@ module _ (t : RunRecord) (es : List Entry) (right : IsRight (opening_of t) es)
       holds_IdsSpent now inside (omega (arith, bound)) last h (none refl) bound
   holds (Aborted tx since) now inside h bound none retried =
       holds_Aborted now inside (omega (arith, bound)) tx since h (none refl)
+  holds (Denied statement action table rule) now inside h bound none retried =
+      holds_Denied now inside (omega (arith, bound)) (record { statement = statement; action = action; table = table; rule = rule }) h (none refl)
   holds OutOfMemory now inside h bound none retried = none refl
 
   -- the transaction ran on the blocks that the pass had seen, and perhaps on more
@@ -638,6 +670,7 @@ module _ (t : RunRecord) (es : List Entry) (right : IsRight (opening_of t) es)
   runs_past (DigestDiffers tx since mine given) now inside h = tt
   runs_past (IdsSpent last) now inside h = tt
   runs_past (Aborted tx since) now inside h = tt
+  runs_past (Denied statement action table rule) now inside h = tt
   runs_past OutOfMemory now inside h = tt
 
   -- a conflict has brought the pass past one block more

@@ -4,7 +4,7 @@ use Rattle.std.specs.List.{AllByRecursion, list_any}
 use Rattle.std.proofs.lemmas.Bool.{and_from, not_from_false}
 use Rattle.ql_types.specs.declared.Place.{Place}
 use Rattle.ledger_model.specs.declared.outcome.Outcome.{Outcome}
-use Rattle.ledger_model.specs.declared.outcome.Outcome.TheVariants.{Committed, Conflict, Refused, DigestDiffers, StoreFault, JournalFull, IdsSpent, Aborted, OutOfMemory}
+use Rattle.ledger_model.specs.declared.outcome.Outcome.TheVariants.{Committed, Conflict, Refused, DigestDiffers, StoreFault, JournalFull, IdsSpent, Aborted, Denied, OutOfMemory}
 use Rattle.ledger_model.specs.Follows.{all_differ}
 use Rattle.ledger_model.specs.Script.{Placed}
 use Rattle.turn_lock.specs.History.{Stands}
@@ -44,6 +44,7 @@ one_id (StoreFault tx count) = tt
 one_id (JournalFull tx blocks) = tt
 one_id (IdsSpent last) = tt
 one_id (Aborted tx since) = tt
+one_id (Denied statement action table rule) = tt
 one_id OutOfMemory = tt
 
 pub one_count : (x : Outcome) → IsOne (told_count x)
@@ -55,6 +56,7 @@ one_count (StoreFault tx count) = tt
 one_count (JournalFull tx blocks) = tt
 one_count (IdsSpent last) = tt
 one_count (Aborted tx since) = tt
+one_count (Denied statement action table rule) = tt
 one_count OutOfMemory = tt
 
 module _ (tell : Outcome → List ℕ) (one : (x : Outcome) → IsOne (tell x)) (Of : Place → ℕ → Type 0)

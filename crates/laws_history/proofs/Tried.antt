@@ -232,6 +232,7 @@ module _ (t : RunRecord) (ss : List Served) (es : List Entry) (pass_of : ℕ →
             (job).placed.job.statements b times here;
         undamaged = undamaged;
         commits = (says).commits;
+        admitted = (says).admitted;
         room = omega (arith, few, more);
         counted = (says).counted;
       }

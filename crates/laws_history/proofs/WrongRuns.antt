@@ -8,13 +8,14 @@ use Rattle.ledger_model.specs.declared.outcome.Item.{Item}
 use Rattle.ledger_model.specs.declared.outcome.Outcome.TheVariants.{Committed, Conflict}
 use Rattle.ledger_model.specs.declared.outcome.PlacedOutcome.{PlacedOutcome}
 use Rattle.ledger_model.specs.declared.outcome.Refusal.{Refusal}
+use Rattle.ledger_model.specs.declared.script.Denial.{Denial}
 use Rattle.ledger_model.specs.Follows.{all_differ}
 use Rattle.ledger_model.specs.Run.{Progress, ran, refused}
 use Rattle.ledger_model.specs.Script.{Placed}
 use Rattle.laws_history.specs.Claims.{EachHolds, Fits, IsSpent, RunsBefore}
 use Rattle.ledger_model.specs.Journal.{said_in}
 use Rattle.ledger_model.specs.Legal.{asked_in}
-use Rattle.laws_history.specs.Records.{FitsBlocks, greatest_count, HaveTimes, InSessionOrder, IsAborted, IsCommitted, IsJournalFull, IsOfJob, IsRefused, IsStoreFault, RunRecord, attempts, greatest, mask_of, one_time, ran_on, told_counts, told_ids}
+use Rattle.laws_history.specs.Records.{FitsBlocks, greatest_count, HaveTimes, InSessionOrder, IsAborted, IsCommitted, IsDenied, IsJournalFull, IsOfJob, IsRefused, IsStoreFault, RunRecord, attempts, greatest, mask_of, one_time, ran_on, told_counts, told_ids}
 
 -- ---- outcomes
 
@@ -88,6 +89,18 @@ not_aborting t p tx since commits h = true≢false (sym h.aborts ∙ commits)
 -- a job that is to be aborted has a block
 aborting : (b : Block) (p : Placed) → p.job.abort ≡ true → IsOfJob b p → ⊥
 aborting b p aborts h = true≢false (sym aborts ∙ h.commits)
+
+-- a job of which something is denied has a block
+denied_has : (b : Block) (p : Placed) (denial : Denial) → p.job.denied ≡ Some denial → IsOfJob b p → ⊥
+denied_has b p denial denied h = let bad : None ≡ Some denial = sym h.admitted ∙ denied in absurd (cc bad)
+
+-- it is told as aborted, or a job is told as denied of which nothing is
+denied_ends : (t : RunRecord) (p : Placed) (tx : TxId) (since : ℕ) (denial : Denial) → p.job.denied ≡ Some denial
+    → IsAborted t p tx since → ⊥
+denied_ends t p tx since denial denied h = let bad : None ≡ Some denial = sym h.admitted ∙ denied in absurd (cc bad)
+
+not_denied : (t : RunRecord) (p : Placed) (denial : Denial) → p.job.denied ≡ None → IsDenied t p denial → ⊥
+not_denied t p denial admitted h = let bad : None ≡ Some denial = sym admitted ∙ h.denied in absurd (cc bad)
 
 -- a block has other statements than its job
 other_statements : (b : Block) (p : Placed) → (asked_in (said_in b.info.said) ≡ p.job.statements → ⊥) → IsOfJob b p → ⊥

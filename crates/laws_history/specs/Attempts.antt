@@ -12,8 +12,9 @@ use Rattle.ledger_model.specs.CommitDigest.{commit_digest}
 use Rattle.ledger_model.specs.declared.block.Block.{Block}
 use Rattle.ledger_model.specs.declared.outcome.Named.{Named}
 use Rattle.ledger_model.specs.declared.outcome.Outcome.{Outcome}
-use Rattle.ledger_model.specs.declared.outcome.Outcome.TheVariants.{Committed, Conflict, Refused, DigestDiffers, StoreFault, JournalFull, IdsSpent, Aborted, OutOfMemory}
+use Rattle.ledger_model.specs.declared.outcome.Outcome.TheVariants.{Committed, Conflict, Refused, DigestDiffers, StoreFault, JournalFull, IdsSpent, Aborted, Denied, OutOfMemory}
 use Rattle.ledger_model.specs.declared.outcome.Refusal.{Refusal}
+use Rattle.ledger_model.specs.declared.script.Denial.{Denial}
 use Rattle.ledger_model.specs.declared.script.Job.{Job}
 use Rattle.ledger_model.specs.Making.{IsMadeOf}
 use Rattle.ledger_model.specs.Run.{Begun, Progress, Ran, ran, refused, run}
@@ -60,12 +61,13 @@ pub record Begins (o : Opening) (place : Place) (k : Known Entry) (tx : TxId) : 
   pub now : Known Entry
   pub adds : Adds k (begun_at place number since) now
 
--- it has, its statements are all done on the blocks in front, and it is to be committed
+-- it has, its statements are all done on the blocks in front, nothing of it is denied, and it is to be committed
 pub record Readies (o : Opening) (job : Job) (place : Place) (k : Known Entry) (tx : TxId) : Type 0 where
   pub begun : Begins o place k tx
   pub progress : Progress
   pub ends : ran_in o begun.adds.front begun.number job ≡ ran progress
   pub commits : job.abort ≡ false
+  pub admitted : job.denied ≡ None
 
 module _ (o : Opening) (job : Job) (place : Place) (k : Known Entry) where
   -- ---- without a commit
@@ -75,6 +77,7 @@ module _ (o : Opening) (job : Job) (place : Place) (k : Known Entry) where
     pub begun : Begins o place k tx
     pub since_is : since ≡ begun.since
     pub ends : ran_in o begun.adds.front begun.number job ≡ refused statement cause
+    pub admitted : job.denied ≡ None
     pub sees : Sees begun.now now
 
   -- no statement is, and the job says that it is to be aborted
@@ -84,6 +87,7 @@ module _ (o : Opening) (job : Job) (place : Place) (k : Known Entry) where
     pub progress : Progress
     pub ends : ran_in o begun.adds.front begun.number job ≡ ran progress
     pub aborts : job.abort ≡ true
+    pub admitted : job.denied ≡ None
     pub sees : Sees begun.now now
 
   -- no number is left
@@ -91,6 +95,12 @@ module _ (o : Opening) (job : Job) (place : Place) (k : Known Entry) where
     pub sees : Sees k now
     pub greatest_last : last ≡ 2 ^ 64 - 1
     pub last_is : (reach o now.seen).last ≡ last
+    pub admitted : job.denied ≡ None
+
+  -- the rules deny this of it, and nothing is begun
+  pub record Denies (denial : Denial) (now : Known Entry) : Type 0 where
+    pub denied : job.denied ≡ Some denial
+    pub sees : Sees k now
 
   -- ---- at its commit
 
@@ -124,6 +134,7 @@ module _ (o : Opening) (job : Job) (place : Place) (k : Known Entry) where
   -- blocks
   pub record Comes (tx : TxId) (begun : Begins o place k tx) (front : List Entry) (block : Block) : Type 0 where
     pub commits : job.abort ≡ false
+    pub admitted : job.denied ≡ None
     pub digest : SendsOwn job tx
     pub progress : Progress
     pub ends : ran_in o begun.adds.front begun.number job ≡ ran progress
@@ -179,4 +190,6 @@ Attempted o k job place (StoreFault tx count) now = Fails o job place k tx count
 Attempted o k job place (JournalFull tx blocks) now = Fills o job place k tx blocks now
 Attempted o k job place (IdsSpent last) now = Spends o job place k last now
 Attempted o k job place (Aborted tx since) now = GivesUp o job place k tx since now
+Attempted o k job place (Denied statement action table rule) now =
+    Denies o job place k (record { statement = statement; action = action; table = table; rule = rule }) now
 Attempted o k job place OutOfMemory now = Wants o job place k now

@@ -1,6 +1,6 @@
 -- What a run of any number of workers claims of the blocks that it leaves and of the outcomes that it tells: the blocks
 -- are one serial history, and each outcome is true of it, however the sessions' transactions came between one another.
-use Rattle.std.specs.Prelude.{◌≡◌, ℕ, ◌+◌, ◌^◌, ◌<◌, ◌≤◌, ◌-◌, List, [], ◌∷◌, ◌++◌, length, slice_get, Option, Some, IfSome, Contains, true, false}
+use Rattle.std.specs.Prelude.{◌≡◌, ◌⊎◌, ℕ, ◌+◌, ◌^◌, ◌<◌, ◌≤◌, ◌-◌, List, [], ◌∷◌, ◌++◌, length, slice_get, Option, None, Some, IfSome, Contains, true, false}
 use Rattle.std.specs.List.{AllByRecursion}
 use Rattle.ql_types.specs.Ids.{transaction_in}
 use Rattle.ql_types.specs.declared.Hash32.{Hash32}
@@ -9,14 +9,15 @@ use Rattle.ledger_model.specs.CommitDigest.{commit_digest}
 use Rattle.ledger_model.specs.declared.block.Block.{Block}
 use Rattle.ledger_model.specs.declared.outcome.Named.{Named}
 use Rattle.ledger_model.specs.declared.outcome.Outcome.{Outcome}
-use Rattle.ledger_model.specs.declared.outcome.Outcome.TheVariants.{Committed, Conflict, Refused, DigestDiffers, StoreFault, JournalFull, IdsSpent, Aborted, OutOfMemory}
+use Rattle.ledger_model.specs.declared.outcome.Outcome.TheVariants.{Committed, Conflict, Refused, DigestDiffers, StoreFault, JournalFull, IdsSpent, Aborted, Denied, OutOfMemory}
 use Rattle.ledger_model.specs.declared.outcome.PlacedOutcome.{PlacedOutcome}
+use Rattle.ledger_model.specs.declared.script.Denial.{Denial}
 use Rattle.ledger_model.specs.declared.script.Job.{Job}
 use Rattle.ledger_model.specs.Follows.{all_differ}
 use Rattle.ledger_model.specs.Run.{Progress, ran}
 use Rattle.ledger_model.specs.Script.{Placed}
 use Rattle.laws_footprint.specs.Touches.{conflict}
-use Rattle.laws_history.specs.Records.{RunRecord, made, CameToCommit, FitsBlocks, HasNumber, HaveOneWorker, IsFresh, HasNoBlock, IsAborted, IsCommitted, IsJournalFull, IsRefused, IsStoreFault, IsUntouched, attempts, greatest, greatest_count, ran_on, stood_before, told_counts, told_id, told_ids}
+use Rattle.laws_history.specs.Records.{RunRecord, made, CameToCommit, FitsBlocks, HasNumber, HaveOneWorker, IsFresh, HasNoBlock, IsAborted, IsCommitted, IsDenied, IsJournalFull, IsRefused, IsStoreFault, IsUntouched, attempts, greatest, greatest_count, ran_on, stood_before, told_counts, told_id, told_ids}
 use Rattle.laws_history.specs.Attempts.{SendsOwn}
 
 -- ---- the blocks
@@ -66,6 +67,7 @@ pub record IsInConflict (t : RunRecord) (p : Placed) (tx : TxId) (since : ℕ) (
   pub ends : ran_on t p number since ≡ ran progress
   pub finds : conflict t.after since progress.footprint ≡ Some named
   pub commits : p.job.abort ≡ false
+  pub admitted : p.job.denied ≡ None
   pub digest : SendsOwn p.job tx
   pub blockless : HasNoBlock t p
 
@@ -77,6 +79,7 @@ pub record Differs (t : RunRecord) (p : Placed) (tx : TxId) (since : ℕ) (mine 
   pub progress : Progress
   pub ends : ran_on t p number since ≡ ran progress
   pub commits : p.job.abort ≡ false
+  pub admitted : p.job.denied ≡ None
   pub mine_is : mine ≡ commit_digest tx p.job.statements
   pub given_is : p.job.digest ≡ Some given
   pub differ : mine ≡ given → ⊥
@@ -86,6 +89,7 @@ pub record Differs (t : RunRecord) (p : Placed) (tx : TxId) (since : ℕ) (mine 
 pub record IsSpent (t : RunRecord) (p : Placed) (last : ℕ) : Type 0 where
   pub greatest_last : last ≡ 2 ^ 64 - 1
   pub used : 2 ^ 64 ≤ greatest t.mask t.before + attempts t.jobs
+  pub admitted : p.job.denied ≡ None
   pub blockless : HasNoBlock t p
 
 -- what an outcome says is true; any transaction may run out of memory
@@ -98,6 +102,8 @@ Holds t p (StoreFault tx count) = IsStoreFault t p tx count × SendsOwn p.job tx
 Holds t p (JournalFull tx blocks) = IsJournalFull t p tx blocks × SendsOwn p.job tx
 Holds t p (IdsSpent last) = IsSpent t p last
 Holds t p (Aborted tx since) = IsAborted t p tx since
+Holds t p (Denied statement action table rule) =
+    IsDenied t p (record { statement = statement; action = action; table = table; rule = rule })
 Holds t p OutOfMemory = HasNoBlock t p
 
 -- the transactions with these outcomes that the job's worker runs ran before the job's own, which has this outcome
@@ -131,3 +137,27 @@ abbrev pub BlocksAreTold : Type 0
 BlocksAreTold =
     (t : RunRecord) (k : ℕ) (b : Block) → Fits t → length t.before ≤ k → slice_get t.after k ≡ Some b
     → Contains t.outcomes (record { place = b.info.place; outcome = Committed b.header.tx k })
+
+-- ---- what is denied
+
+-- what an outcome says is denied
+abbrev pub denial_in : Outcome → Option Denial
+denial_in (Denied statement action table rule) =
+    Some (record { statement = statement; action = action; table = table; rule = rule })
+denial_in other = None
+
+-- Unless memory ran out, the outcome says that something of the job is denied exactly if it is, and what. No block of
+-- the run is that of such a job.
+pub record TellsDenial (t : RunRecord) (p : Placed) (x : Outcome) : Type 0 where
+  pub told : (x ≡ OutOfMemory) ⊎ (denial_in x ≡ p.job.denied)
+  pub blockless : IfSome p.job.denied (λ denial. HasNoBlock t p)
+
+abbrev pub EachTellsDenial : RunRecord → List Placed → List PlacedOutcome → Type 0
+EachTellsDenial t [] [] = Unit {0}
+EachTellsDenial t (p ∷ ps) (o ∷ os) = TellsDenial t p o.outcome × EachTellsDenial t ps os
+EachTellsDenial t [] (o ∷ os) = ⊥
+EachTellsDenial t (p ∷ ps) [] = ⊥
+
+-- What the rules deny of each job is told as its outcome, and nothing else is told as denied.
+abbrev pub DenialsAreTold : Type 0
+DenialsAreTold = (t : RunRecord) → Fits t → EachTellsDenial t t.jobs t.outcomes

@@ -9,9 +9,10 @@ use Rattle.ql_types.specs.declared.TxId.{TxId}
 use Rattle.ledger_model.specs.Journal.{said_in}
 use Rattle.ledger_model.specs.declared.block.Block.{Block}
 use Rattle.ledger_model.specs.declared.outcome.Outcome.{Outcome}
-use Rattle.ledger_model.specs.declared.outcome.Outcome.TheVariants.{Committed, Conflict, Refused, DigestDiffers, StoreFault, JournalFull, IdsSpent, Aborted, OutOfMemory}
+use Rattle.ledger_model.specs.declared.outcome.Outcome.TheVariants.{Committed, Conflict, Refused, DigestDiffers, StoreFault, JournalFull, IdsSpent, Aborted, Denied, OutOfMemory}
 use Rattle.ledger_model.specs.declared.outcome.PlacedOutcome.{PlacedOutcome}
 use Rattle.ledger_model.specs.declared.outcome.Refusal.{Refusal}
+use Rattle.ledger_model.specs.declared.script.Denial.{Denial}
 use Rattle.ledger_model.specs.State.{state}
 use Rattle.ledger_model.specs.Run.{Progress, Ran, run, ran, refused}
 use Rattle.ledger_model.specs.Legal.{Legal, asked_in}
@@ -86,11 +87,13 @@ abbrev pub HaveTimes : Times → List Block → List Block → Type 0
 HaveTimes times before [] = Unit {0}
 HaveTimes times before (b ∷ bs) = HasTime times before b × HaveTimes times (before ++ b ∷ []) bs
 
--- the block is that of this job: it has the job's place and statements, and the job is to be committed
+-- the block is that of this job: it has the job's place and statements, nothing of the job is denied, and it is to be
+-- committed
 pub record IsOfJob (b : Block) (p : Placed) : Type 0 where
   pub place : b.info.place ≡ p.place
   pub asked : asked_in (said_in b.info.said) ≡ p.job.statements
   pub commits : p.job.abort ≡ false
+  pub admitted : p.job.denied ≡ None
 
 pub record IsOfSomeJob (jobs : List Placed) (b : Block) : Type 0 where
   pub placed : Placed
@@ -146,6 +149,7 @@ told_id (StoreFault tx count) = tx.raw ∷ []
 told_id (JournalFull tx blocks) = tx.raw ∷ []
 told_id (IdsSpent last) = []
 told_id (Aborted tx since) = tx.raw ∷ []
+told_id (Denied statement action table rule) = []
 told_id OutOfMemory = []
 
 abbrev pub told_ids : List PlacedOutcome → List ℕ
@@ -201,6 +205,7 @@ pub record IsCommitted (t : RunRecord) (p : Placed) (tx : TxId) (block : ℕ) : 
   pub id : sealed.header.tx ≡ tx
   pub number : ℕ
   pub numbered : HasNumber t tx number
+  pub admitted : p.job.denied ≡ None
 
 -- this statement is refused where the transaction ran
 pub record IsRefused (t : RunRecord) (p : Placed) (tx : TxId) (since statement : ℕ) (cause : Refusal) : Type 0 where
@@ -208,6 +213,7 @@ pub record IsRefused (t : RunRecord) (p : Placed) (tx : TxId) (since statement :
   pub numbered : HasNumber t tx number
   pub fresh : IsFresh t since
   pub ends : ran_on t p number since ≡ refused statement cause
+  pub admitted : p.job.denied ≡ None
   pub blockless : HasNoBlock t p
 
 -- the job says so, and none of its statements is refused
@@ -218,6 +224,7 @@ pub record IsAborted (t : RunRecord) (p : Placed) (tx : TxId) (since : ℕ) : Ty
   pub progress : Progress
   pub ends : ran_on t p number since ≡ ran progress
   pub aborts : p.job.abort ≡ true
+  pub admitted : p.job.denied ≡ None
   pub blockless : HasNoBlock t p
 
 -- The transaction came to its commit: its statements were all done on the first `since` blocks, of which there are
@@ -236,6 +243,7 @@ pub record IsStoreFault (t : RunRecord) (p : Placed) (tx : TxId) (count : ℕ) :
   pub came : CameToCommit t p tx (length t.before)
   pub numbered : HasNumber t tx came.number
   pub commits : p.job.abort ≡ false
+  pub admitted : p.job.denied ≡ None
   pub rose : t.opened < count
   pub not_past : count ≤ t.closed
   pub blockless : HasNoBlock t p
@@ -250,8 +258,14 @@ pub record IsJournalFull (t : RunRecord) (p : Placed) (tx : TxId) (blocks : ℕ)
   pub free : IsUntouched t p tx (length t.before)
   pub numbered : HasNumber t tx free.came.number
   pub commits : p.job.abort ≡ false
+  pub admitted : p.job.denied ≡ None
   pub full : length t.after ≡ 2 ^ 32 - 1
   pub told : blocks ≡ 2 ^ 32 - 1
+  pub blockless : HasNoBlock t p
+
+-- the rules deny this of the job, which never began
+pub record IsDenied (t : RunRecord) (p : Placed) (denial : Denial) : Type 0 where
+  pub denied : p.job.denied ≡ Some denial
   pub blockless : HasNoBlock t p
 
 -- One worker runs both of these sessions: the sessions are dealt to the workers in turn.

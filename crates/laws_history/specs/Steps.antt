@@ -1,6 +1,6 @@
 -- A commit of the machine of events, seen from the pass that makes it: it ends an attempt at a job's transaction (the
 -- ledger's own).
-use Rattle.std.specs.Prelude.{◌≡◌, ℕ, false, List, [], ◌∷◌, take}
+use Rattle.std.specs.Prelude.{◌≡◌, ℕ, false, List, [], ◌∷◌, take, None}
 use Rattle.std.specs.Option.{unwrap_or}
 use mathlib.Core.List.{IsPrefix}
 use Rattle.ql_types.specs.declared.Hash32.{Hash32}
@@ -55,6 +55,7 @@ pub record IsCommitting (o : Opening) (job : Job) (place : Place) (k : Known Ent
   pub done : t.done ≡ ran progress
   pub digest : c.digest ≡ sent job tx
   pub commits : job.abort ≡ false
+  pub admitted : job.denied ≡ None
 
 -- the ending is told as an outcome, and with the entry that it leaves it is an attempt with that outcome
 abbrev pub EndsAttempt : Opening → Job → Place → Known Entry → TxId → Known Entry → List Entry → Transaction → Commit

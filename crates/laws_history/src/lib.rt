@@ -3,7 +3,7 @@
 #![tactic(auto)]
 
 ghost use Rattle.laws_history.specs.Alone.{NoneConflicts, OneWorkerInOrder};
-ghost use Rattle.laws_history.specs.Claims.{BlocksAreTold};
+ghost use Rattle.laws_history.specs.Claims.{BlocksAreTold, DenialsAreTold};
 ghost use Rattle.laws_history.specs.Passes.{PassesWork};
 ghost use Rattle.laws_history.specs.Refusals.{StatementsAreRefused};
 ghost use Rattle.laws_history.specs.Runs.{RunsFit};
@@ -47,6 +47,13 @@ pub fn tried_fit()
 /// Each block that a run made is told as committed, so no outcome leaves one out.
 pub fn blocks_are_told()
     ensures { BlocksAreTold }
+{}
+
+/// What the rules deny of each job is told as its outcome, and nothing else is told as denied.
+///
+/// No block of the run is that of such a job.
+pub fn denials_are_told()
+    ensures { DenialsAreTold }
 {}
 
 /// Where one worker runs all jobs, the claim leaves no room for a conflict.

@@ -1,9 +1,9 @@
 -- The text of an outcome tells it.
-use Rattle.std.proofs.Common.{◌≡◌, ◌∙◌, ◌*◌, ◌+◌, ℕ, List, [], ◌∷◌, ◌++◌, slice_index, codes, refl, sym, ap}
+use Rattle.std.proofs.Common.{◌≡◌, ◌∙◌, ◌*◌, ◌+◌, ℕ, List, [], ◌∷◌, ◌++◌, slice_index, codes, Option, Some, None, refl, sym, ap}
 use Rattle.std.specs.Prelude.{slice_get}
 use Rattle.std.specs.Fmt.{decimal}
 use Rattle.std.proofs.lemmas.List.{append_cancel_left}
-use Rattle.ion_model.specs.Write.{blob_text}
+use Rattle.ion_model.specs.Write.{blob_text, string_text}
 use Rattle.ion_text.specs.RoundTrip.{MayFollow}
 use Rattle.ql_types.specs.declared.Hash32.{Hash32}
 use Rattle.ql_types.specs.declared.TxId.{TxId}
@@ -12,10 +12,10 @@ use Rattle.ledger_model.specs.declared.outcome.Item.{Item}
 use Rattle.ledger_model.specs.declared.outcome.Refusal.{Refusal}
 use Rattle.ledger_model.specs.declared.outcome.Outcome.{Outcome}
 use Rattle.ledger_model.specs.declared.outcome.Outcome.TheVariants as outcome
-use Rattle.ledger_model.specs.Report.{answers_text, cause_text, item_text, outcome_text, quoted_id, since_text}
-use Rattle.laws_report.specs.Writable.{AreBytes, IsCause, IsItem, IsNumber, IsOutcome}
-use Rattle.laws_report.proofs.Runs.{apart, behind, id_tells, number_tells, parted, right}
-use Rattle.laws_report.proofs.Tokens.{blob_tells}
+use Rattle.ledger_model.specs.Report.{answers_text, cause_text, item_text, outcome_text, quoted_id, rule_text, since_text}
+use Rattle.laws_report.specs.Writable.{AreBytes, IsCause, IsItem, IsName, IsNumber, IsOutcome, IsRule, IsText, is_of_name}
+use Rattle.laws_report.proofs.Runs.{apart, behind, id_tells, number_tells, parted, right, run_tells}
+use Rattle.laws_report.proofs.Tokens.{blob_tells, text_tells}
 use Rattle.laws_report.proofs.Items.{item_tells}
 use Rattle.laws_report.proofs.Causes.{cause_tells}
 
@@ -100,6 +100,30 @@ digests_tell t v m n a b c d r s h k e =
     let third = blob_tells c.bytes d.bytes r s h.3 k.3 (ap (behind (codes ",given:")) second.1) in
     (first.0, first.1, second.0, third.0, third.1)
 
+rule_tells : (x y : Option (List ℕ)) (r s : List ℕ) → IsRule x → IsRule y → rule_text x ++ r ≡ rule_text y ++ s → (x ≡ y) × (r ≡ s)
+rule_tells None None r s h k e = (refl, ap (behind (codes "null")) e)
+rule_tells (Some a) (Some b) r s h k e = let both = text_tells a b r s h k e in (ap Some both.0, both.1)
+rule_tells None (Some b) r s h k e = absurd (apart (ap (λ l. slice_index l 0) e) refl)
+rule_tells (Some a) None r s h k e = absurd (apart (ap (λ l. slice_index l 0) e) refl)
+
+denials_tell : (m n : ℕ) (a b t v : List ℕ) (x z : Option (List ℕ)) (r s : List ℕ) → IsNumber m × IsName a × IsText t × IsRule x
+    → IsNumber n × IsName b × IsText v × IsRule z
+    → (decimal m ++ codes ",action:" ++ a ++ codes ",table:" ++ string_text t ++ codes ",rule:" ++ rule_text x) ++ r
+    ≡ (decimal n ++ codes ",action:" ++ b ++ codes ",table:" ++ string_text v ++ codes ",rule:" ++ rule_text z) ++ s
+    → (m ≡ n) × (a ≡ b) × (t ≡ v) × (x ≡ z) × (r ≡ s)
+denials_tell m n a b t v x z r s h k e =
+    let xs : List (List ℕ) = codes ",rule:" ∷ rule_text x ∷ [] in
+    let us : List (List ℕ) = codes ",rule:" ∷ rule_text z ∷ [] in
+    let ys : List (List ℕ) = codes ",table:" ∷ string_text t ∷ xs in
+    let ws : List (List ℕ) = codes ",table:" ∷ string_text v ∷ us in
+    let vs : List (List ℕ) = codes ",action:" ∷ a ∷ ys in
+    let zs : List (List ℕ) = codes ",action:" ∷ b ∷ ws in
+    let first = number_tells m n (right vs r) (right zs s) h.0 k.0 refl refl (parted (decimal m) (decimal n) vs zs r s e) in
+    let second = run_tells is_of_name a b (right ys r) (right ws s) h.1 k.1 refl refl (ap (behind (codes ",action:")) first.1) in
+    let third = text_tells t v (right xs r) (right us s) h.2 k.2 (ap (behind (codes ",table:")) second.1) in
+    let fourth = rule_tells x z r s h.3 k.3 (ap (behind (codes ",rule:")) third.1) in
+    (first.0, second.0, third.0, fourth.0, fourth.1)
+
 -- the first and the third byte, which differ from outcome to outcome
 abbrev mark : List ℕ → ℕ
 mark text = slice_index text 0 * 256 + slice_index text 2
@@ -129,5 +153,8 @@ outcome_tells blocks (outcome.IdsSpent m) (outcome.IdsSpent n) r s h k p q e =
 outcome_tells blocks (outcome.Aborted t m) (outcome.Aborted v n) r s h k p q e =
     let all = since_tells t v m n r s h.0 k.0 h.1 k.1 p q (ap (behind (codes "aborted")) e) in
     (λ i. outcome.Aborted (all.0 i) (all.1 i), all.2)
+outcome_tells blocks (outcome.Denied m a t x) (outcome.Denied n b v z) r s h k p q e =
+    let all = denials_tell m n a b t v x z r s h k (ap (behind (codes "denied,statement:")) e) in
+    (λ i. outcome.Denied (all.0 i) (all.1 i) (all.2 i) (all.3 i), all.4)
 outcome_tells blocks outcome.OutOfMemory outcome.OutOfMemory r s h k p q e = (refl, ap (behind (codes "out_of_memory")) e)
 outcome_tells blocks a b r s h k p q e = absurd (apart (ap mark e) refl)

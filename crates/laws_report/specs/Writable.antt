@@ -1,7 +1,8 @@
 -- An outcome's numbers, texts and bytes are within the ranges of their types. In a law a number is unbounded, so a law
 -- about outcomes that are written speaks of those within. Each outcome of a run is: its numbers have at most 128 bits,
--- its texts are UTF-8, and its bytes are below 256, by their types.
-use Rattle.std.specs.Prelude.{◌<◌, ◌^◌, ℕ, ℤ, List, IsTrue, unsigned_abs}
+-- its texts are UTF-8, and its bytes are below 256, by their types, and an action has one of nine names.
+use Rattle.std.specs.Prelude.{◌≡◌, ◌==◌, ◌<◌, ◌^◌, ℕ, ℤ, Bool, true, not, List, Option, Some, None, IsTrue, unsigned_abs}
+use Rattle.std.specs.List.{list_all}
 use Rattle.ion_values.specs.Within.{bytes_within, text_within}
 use Rattle.ion_values.specs.declared.value.Key.{Key}
 use Rattle.ion_values.specs.declared.value.Key.TheVariants as key
@@ -58,6 +59,18 @@ IsCause (refusal.TooDeep depth) = IsNumber depth
 IsCause refusal.Ended = Unit {0}
 IsCause refusal.OutOfMemory = Unit {0}
 
+-- it is a name in which no comma stands
+abbrev pub is_of_name : ℕ → Bool
+is_of_name byte = not (byte == 44)
+
+abbrev pub IsName : List ℕ → Type 0
+IsName name = list_all is_of_name name ≡ true
+
+-- the name of a rule, or none
+abbrev pub IsRule : Option (List ℕ) → Type 0
+IsRule None = Unit {0}
+IsRule (Some name) = IsText name
+
 abbrev pub IsOutcome : Outcome → Type 0
 IsOutcome (outcome.Committed tx block) = IsNumber tx.raw × IsNumber block
 IsOutcome (outcome.Conflict tx since named) =
@@ -70,6 +83,7 @@ IsOutcome (outcome.StoreFault tx count) = IsNumber tx.raw × IsNumber count
 IsOutcome (outcome.JournalFull tx full) = IsNumber tx.raw × IsNumber full
 IsOutcome (outcome.IdsSpent last) = IsNumber last
 IsOutcome (outcome.Aborted tx since) = IsNumber tx.raw × IsNumber since
+IsOutcome (outcome.Denied statement action table rule) = IsNumber statement × IsName action × IsText table × IsRule rule
 IsOutcome outcome.OutOfMemory = Unit {0}
 
 abbrev pub IsWritable : PlacedOutcome → Type 0

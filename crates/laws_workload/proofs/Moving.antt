@@ -7,7 +7,7 @@ use Rattle.ql_types.specs.declared.Place.{Place}
 use Rattle.ql_types.specs.declared.TxId.{TxId}
 use Rattle.ledger_model.specs.declared.block.Block.{Block}
 use Rattle.ledger_model.specs.declared.outcome.Outcome.{Outcome}
-use Rattle.ledger_model.specs.declared.outcome.Outcome.TheVariants.{Committed, Conflict, Refused, DigestDiffers, StoreFault, JournalFull, IdsSpent, Aborted, OutOfMemory}
+use Rattle.ledger_model.specs.declared.outcome.Outcome.TheVariants.{Committed, Conflict, Refused, DigestDiffers, StoreFault, JournalFull, IdsSpent, Aborted, Denied, OutOfMemory}
 use Rattle.ledger_model.specs.declared.script.Job.{Job}
 use Rattle.ledger_model.specs.Making.{IsMadeOf}
 use Rattle.ledger_model.specs.Run.{Begun, run}
@@ -75,6 +75,7 @@ module _ (o behind : Opening) (es : List Entry) (mask : behind.mask ≡ o.mask)
     progress = r.progress;
     ends = ran_same r.begun.adds.front r.begun.number ∙ r.ends;
     commits = r.commits;
+    admitted = r.admitted;
   }
 
   made_same : (front : List Entry) (number : ℕ) (r : Begun → List Block → Type 0) → r (begun_as behind number) (blocks_in behind front)
@@ -87,6 +88,7 @@ module _ (o behind : Opening) (es : List Entry) (mask : behind.mask ≡ o.mask)
       → Comes behind job place k tx b front block → Comes o job place start tx (begins tx b) (es ++ front) block
   comes tx b front block c = record {
     commits = c.commits;
+    admitted = c.admitted;
     digest = c.digest;
     progress = c.progress;
     ends = ran_same b.adds.front b.number ∙ c.ends;
@@ -135,6 +137,7 @@ module _ (o behind : Opening) (es : List Entry) (mask : behind.mask ≡ o.mask)
     begun = begins tx h.begun;
     since_is = h.since_is;
     ends = ran_same h.begun.adds.front h.begun.number ∙ h.ends;
+    admitted = h.admitted;
     sees = sees_on h.begun.now now h.sees;
   }
   attempted_moved (DigestDiffers tx since mine given) now h = record {
@@ -164,6 +167,7 @@ module _ (o behind : Opening) (es : List Entry) (mask : behind.mask ≡ o.mask)
     sees = sees now h.sees;
     greatest_last = h.greatest_last;
     last_is = last_now now ∙ h.last_is;
+    admitted = h.admitted;
   }
   attempted_moved (Aborted tx since) now h = record {
     begun = begins tx h.begun;
@@ -171,8 +175,10 @@ module _ (o behind : Opening) (es : List Entry) (mask : behind.mask ≡ o.mask)
     progress = h.progress;
     ends = ran_same h.begun.adds.front h.begun.number ∙ h.ends;
     aborts = h.aborts;
+    admitted = h.admitted;
     sees = sees_on h.begun.now now h.sees;
   }
+  attempted_moved (Denied statement action table rule) now h = record { denied = h.denied; sees = sees now h.sees }
   attempted_moved OutOfMemory now h = wants now h
 
 -- ---- behind entries in front

@@ -77,7 +77,7 @@ ended_so P Q (Err e) f h = f e h
 
 -- ---- a script that was run
 
-module _ (same : Type 0) (o : RunOptions) (x : Outside) (script : List (List Job)) (has : HasScript x.source script) (fine : IsFine x.source) where
+module _ (same : Type 0) (o : RunOptions) (x : Outside) (script : List (List Job)) (has : HasScript o.rules x.source script) (fine : IsFine x.source) where
   abbrev Reported : List ℕ → Terms → Type 0
   Reported text terms = IsReportOf terms o.workers (all_placed script) x.store text
 
@@ -133,7 +133,7 @@ module _ (same : Type 0) (o : RunOptions) (x : Outside) (script : List (List Job
 unfailed : (same : Type 0) (x : Outside) → IsUncalled same x.store → x.store.after.faults ≡ x.store.before.faults
 unfailed same x un = ap (λ (t : StoreTold). t.faults) un.told
 
-pub works_unread : (same : Type 0) (o : RunOptions) (x : Outside) (why : CommandFault) → IsUncalled same x.store → IsReadStop why x.source
+pub works_unread : (same : Type 0) (o : RunOptions) (x : Outside) (why : CommandFault) → IsUncalled same x.store → IsReadStop o.rules why x.source
     → Works same (Some (command.Run o)) (Err why) x
 works_unread same o x stop.BadWords un h = absurd h
 works_unread same o x (stop.BadInput cause) un h =

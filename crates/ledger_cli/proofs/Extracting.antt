@@ -56,6 +56,8 @@ unread_stops source (stop.BadInput cause.TooLong) h long =
     let taken = long refl in
     (record { input = taken.0; taken = taken.1; long = taken.2 }, h.1)
 unread_stops source (stop.BadInput (cause.Faulty fault)) h long = cc
+unread_stops source (stop.BadInput cause.BadRules) h long = cc
+unread_stops source (stop.BadInput cause.NoSuchRules) h long = cc
 unread_stops source (stop.BadInput (cause.Misspelt fault)) h long = cc
 unread_stops source (stop.NoSuch why) h long = absurd h
 unread_stops source (stop.Damaged sequence kind) h long = absurd h
@@ -71,6 +73,8 @@ module _ (source : Span SourceTold) (input : List ℕ) (read : WasRead source in
   faulty_stops : (why : BadInput) → IsFaulty why input → ReadsBundle (Err (stop.BadInput why)) source
   faulty_stops cause.TooLong h = absurd h
   faulty_stops (cause.Faulty fault) h = (record { input = input; read = read; short = short; text_of = h }, fine)
+  faulty_stops cause.BadRules h = absurd h
+  faulty_stops cause.NoSuchRules h = absurd h
   faulty_stops (cause.Misspelt fault) h = absurd h
 
   -- it is no text of values

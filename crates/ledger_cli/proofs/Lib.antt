@@ -12,5 +12,6 @@ pub mod Proving
 pub mod Runnable
 pub mod Leaving
 pub mod Running
+pub mod UnderRules
 pub mod Verifying
 pub mod Words

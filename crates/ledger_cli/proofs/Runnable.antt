@@ -12,9 +12,12 @@ use Rattle.ledger_model.specs.declared.script.ScriptFault.{ScriptFault}
 use Rattle.ledger_model.specs.declared.script.ScriptKind.TheVariants as kind
 use Rattle.ledger_model.specs.Values.{list_in}
 use Rattle.ledger_model.specs.ReadScript.{if_read, fault_at, placed_at, read_each, read_placed, read_session, read_script}
-use Rattle.ledger_model.specs.Judging.{too_long, judged_script, judged_text, judged}
 use Rattle.std.proofs.lemmas.Bool.Decides.{leb_tells}
 use Rattle.ion_values.specs.declared.fault.IonFault.{IonFault}
+use Rattle.access_rules.specs.declared.rule.Rule.{Rule}
+use Rattle.access_rules.specs.declared.rule.RulesAnswer.{RulesAnswer}
+use Rattle.access_rules.specs.declared.rule.RulesAnswer.TheVariants as answer
+use Rattle.access_rules.specs.ReadRules.{read_rules}
 use Rattle.script_form.specs.Answers.{IsCountable}
 use Rattle.outside.specs.Told.{SourceTold}
 use Rattle.laws_history.specs.Calls.{Span}
@@ -23,6 +26,7 @@ use Rattle.ledger_cli.specs.declared.lines.BadInput.TheVariants as cause
 use Rattle.ledger_cli.specs.declared.command_fault.CommandFault.{CommandFault}
 use Rattle.ledger_cli.specs.declared.command_fault.CommandFault.TheVariants as stop
 use Rattle.cli_model.specs.Inputs.{IsFine}
+use Rattle.cli_model.specs.Judging.{judged, judged_behind, judged_by, judged_script, judged_text, judged_under, judged_values, too_long}
 use Rattle.ledger_cli.specs.Inputs.{IsReadStop, IsUnread, ReadsScript}
 use Rattle.ledger_shared.specs.Sessions.{AreNumbered}
 use Rattle.ledger_cli.specs.Judgements.{JudgesTo}
@@ -128,57 +132,81 @@ script_is_short : (r : Result (List (List Job)) ScriptFault) → judged_script r
 script_is_short (Ok script) is = cc
 script_is_short (Err fault) is = cc
 
-text_is_short : (r : Result (List Value) IonFault) → judged_text r ≡ too_long → ⊥
-text_is_short (Ok values) is = script_is_short (read_script values) is
-text_is_short (Err fault) is = cc
+under_is_short : (rules : List Rule) (r : Result (List (List Job)) ScriptFault) → judged_under rules r ≡ too_long → ⊥
+under_is_short rules (Ok script) is = cc
+under_is_short rules (Err fault) is = cc
+
+ruled_is_short : (rules : Result (List Rule) RulesAnswer) (r : Result (List (List Job)) ScriptFault) → judged_by rules r ≡ too_long → ⊥
+ruled_is_short (Ok rules) r is = under_is_short rules r is
+ruled_is_short (Err answer.BadRules) r is = cc
+ruled_is_short (Err answer.NoSuchRules) r is = cc
+ruled_is_short (Err answer.OutOfMemory) r is = cc
+
+behind_is_short : (name : List ℕ) (values : List Value) → judged_behind name values ≡ too_long → ⊥
+behind_is_short name [] is = cc
+behind_is_short name (v ∷ values) is = ruled_is_short (read_rules name v) (read_script values) is
+
+values_are_short : (rules : Option (List ℕ)) (values : List Value) → judged_values rules values ≡ too_long → ⊥
+values_are_short None values is = script_is_short (read_script values) is
+values_are_short (Some name) values is = behind_is_short name values is
+
+text_is_short : (rules : Option (List ℕ)) (r : Result (List Value) IonFault) → judged_text rules r ≡ too_long → ⊥
+text_is_short rules (Ok values) is = values_are_short rules values is
+text_is_short rules (Err fault) is = cc
 
 -- an input that is judged too long is
-is_long : (input : List ℕ) → judged input ≡ too_long → 16777216 < length input
-is_long input is =
+is_long : (rules : Option (List ℕ)) (input : List ℕ) → judged rules input ≡ too_long → 16777216 < length input
+is_long rules input is =
     elim (leb_tells (length input) 16777216) [
       | inl t ↦
-          absurd (text_is_short (read_text 80 input)
-          (subst (λ (b : Bool). (if b then judged_text (read_text 80 input) else too_long) ≡ too_long) t.0 is))
+          absurd (text_is_short rules (read_text 80 input)
+          (subst (λ (b : Bool). (if b then judged_text rules (read_text 80 input) else too_long) ≡ too_long) t.0 is))
       | inr f ↦ f.1
     ]
 
 -- an input that is judged so gives the script, or the cause why not
-pub reads_input : (source : Span SourceTold) (input : List ℕ) (r : Result (List (List Job)) CommandFault) → WasRead source input
+pub reads_input : (rules : Option (List ℕ)) (source : Span SourceTold) (input : List ℕ) (r : Result (List (List Job)) CommandFault) → WasRead source input
     → IsFine source
-    → JudgesTo r (judged input) → IfOk r AreNumbered → ReadsScript r source
-reads_input source input (Ok script) read fine is runs =
+    → JudgesTo r (judged rules input) → IfOk r AreNumbered → ReadsScript rules r source
+reads_input rules source input (Ok script) read fine is runs =
     (record { input = input; read = read; judged_is = is }, runs, fine)
-reads_input source input (Err stop.BadWords) read fine is runs = absurd is
-reads_input source input (Err (stop.BadInput cause.TooLong)) read fine is runs =
-    (record { input = input; taken = read.taken; long = is_long input is }, fine)
-reads_input source input (Err (stop.BadInput (cause.Faulty fault))) read fine is runs =
+reads_input rules source input (Err stop.BadWords) read fine is runs = absurd is
+reads_input rules source input (Err (stop.BadInput cause.TooLong)) read fine is runs =
+    (record { input = input; taken = read.taken; long = is_long rules input is }, fine)
+reads_input rules source input (Err (stop.BadInput (cause.Faulty fault))) read fine is runs =
     (record { input = input; read = read; judged_is = is }, fine)
-reads_input source input (Err (stop.BadInput (cause.Misspelt fault))) read fine is runs =
+reads_input rules source input (Err (stop.BadInput cause.BadRules)) read fine is runs =
     (record { input = input; read = read; judged_is = is }, fine)
-reads_input source input (Err (stop.NoSuch why)) read fine is runs = absurd is
-reads_input source input (Err (stop.Damaged sequence kind)) read fine is runs = absurd is
-reads_input source input (Err stop.SourceFailed) read fine is runs = absurd is
-reads_input source input (Err stop.StoreFailed) read fine is runs = absurd is
-reads_input source input (Err (stop.NotEmpty blocks)) read fine is runs = absurd is
-reads_input source input (Err (stop.NotAccepted fault)) read fine is runs = absurd is
-reads_input source input (Err stop.NotPublished) read fine is runs = absurd is
-reads_input source input (Err stop.OutOfMemory) read fine is runs = fine
+reads_input rules source input (Err (stop.BadInput cause.NoSuchRules)) read fine is runs =
+    (record { input = input; read = read; judged_is = is }, fine)
+reads_input rules source input (Err (stop.BadInput (cause.Misspelt fault))) read fine is runs =
+    (record { input = input; read = read; judged_is = is }, fine)
+reads_input rules source input (Err (stop.NoSuch why)) read fine is runs = absurd is
+reads_input rules source input (Err (stop.Damaged sequence kind)) read fine is runs = absurd is
+reads_input rules source input (Err stop.SourceFailed) read fine is runs = absurd is
+reads_input rules source input (Err stop.StoreFailed) read fine is runs = absurd is
+reads_input rules source input (Err (stop.NotEmpty blocks)) read fine is runs = absurd is
+reads_input rules source input (Err (stop.NotAccepted fault)) read fine is runs = absurd is
+reads_input rules source input (Err stop.NotPublished) read fine is runs = absurd is
+reads_input rules source input (Err stop.OutOfMemory) read fine is runs = fine
 
 -- an input that wasn't read
-pub unread_input : (source : Span SourceTold) (why : CommandFault) → IsUnread why source
+pub unread_input : (rules : Option (List ℕ)) (source : Span SourceTold) (why : CommandFault) → IsUnread why source
     → (why ≡ stop.BadInput cause.TooLong → (input : List ℕ) × Taken source input × (16777216 < length input))
-    → IsReadStop why source
-unread_input source stop.BadWords is long = absurd is
-unread_input source (stop.BadInput cause.TooLong) is long =
+    → IsReadStop rules why source
+unread_input rules source stop.BadWords is long = absurd is
+unread_input rules source (stop.BadInput cause.TooLong) is long =
     let (input, taken, more) = long refl in
     (record { input = input; taken = taken; long = more }, is.1)
-unread_input source (stop.BadInput (cause.Faulty fault)) is long = let bad : ⊥ = cc in absurd bad
-unread_input source (stop.BadInput (cause.Misspelt fault)) is long = let bad : ⊥ = cc in absurd bad
-unread_input source (stop.NoSuch why) is long = absurd is
-unread_input source (stop.Damaged sequence kind) is long = absurd is
-unread_input source stop.SourceFailed is long = is
-unread_input source stop.StoreFailed is long = absurd is
-unread_input source (stop.NotEmpty blocks) is long = absurd is
-unread_input source (stop.NotAccepted fault) is long = absurd is
-unread_input source stop.NotPublished is long = absurd is
-unread_input source stop.OutOfMemory is long = is
+unread_input rules source (stop.BadInput (cause.Faulty fault)) is long = let bad : ⊥ = cc in absurd bad
+unread_input rules source (stop.BadInput cause.BadRules) is long = let bad : ⊥ = cc in absurd bad
+unread_input rules source (stop.BadInput cause.NoSuchRules) is long = let bad : ⊥ = cc in absurd bad
+unread_input rules source (stop.BadInput (cause.Misspelt fault)) is long = let bad : ⊥ = cc in absurd bad
+unread_input rules source (stop.NoSuch why) is long = absurd is
+unread_input rules source (stop.Damaged sequence kind) is long = absurd is
+unread_input rules source stop.SourceFailed is long = is
+unread_input rules source stop.StoreFailed is long = absurd is
+unread_input rules source (stop.NotEmpty blocks) is long = absurd is
+unread_input rules source (stop.NotAccepted fault) is long = absurd is
+unread_input rules source stop.NotPublished is long = absurd is
+unread_input rules source stop.OutOfMemory is long = is

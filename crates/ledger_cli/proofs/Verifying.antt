@@ -75,6 +75,8 @@ unread_verifies source (stop.BadInput cause.TooLong) h long =
     let taken = long refl in
     (record { input = taken.0; taken = taken.1; long = taken.2 }, h.1)
 unread_verifies source (stop.BadInput (cause.Faulty fault)) h long = cc
+unread_verifies source (stop.BadInput cause.BadRules) h long = cc
+unread_verifies source (stop.BadInput cause.NoSuchRules) h long = cc
 unread_verifies source (stop.BadInput (cause.Misspelt fault)) h long = cc
 unread_verifies source (stop.NoSuch why) h long = absurd h
 unread_verifies source (stop.Damaged sequence kind) h long = absurd h
@@ -90,6 +92,8 @@ module _ (source : Span SourceTold) (input : List ℕ) (read : WasRead source in
   faulty_verifies : (why : BadInput) → IsFaulty why input → Verifies (Err (stop.BadInput why)) source
   faulty_verifies cause.TooLong h = absurd h
   faulty_verifies (cause.Faulty fault) h = (record { input = input; read = read; short = short; text_of = h }, fine)
+  faulty_verifies cause.BadRules h = absurd h
+  faulty_verifies cause.NoSuchRules h = absurd h
   faulty_verifies (cause.Misspelt fault) h = absurd h
 
   -- it is no text of values

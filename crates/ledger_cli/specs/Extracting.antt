@@ -46,7 +46,7 @@ ReadsBundle (Err why) source = IsBundleStop why source
 
 -- ---- the journal
 
--- what the bundle comes to in these blocks, or why it comes to nothing
+-- the text is the answer to the bundle in these blocks; or the fault is the one that is found
 abbrev pub ExtractsFrom : Result (List ℕ) CommandFault → Bundle → List Block → Type 0
 ExtractsFrom (Ok text) b blocks = IsExtractOf b.digest b.revision b.proof blocks text
 ExtractsFrom (Err (stop.NotAccepted why)) b blocks = IsUnverified b.digest b.revision b.proof blocks why

@@ -1,5 +1,5 @@
 -- What is so of a source whose input is read, and of the script that it spells.
-use Rattle.std.specs.Prelude.{◌≡◌, List, Result, Ok, Err}
+use Rattle.std.specs.Prelude.{◌≡◌, ℕ, List, Option, Result, Ok, Err}
 use Rattle.ledger_model.specs.declared.script.Job.{Job}
 use Rattle.outside.specs.Told.{SourceTold}
 use Rattle.laws_history.specs.Calls.{Span}
@@ -24,19 +24,19 @@ IsUnread stop.NotPublished source = ⊥
 IsUnread stop.OutOfMemory source = IsFine source
 
 -- why there is no script: the source failed only where that is the cause, and a store is not asked
-abbrev pub IsReadStop : CommandFault → Span SourceTold → Type 0
-IsReadStop stop.BadWords source = ⊥
-IsReadStop (stop.BadInput cause) source = IsNoScript (cause_of cause) source × IsFine source
-IsReadStop (stop.NoSuch why) source = ⊥
-IsReadStop (stop.Damaged sequence kind) source = ⊥
-IsReadStop stop.SourceFailed source = SourceFailed source
-IsReadStop stop.StoreFailed source = ⊥
-IsReadStop (stop.NotEmpty blocks) source = ⊥
-IsReadStop (stop.NotAccepted fault) source = ⊥
-IsReadStop stop.NotPublished source = ⊥
-IsReadStop stop.OutOfMemory source = IsFine source
+abbrev pub IsReadStop : Option (List ℕ) → CommandFault → Span SourceTold → Type 0
+IsReadStop rules stop.BadWords source = ⊥
+IsReadStop rules (stop.BadInput cause) source = IsNoScript rules (cause_of cause) source × IsFine source
+IsReadStop rules (stop.NoSuch why) source = ⊥
+IsReadStop rules (stop.Damaged sequence kind) source = ⊥
+IsReadStop rules stop.SourceFailed source = SourceFailed source
+IsReadStop rules stop.StoreFailed source = ⊥
+IsReadStop rules (stop.NotEmpty blocks) source = ⊥
+IsReadStop rules (stop.NotAccepted fault) source = ⊥
+IsReadStop rules stop.NotPublished source = ⊥
+IsReadStop rules stop.OutOfMemory source = IsFine source
 
--- there is a script, or a cause why not
-abbrev pub ReadsScript : Result (List (List Job)) CommandFault → Span SourceTold → Type 0
-ReadsScript (Ok script) source = HasScript source script × AreNumbered script × IsFine source
-ReadsScript (Err why) source = IsReadStop why source
+-- there is a script, under the rules of that name if one is given, or a cause why not
+abbrev pub ReadsScript : Option (List ℕ) → Result (List (List Job)) CommandFault → Span SourceTold → Type 0
+ReadsScript rules (Ok script) source = HasScript rules source script × AreNumbered script × IsFine source
+ReadsScript rules (Err why) source = IsReadStop rules why source

@@ -1,7 +1,12 @@
 -- What an input in memory is judged.
-use Rattle.std.specs.Prelude.{◌≡◌, List, Result, Ok, Err}
+use Rattle.std.specs.Prelude.{◌≡◌, ℕ, List, [], ◌∷◌, Result, Ok, Err}
+use Rattle.ion_values.specs.declared.value.Value.{Value}
 use Rattle.ledger_model.specs.declared.script.Job.{Job}
-use Rattle.ledger_model.specs.Judging.{Judged, too_long, faulty, misspelt, scripted}
+use Rattle.access_rules.specs.declared.rule.Rule.{Rule}
+use Rattle.access_rules.specs.declared.rule.RulesAnswer.{RulesAnswer}
+use Rattle.access_rules.specs.declared.rule.RulesAnswer.TheVariants as answer
+use Rattle.access_rules.specs.ReadRules.{read_rules}
+use Rattle.cli_model.specs.Judging.{Judged, bad_rules, faulty, misspelt, no_such_rules, scripted, too_long}
 use Rattle.cli_model.specs.Lines.{BadInput}
 use Rattle.cli_model.specs.Lines as bad
 use Rattle.ledger_cli.specs.declared.lines.BadInput as held
@@ -12,12 +17,21 @@ use Rattle.ledger_cli.specs.declared.command_fault.CommandFault.TheVariants as s
 abbrev pub judged_of : held.BadInput → Judged
 judged_of cause.TooLong = too_long
 judged_of (cause.Faulty fault) = faulty fault
+judged_of cause.BadRules = bad_rules
+judged_of cause.NoSuchRules = no_such_rules
 judged_of (cause.Misspelt fault) = misspelt fault
 
 abbrev pub cause_of : held.BadInput → BadInput
 cause_of cause.TooLong = bad.too_long
 cause_of (cause.Faulty fault) = bad.faulty fault
+cause_of cause.BadRules = bad.bad_rules
+cause_of cause.NoSuchRules = bad.no_such_rules
 cause_of (cause.Misspelt fault) = bad.misspelt fault
+
+-- the rules of that name that the first value holds, or why there are none
+abbrev pub rules_in_front : List ℕ → List Value → Result (List Rule) RulesAnswer
+rules_in_front name [] = Err answer.BadRules
+rules_in_front name (v ∷ values) = read_rules name v
 
 -- what an input is judged is told by its script, or by why it is refused; nothing is said if memory ran out
 abbrev pub JudgesTo : Result (List (List Job)) CommandFault → Judged → Type 0

@@ -1,5 +1,7 @@
 -- Why a command has no output.
 use Rattle.std.specs.Prelude.{List}
+use Rattle.access_rules.specs.declared.rule.RulesAnswer.{RulesAnswer}
+use Rattle.access_rules.specs.declared.rule.RulesAnswer.TheVariants as rules
 use Rattle.ledger_model.specs.declared.block.Block.{Block}
 use Rattle.outside.specs.Told.{StoreTold}
 use Rattle.proof_issue.specs.declared.NoSuch.{NoSuch}
@@ -16,6 +18,13 @@ use Rattle.journal_reader.specs.declared.cause.LoadCause.{LoadCause}
 use Rattle.journal_reader.specs.declared.cause.LoadCause.TheVariants as load
 use Rattle.ledger_cli.specs.declared.command_fault.CommandFault.{CommandFault}
 use Rattle.ledger_cli.specs.declared.command_fault.CommandFault.TheVariants as stop
+use Rattle.ledger_cli.specs.declared.lines.BadInput.TheVariants as cause
+
+-- by why there are no rules
+abbrev pub rules_stop : RulesAnswer → CommandFault
+rules_stop rules.BadRules = stop.BadInput cause.BadRules
+rules_stop rules.NoSuchRules = stop.BadInput cause.NoSuchRules
+rules_stop rules.OutOfMemory = stop.OutOfMemory
 
 -- by why no journal was loaded
 abbrev pub load_stop : LoadCause → CommandFault

@@ -17,6 +17,10 @@ pub enum BadInput {
     TooLong,
     /// It is no Ion text that is read.
     Faulty(IonFault),
+    /// Its first value isn't named sets of rules.
+    BadRules,
+    /// None of those sets has the name.
+    NoSuchRules,
     /// Its values spell no script.
     Misspelt(ScriptFault),
 }
@@ -39,6 +43,8 @@ fn push_cause(alloc: Global, line: &mut Text, cause: BadInput) -> Result<(), Out
     match cause {
         BadInput::TooLong => line.push_str("kind:InputTooLong")?,
         BadInput::Faulty(fault) => push_fault(alloc, line, fault)?,
+        BadInput::BadRules => line.push_str("kind:BadRules")?,
+        BadInput::NoSuchRules => line.push_str("kind:NoSuchRules")?,
         BadInput::Misspelt(fault) => push_script_fault(alloc, line, fault)?,
     }
     Ok(())

@@ -165,22 +165,22 @@ pub fn run_script<
     alloc: Global,
     host: &Host<'_, R, G>,
     script: &Script,
-    options: RunOptions,
+    options: &RunOptions,
     resources: Resources<S, C>,
 ) -> Returned<Result<Bytes, CommandFault>, S, C>
-    requires some { 0 < options.workers }
+    requires some { 0 < options.now.workers }
     requires few { AreNumbered script.now }
     ensures done { IfOk result.value (λ text.
-        IsOnTerms options (span (C.answers resources.clock) (C.answers result.clock))
-        (λ terms. IsReportOf terms options.workers (all_placed script.now)
+        IsOnTerms options.now (span (C.answers resources.clock) (C.answers result.clock))
+        (λ terms. IsReportOf terms options.now.workers (all_placed script.now)
         (span (S.told resources.store) (S.told result.store)) text)) }
     ensures ended { IfErr result.value (λ why.
-        IsOnTerms options (span (C.answers resources.clock) (C.answers result.clock))
-        (IsEnded why options.workers (all_placed script.now)
+        IsOnTerms options.now (span (C.answers resources.clock) (C.answers result.clock))
+        (IsEnded why options.now.workers (all_placed script.now)
         (span (S.told resources.store) (S.told result.store)))) }
     ensures stop { IfErr result.value (λ stop.
         IsLoadStop stop (span (S.told resources.store) (S.told result.store))) }
-    ensures asks { asks_clock (Some (asked.Run options)) ≡ false → result.clock ≡ resources.clock }
+    ensures asks { asks_clock (Some (asked.Run options.now)) ≡ false → result.clock ≡ resources.clock }
 {
     let Resources { store, mut clock } = resources;
     let mask = mask_by(options.ids, &mut clock);

@@ -20,7 +20,7 @@ use crate::run::run_script;
 use crate::verify::verify_input;
 use cli_args::{Command, RunOptions};
 use cli_model::Question;
-use containers::Bytes;
+use containers::{Bytes, Text};
 use ledger_model::Script;
 use outside::{Clock, Gate, JournalStore, Source};
 use std::alloc::Global;
@@ -110,8 +110,8 @@ fn run<
     ensures few { TakesFew (span (So.told source.old) (So.told source.new)) }
     ensures asks { asks_clock (Some (asked.Run options)) ≡ false → result.clock ≡ resources.clock }
 {
-    match read_script(alloc, source) {
-        Ok(script) => run_script(alloc, host, &script, options, resources),
+    match read_script(alloc, &options.rules, source) {
+        Ok(script) => run_script(alloc, host, &script, &options, resources),
         Err(why) => {
             let Resources { store, clock } = resources;
             Returned {
@@ -123,11 +123,15 @@ fn run<
     }
 }
 
-/// The script that the input spells.
-fn read_script<So: Source>(alloc: Global, source: &mut So) -> Result<Script, CommandFault>
-    ensures reads { ReadsScript result (span (So.told source.old) (So.told source.new)) }
+/// The script that the input spells, under the rules of that name if one is given.
+fn read_script<So: Source>(
+    alloc: Global,
+    rules: &Option<Text>,
+    source: &mut So,
+) -> Result<Script, CommandFault>
+    ensures reads { ReadsScript rules.now result (span (So.told source.old) (So.told source.new)) }
     ensures few { TakesFew (span (So.told source.old) (So.told source.new)) }
 {
     let input = read_all(alloc, source)?;
-    judge(alloc, &input)
+    judge(alloc, rules, &input)
 }

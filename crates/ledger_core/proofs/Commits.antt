@@ -1,6 +1,6 @@
 -- How a commit ends that has passed its checks, case by case.
 use Rattle.std.proofs.Common.{◌≡◌, ◌∙◌, ◌⊎◌, ℕ, ◌^◌, ◌<◌, inl, inr, true, List, Option, refl, sym, ap, subst}
-use Rattle.std.specs.Prelude.{IsTrue, ℤ, Some, None, Result, Ok, Err}
+use Rattle.std.specs.Prelude.{IsTrue, ℤ, Some, None, Result, Ok, Err, option_map}
 use Rattle.ion_values.specs.declared.time.TimeParts.{TimeParts}
 use Rattle.ion_values.specs.Time.{is_time}
 use Rattle.ql_types.specs.declared.Hash32.{Hash32}
@@ -9,7 +9,6 @@ use Rattle.ledger_model.specs.declared.block.Block.{Block}
 use Rattle.ledger_model.specs.Whole.{place_fits}
 use Rattle.laws_validity.specs.Makes.{IsWithinAll}
 use Rattle.laws_history.specs.Standings.{Standing, IsStanding}
-use Rattle.laws_history.specs.Stores.{Holding, IsSynced}
 use Rattle.outside.specs.Told.{StoreTold, held}
 use Rattle.txn_core.specs.Opened.{Opened}
 use Rattle.ledger_core.specs.declared.appending.Receipt.{Receipt}
@@ -25,8 +24,8 @@ use Rattle.journal_keeper.specs.Faults.{IsSettleFault}
 use Rattle.journal_keeper.proofs.Calls.{no_call}
 use Rattle.ledger_core.specs.Faults.{IsTriedWith}
 use Rattle.ledger_core.specs.Images.{CommitKeeps}
-use Rattle.ledger_core.specs.Leaving.{CommitLeaves, HadCome}
-use Rattle.ledger_core.specs.Tails.{MayHoldPart, TailHeld, joined}
+use Rattle.ledger_core.specs.Leaving.{AppendLeaves, CommitLeaves, HadCome}
+use Rattle.ledger_core.specs.Tails.{Leaves, MayHoldPart, TailHeld, joined}
 use Rattle.ledger_core.proofs.Imaging.{asked_kept, asked_unkept, refused_images}
 use Rattle.ledger_core.proofs.Openings.{joined_open, open_made, open_stands, open_undamaged}
 
@@ -126,6 +125,10 @@ module _ {S C : Type 0} (told : S → StoreTold) (answers : C → Option (List �
       asked_unkept told h m clock Receipt Receipt u f came
       (subst (λ (x : TailHeld S C). CommitKeeps told {R = Receipt} {F = Unkept} (Err u) came x m) e k)
 
+  pub put_left : (came : Option Block) → Leaves n.standing.blocks came (held (told n.store)) (held (told m.store))
+      → Leaves h.standing.blocks came (held (told h.store)) (held (told m.store))
+  put_left came left = subst (λ (x : TailHeld S C). Leaves x.standing.blocks came (held (told x.store)) (held (told m.store))) e left
+
   module _ (answer : IsAnswer (answers h.clock) (answers n.clock) (always h.clock) time) where
     pub put_stands : IsStanding (joined n.standing (next_block t n.standing.blocks time))
     put_stands =
@@ -174,51 +177,47 @@ module _ {S C : Type 0} (told : S → StoreTold) (answers : C → Option (List �
                 (ap (λ (x : TailHeld S C). held (told x.store)) e) part),
           )
 
-      marked_now : (m ≡ n) ⊎ (m.marked ≡ true) → (m ≡ record h { clock = m.clock }) ⊎ (m.marked ≡ true)
+      marked_now : {P : Type 0} → (P × (m ≡ n)) ⊎ (m.marked ≡ true) → (m ≡ record h { clock = m.clock }) ⊎ (m.marked ≡ true)
       marked_now (inl kept) =
-          let is : m ≡ record h { clock = clock } = kept ∙ e in
+          let is : m ≡ record h { clock = clock } = kept.1 ∙ e in
           inl (is ∙ ap (λ (c : C). record h { clock = c }) (sym (ap (λ (x : TailHeld S C). x.clock) is)))
       marked_now (inr marked) = inr marked
 
       module _ (ever : always n.clock ≡ always h.clock) where
         -- the block is sealed
         pub sealed_leaves : (receipt : Receipt) → receipt ≡ receipt_of (next_block t n.standing.blocks time)
-            → m.standing ≡ joined n.standing (next_block t n.standing.blocks time) → Holding m.standing.blocks (held (told m.store)) → IsSynced (told m.store)
-            → (told m.store).faults ≡ (told n.store).faults → CallsAtMost 4 (told n.store).content (told m.store).content → CommitKeeps told {R = Receipt} {F = Unkept} (Ok receipt) None n m
-            → CommitLeaves told answers always h m t sent (Ok receipt)
-        sealed_leaves receipt is now holds synced fine calls images = record {
-          ends = put_seals receipt is now;
+            → AppendLeaves told {R = Receipt} n m (next_block t n.standing.blocks time) (Ok receipt) → CommitLeaves told answers always h m t sent (Ok receipt)
+        sealed_leaves receipt is l = record {
+          ends = put_seals receipt is l.standing;
           unasked = tt;
           marked = tt;
           asked = inr (time, is_told);
           always_is = ap always clocks ∙ ever;
-          holds = holds;
-          synced = synced;
+          holds = l.holds;
+          synced = l.synced;
           part = tt;
-          calls = put_calls calls;
-          fine = fine ∙ ap (λ (x : TailHeld S C). (told x.store).faults) e;
+          calls = put_calls l.calls;
+          fine = l.fine ∙ ap (λ (x : TailHeld S C). (told x.store).faults) e;
           fault = tt;
-          images = record { came = None; had_come = tt; keeps = put_kept CommitFault receipt None None images };
+          images = record { came = None; had_come = tt; keeps = put_kept CommitFault receipt None None l.images };
         }
 
         -- memory ran out, or the store failed
-        pub unkept_leaves : (fault : SettleFault) → m.standing ≡ n.standing
-            → MayHoldPart n.standing.blocks (next_block t n.standing.blocks time) (held (told n.store)) (held (told m.store)) → (m ≡ n) ⊎ (m.marked ≡ true)
-            → IsSettleFault fault (told n.store) (told m.store) → CallsAtMost 4 (told n.store).content (told m.store).content → (u : Unkept) (came : Option Block) → IsTriedWith (next_block t n.standing.blocks time) fault came
-            → CommitKeeps told {R = Receipt} {F = Unkept} (Err u) came n m → CommitLeaves told answers always h m t sent (Err (fault_of fault))
-        unkept_leaves fault kept part marked failed calls u came is_tried images = record {
-          ends = put_faulted fault kept;
-          unasked = inl (service fault);
-          marked = marked_now marked;
+        pub unkept_leaves : (u : Unkept) → AppendLeaves told {R = Receipt} n m (next_block t n.standing.blocks time) (Err u)
+            → CommitLeaves told answers always h m t sent (Err (fault_of u.fault))
+        unkept_leaves u l = record {
+          ends = put_faulted u.fault l.same;
+          unasked = inl (service u.fault);
+          marked = marked_now l.marked;
           asked = inr (time, is_told);
           always_is = ap always clocks ∙ ever;
           holds = tt;
           synced = tt;
-          part = put_part part;
-          calls = put_calls calls;
+          part = put_part l.part;
+          calls = put_calls l.calls;
           fine = tt;
-          fault = commit_fault fault (told h.store) (told m.store) (subst (λ (x : TailHeld S C). IsSettleFault fault (told x.store) (told m.store)) e failed);
-          images = record { came = came; had_come = put_tried fault came is_tried; keeps = put_unkept u (fault_of fault) came images };
+          fault = commit_fault u.fault (told h.store) (told m.store) (subst (λ (x : TailHeld S C). IsSettleFault u.fault (told x.store) (told m.store)) e l.fault);
+          images = record { came = option_map (λ b. b.value) u.tried; had_come = put_tried u.fault (option_map (λ b. b.value) u.tried) l.tried; keeps = put_unkept u (fault_of u.fault) (option_map (λ b. b.value) u.tried) l.images };
         }
 
 -- ---- other transactions

@@ -59,19 +59,7 @@ module _ {S C : Type 0} (told : S → StoreTold) (h n : TailHeld S C) where
       (stays (IsSafe h.standing.blocks tried) h.standing.blocks tried h.marked (told h.store).content (told n.store).content same s)
       (ap (λ (x : Standing). x.blocks) stands) mark (λ m safe. inl safe)
 
-  pub unkept_alone : {T : Type 0} (r : Result T Unkept) (e : Unkept) → r ≡ Err e → e.tried ≡ None
-      → (told n.store).content ≡ (told h.store).content → n.standing ≡ h.standing → n.marked ≡ h.marked → CommitKeeps told r (unkept_with r) h n
-  unkept_alone {T} r e out none same stands mark =
-      subst (λ (x : Result T Unkept). CommitKeeps told x (unkept_with x) h n) (sym out)
-      (λ tried s.
-      subst (λ (t : List Block). KeepsSound told h n t t) (ap (λ o. tried_with tried (option_map (λ b. b.value) o)) (sym none))
-      (left_alone same stands mark tried s))
-
   -- ---- an append
-
-  pub passed_on : (T : Type 0) {U : Type 0} (r : Result U Unkept) (e : Unkept) → r ≡ Err e
-      → CommitKeeps told {R = T} {F = Unkept} (Err e) (option_map (λ b. b.value) e.tried) h n → CommitKeeps told r (unkept_with r) h n
-  passed_on T {U} r e out k = subst (λ (x : Result U Unkept). CommitKeeps told x (unkept_with x) h n) (sym out) k
 
   module _ (b : Block) (size : ℕ) (line : List ℕ) (long : size ≡ length (journal_bytes h.standing.blocks)) (is : line ≡ journal.line b)
       (stands : IsStanding (joined h.standing b)) where

@@ -1,6 +1,6 @@
 -- A tail after an append.
 use Rattle.std.proofs.Common.{◌≡◌, ◌∙◌, ℕ, ◌+◌, Bool, true, List, [], ◌∷◌, ◌++◌, length, take, length-append, sym, ap, subst, inl, inr, Option, ◌⊎◌}
-use Rattle.std.specs.Prelude.{option_map, IfSome, Some, Result, Ok, Err, OnErr}
+use Rattle.std.specs.Prelude.{option_map, IfSome, Some}
 use Rattle.ledger_model.specs.declared.block.Block.{Block}
 use Rattle.ledger_model.specs.Journal.{line, journal_bytes}
 use Rattle.ledger_model.specs.State.{State, state, after}
@@ -42,10 +42,6 @@ pub may-hold : (mask last : ℕ) (blocks : List Block) (b : Block) (marked : Boo
 may-hold mask last blocks b marked size before now text version (tail, listed) is part =
     subst (λ (t : List ℕ). (now ≡ before) ⊎ ((kept : ℕ) × IfSome now (λ bytes. bytes ≡ journal_bytes blocks ++ take kept t))) is
     (part-holds (journal_bytes blocks) text marked size before now tail.long tail.holds part)
-
-pub on-err : {T E P : Type 0} (r : Result T E) → P → OnErr r P
-on-err (Ok x) p = tt
-on-err (Err e) p = p
 
 -- the block's line had come to the store
 pub tried_with : (b tried : Block) (fault : SettleFault) → tried ≡ b → IsTriedWith b fault (Some tried)

@@ -1,3 +1,4 @@
+mod Appends
 pub mod Bounds
 pub mod Commits
 pub mod Digests

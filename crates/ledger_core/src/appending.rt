@@ -1,16 +1,10 @@
 //! Appending a transaction's block.
-ghost use Rattle.std.specs.Prelude.{◌≡◌, ◌≤◌, ◌⊎◌, true, IfOk, OnOk, OnErr, IfErr, IsTrue, option_map};
+ghost use Rattle.std.specs.Prelude.{◌≡◌, IfOk, IsTrue};
 ghost use Rattle.ledger_model.specs.Whole.{place_fits};
 ghost use Rattle.laws_history.specs.Standings.{IsStanding};
-ghost use Rattle.laws_history.specs.Stores.{Holding, IsSynced};
-ghost use Rattle.outside.specs.Told.{held};
-ghost use Rattle.journal_keeper.specs.Calls.{CallsAtMost};
-ghost use Rattle.journal_keeper.specs.Faults.{IsSettleFault};
-ghost use Rattle.ledger_core.specs.Faults.{IsTriedWith};
-ghost use Rattle.ledger_core.specs.Images.{CommitKeeps};
-ghost use Rattle.ledger_core.specs.Tails.{Leaves, MayHoldPart, joined};
+ghost use Rattle.ledger_core.specs.Leaving.{AppendLeaves};
 ghost use Rattle.ledger_core.specs.NextBlock.{next_block, receipt_of};
-ghost use Rattle.ledger_core.specs.Unkept.{unkept_with};
+ghost use Rattle.ledger_core.specs.Tails.{joined};
 
 use crate::sealing::into_block;
 use crate::tail::Tail;
@@ -65,32 +59,8 @@ impl<S: JournalStore, C> Tail<S, C> {
         time: IonTime,
     ) -> Result<Receipt, Unkept>
         requires { IsStanding (joined self.old.standing (next_block txn self.old.standing.blocks time)) }
-        // the blocks and the clock
-        ensures standing { OnOk result (self.new.standing ≡ joined self.old.standing
-            (next_block txn self.old.standing.blocks time)) }
+        ensures leaves { AppendLeaves S.told self.old self.new (next_block txn self.old.standing.blocks time) result }
         ensures receipt { IfOk result (λ receipt. receipt ≡ receipt_of (next_block txn self.old.standing.blocks time)) }
-        ensures same { OnErr result (self.new.standing ≡ self.old.standing) }
-        ensures clock { self.new.clock ≡ self.old.clock }
-        // the store after an append
-        ensures holds { OnOk result (Holding self.new.standing.blocks (held (S.told self.new.store))) }
-        ensures synced { OnOk result (IsSynced (S.told self.new.store)) }
-        // the store after a fault
-        ensures part { OnErr result (MayHoldPart self.old.standing.blocks
-            (next_block txn self.old.standing.blocks time) (held (S.told self.old.store))
-            (held (S.told self.new.store))) }
-        ensures tried { IfErr result (λ e. IsTriedWith (next_block txn self.old.standing.blocks time) e.fault
-            (option_map (λ b. b.value) e.tried)) }
-        ensures left { IfErr result (λ e. Leaves self.old.standing.blocks (option_map (λ b. b.value) e.tried)
-            (held (S.told self.old.store)) (held (S.told self.new.store))) }
-        ensures marked { OnErr result ((self.new ≡ self.old) ⊎ (self.new.marked ≡ true)) }
-        // what a stop leaves
-        ensures images { CommitKeeps S.told result (unkept_with result) self.old self.new }
-        // how often it called the store
-        ensures calls { CallsAtMost 4 (S.told self.old.store).content (S.told self.new.store).content }
-        // when the store failed
-        ensures later { (S.told self.old.store).faults ≤ (S.told self.new.store).faults }
-        ensures fine { OnOk result ((S.told self.new.store).faults ≡ (S.told self.old.store).faults) }
-        ensures fault { IfErr result (λ e. IsSettleFault e.fault (S.told self.old.store) (S.told self.new.store)) }
     {
         let made = into_block(alloc, txn, time, self.blocks().as_slice())?;
         let receipt = receipt_of(&made.block);

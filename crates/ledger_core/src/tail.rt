@@ -1,21 +1,17 @@
 //! The tail of a journal over its store.
-ghost use Rattle.std.specs.Prelude.{◌≡◌, ◌-◌, [], length, IfOk, OnErr, OnOk, IfErr, MatchOption, ◌<◌, ◌^◌, ◌≤◌, ◌⊎◌, true, false, option_map};
+ghost use Rattle.std.specs.Prelude.{◌≡◌, ◌-◌, [], length, IfOk, MatchOption, ◌<◌, ◌^◌, ◌⊎◌, true};
 ghost use Rattle.ledger_model.specs.Journal.{line};
 ghost use Rattle.ledger_model.specs.State.{state};
 ghost use Rattle.laws_history.specs.Standings.{IsStanding};
-ghost use Rattle.laws_history.specs.Stores.{Holding, IsSynced};
+ghost use Rattle.laws_history.specs.Stores.{Holding};
 ghost use Rattle.outside.specs.Told.{held};
 ghost use Rattle.proof_model.specs.Issued.{block_hashes, IsDigest};
-ghost use Rattle.journal_keeper.specs.Calls.{CallsAtMost};
-ghost use Rattle.journal_keeper.specs.Faults.{IsSettleFault};
-ghost use Rattle.ledger_core.specs.Faults.{IsTriedWith};
-ghost use Rattle.ledger_core.specs.Images.{CommitKeeps};
-ghost use Rattle.ledger_core.specs.Tails.{Leaves, MayHoldPart, joined};
-ghost use Rattle.ledger_core.specs.Unkept.{unkept_with};
+ghost use Rattle.ledger_core.specs.Leaving.{AppendLeaves};
+ghost use Rattle.ledger_core.specs.Tails.{joined};
 
 use crate::appending::Unkept;
 use ion_values::{OutOfMemory, Text};
-use journal_keeper::{Keeper, SettleFault};
+use journal_keeper::Keeper;
 use journal_reader::Chain;
 use ledger_model::{Block, Blocks};
 use outside::JournalStore;
@@ -105,30 +101,7 @@ impl<S: JournalStore, C> Tail<S, C> {
     pub(crate) fn append_block(&mut self, block: Block, text: Text) -> Result<(), Unkept>
         requires stands { IsStanding (joined self.old.standing block) }
         requires written { text ≡ line block }
-        // the blocks and the clock
-        ensures standing { OnOk result (self.new.standing ≡ joined self.old.standing block) }
-        ensures same { OnErr result (self.new.standing ≡ self.old.standing) }
-        ensures clock { self.new.clock ≡ self.old.clock }
-        // the store after an append
-        ensures holds { OnOk result (Holding self.new.standing.blocks (held (S.told self.new.store))) }
-        ensures synced { OnOk result (IsSynced (S.told self.new.store)) }
-        ensures settled { OnOk result (self.new.marked ≡ false) }
-        // the store after a fault
-        ensures part { OnErr result (MayHoldPart self.old.standing.blocks block (held (S.told self.old.store))
-            (held (S.told self.new.store))) }
-        ensures tried { IfErr result (λ e. IsTriedWith block e.fault (option_map (λ b. b.value) e.tried)) }
-        ensures left { IfErr result (λ e. Leaves self.old.standing.blocks (option_map (λ b. b.value) e.tried)
-            (held (S.told self.old.store)) (held (S.told self.new.store))) }
-        ensures marked { IfErr result (λ e. ((e.fault ≡ SettleFault.OutOfMemory) × (self.new ≡ self.old))
-            ⊎ (self.new.marked ≡ true)) }
-        // what a stop leaves
-        ensures images { CommitKeeps S.told result (unkept_with result) self.old self.new }
-        // how often it called the store
-        ensures calls { CallsAtMost 4 (S.told self.old.store).content (S.told self.new.store).content }
-        // when the store failed
-        ensures later { (S.told self.old.store).faults ≤ (S.told self.new.store).faults }
-        ensures fine { OnOk result ((S.told self.new.store).faults ≡ (S.told self.old.store).faults) }
-        ensures fault { IfErr result (λ e. IsSettleFault e.fault (S.told self.old.store) (S.told self.new.store)) }
+        ensures { AppendLeaves S.told self.old self.new block result }
     {
         let version = self.version.after(&block)?;
         self.blocks.make_room()?;

@@ -1,5 +1,5 @@
 -- Rows of outcomes with their lines in the report.
-use Rattle.std.proofs.Common.{◌≡◌, pos, negsuc, [], ◌∷◌, ◌++◌, codes, refl}
+use Rattle.std.proofs.Common.{◌≡◌, pos, negsuc, [], ◌∷◌, ◌++◌, codes, None, Some, refl}
 use Rattle.std.specs.Fmt.{digits}
 use Rattle.ion_values.specs.declared.value.Key.TheVariants as key
 use Rattle.pql_model.specs.declared.ParseKind.{ParseKind}
@@ -31,6 +31,22 @@ given_up :
     ≡ codes "{session:3,transaction:2,outcome:aborted,tx:\"0000000000000000018OWG\",since:7}" ++ 10 ∷ []
 unfolding digits digits_of
 given_up = refl
+
+-- the rules deny its first statement, and none of them speaks of it
+denied_by_none :
+    report [] (ended (outcome.Denied 1 (codes "PartiQLCreateTable") (codes "t") None) ∷ [])
+    ≡ codes "{session:3,transaction:2,outcome:denied,statement:1,action:PartiQLCreateTable,table:\"t\",rule:null}"
+    ++ 10 ∷ []
+unfolding digits
+denied_by_none = refl
+
+-- a rule denies its second statement
+denied_by_rule :
+    report [] (ended (outcome.Denied 2 (codes "PartiQLInsert") (codes "t") (Some (codes "r2"))) ∷ [])
+    ≡ codes "{session:3,transaction:2,outcome:denied,statement:2,action:PartiQLInsert,table:\"t\",rule:\"r2\"}"
+    ++ 10 ∷ []
+unfolding digits
+denied_by_rule = refl
 
 -- the key's exponent is outside the limits of a decimal
 touched :

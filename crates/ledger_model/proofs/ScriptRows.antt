@@ -55,13 +55,14 @@ all_said :
       retries = 0;
       digest = None;
       abort = true;
+      denied = None;
     }))
 all_said = search (rules, the_lemmas)
 
 -- `[{statements:[]}]`
 left_out :
     read_script (list (fields (nothing ∷ []) ∷ []) ∷ [])
-    ≡ Ok (whole (record { statements = []; retries = 4; digest = None; abort = false }))
+    ≡ Ok (whole (record { statements = []; retries = 4; digest = None; abort = false; denied = None }))
 left_out = search (rules, the_lemmas)
 
 -- `[{statements:[],retries:101}]`

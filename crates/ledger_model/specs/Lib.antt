@@ -16,7 +16,6 @@ pub mod Seals
 pub mod CommitDigest
 pub mod Legal
 pub mod Script
-pub mod Judging
 pub mod ReadScript
 pub mod Moment
 pub mod ItemText

@@ -97,7 +97,7 @@ job_said fields =
     if_read (retries_said fields) (λ retries.
     if_read (digest_said fields) (λ digest.
     if_read (abort_said fields) (λ abort.
-    Ok (record { statements = statements; retries = retries; digest = digest; abort = abort })))))
+    Ok (record { statements = statements; retries = retries; digest = digest; abort = abort; denied = None })))))
 
 abbrev pub job_of_fields : List Field → Result Job ScriptKind
 job_of_fields fields =

@@ -2,7 +2,7 @@
 use Rattle.std.specs.Prelude.{ℕ, List, [], ◌∷◌, ◌++◌, map, codes, slice_get, Option, Some, None}
 use Rattle.std.specs.List.{flat_map}
 use Rattle.std.specs.Fmt.{decimal}
-use Rattle.ion_model.specs.Write.{value_text, joined, blob_text}
+use Rattle.ion_model.specs.Write.{value_text, joined, blob_text, string_text}
 use Rattle.ql_types.specs.declared.Hash32.{Hash32}
 use Rattle.ql_types.specs.declared.TxId.{TxId}
 use Rattle.ledger_model.specs.declared.block.Said.{Said}
@@ -60,6 +60,19 @@ ids_spent_text last = codes "ids_spent,last:" ++ decimal last
 abbrev pub aborted_text : TxId → ℕ → List ℕ
 aborted_text tx since = codes "aborted" ++ since_text tx since
 
+-- a statement's action on a table: an action's name is a symbol without quotes
+abbrev pub demand_text : ℕ → List ℕ → List ℕ → List ℕ
+demand_text statement action table =
+    codes "denied,statement:" ++ decimal statement ++ codes ",action:" ++ action ++ codes ",table:" ++ string_text table
+
+-- by a rule of that name, or by none
+abbrev pub rule_text : Option (List ℕ) → List ℕ
+rule_text None = codes "null"
+rule_text (Some name) = string_text name
+
+abbrev pub denied_text : ℕ → List ℕ → List ℕ → Option (List ℕ) → List ℕ
+denied_text statement action table rule = demand_text statement action table ++ codes ",rule:" ++ rule_text rule
+
 -- the outcome behind the place
 abbrev pub outcome_text : List Block → Outcome → List ℕ
 outcome_text blocks (outcome.Committed tx block) = committed_text blocks tx block
@@ -70,6 +83,7 @@ outcome_text blocks (outcome.StoreFault tx count) = store_fault_text tx.raw coun
 outcome_text blocks (outcome.JournalFull tx full) = journal_full_text tx full
 outcome_text blocks (outcome.IdsSpent last) = ids_spent_text last
 outcome_text blocks (outcome.Aborted tx since) = aborted_text tx since
+outcome_text blocks (outcome.Denied statement action table rule) = denied_text statement action table rule
 outcome_text blocks outcome.OutOfMemory = codes "out_of_memory"
 
 abbrev pub outcome_line : List Block → PlacedOutcome → List ℕ

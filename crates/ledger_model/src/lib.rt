@@ -18,4 +18,4 @@ pub use damage::Damage;
 pub use outcome::{Item, Named, Outcome, Outcomes, PlacedOutcome, Refusal};
 pub use parts::{blob_in, fields_in, int_in, list_in, string_in, symbol_in};
 pub use pql_model::{Answer, ParseKind, Row};
-pub use script::{Asked, Job, Request, Script, ScriptFault, ScriptKind, Session};
+pub use script::{Asked, Denial, Job, Request, Script, ScriptFault, ScriptKind, Session};

@@ -110,6 +110,14 @@ pub enum Outcome {
         tx: TxId,
         since: u64,
     },
+    /// The rules deny its statement of this number, counted from 1, an action on a table: by this rule, or by
+    /// none. It never began.
+    Denied {
+        statement: u32,
+        action: Text,
+        table: Text,
+        rule: Option<Text>,
+    },
     OutOfMemory,
 }
 

@@ -12,14 +12,26 @@ pub struct Request {
 /// The statements of a transaction in order.
 pub type Asked = Sequence<Request>;
 
+/// What rules deny of a transaction: an action on a table that its statement of this number, counted from 1,
+/// demands. The rule is None if no rule speaks of it.
+#[derive(Drop)]
+pub struct Denial {
+    pub statement: u32,
+    pub action: Text,
+    pub table: Text,
+    pub rule: Option<Text>,
+}
+
 /// One transaction of a script. It is tried again after a conflict at most `retries` times. A `digest` is sent
-/// in place of the computed one. With `abort` it ends without a commit.
+/// in place of the computed one. With `abort` it ends without a commit. If something of it is `denied`, it
+/// never begins.
 #[derive(Drop)]
 pub struct Job {
     pub statements: Asked,
     pub retries: u32,
     pub digest: Option<Hash32>,
     pub abort: bool,
+    pub denied: Option<Denial>,
 }
 
 /// The transactions of one session, which run one after another.

@@ -76,22 +76,24 @@ module _ (o : Opening) (place : Place) (k : Known Entry) (t : Opened) (begun : K
 
   module _ (job : Job) where
     pub refused_here : (since statement : ℕ) (cause : Refusal) → since ≡ t.since → refused statement cause ≡ run t.begun t.base job.statements
-        → Refuses o job place k (tx_of t) since statement cause begun
-    refused_here since statement cause since_same is = record {
+        → job.denied ≡ None → Refuses o job place k (tx_of t) since statement cause begun
+    refused_here since statement cause since_same is admitted = record {
       begun = begins_by t.begun.number refl;
       since_is = since_same ∙ since_is;
       ends = ran_here job (refused statement cause) is;
+      admitted = admitted;
       sees = sees_same begun;
     }
 
     pub given_up : (since : ℕ) (p : Progress) → since ≡ t.since → ran p ≡ run t.begun t.base job.statements → job.abort ≡ true
-        → GivesUp o job place k (tx_of t) since begun
-    given_up since p since_same is aborts = record {
+        → job.denied ≡ None → GivesUp o job place k (tx_of t) since begun
+    given_up since p since_same is aborts admitted = record {
       begun = begins_by t.begun.number refl;
       since_is = since_same ∙ since_is;
       progress = p;
       ends = ran_here job (ran p) is;
       aborts = aborts;
+      admitted = admitted;
       sees = sees_same begun;
     }
 
@@ -100,9 +102,9 @@ module _ (o : Opening) (place : Place) (k : Known Entry) (t : Opened) (begun : K
 
     -- ---- a commit of the transaction with what its statements did
 
-    module _ (p : Progress) (is : ran p ≡ run t.begun t.base job.statements) (commits : job.abort ≡ false) where
+    module _ (p : Progress) (is : ran p ≡ run t.begun t.base job.statements) (commits : job.abort ≡ false) (admitted : job.denied ≡ None) where
       abbrev pub ready : Readies o job place k (tx_of t)
-      ready = record { begun = begins_by t.begun.number refl; progress = p; ends = ran_here job (ran p) is; commits = commits }
+      ready = record { begun = begins_by t.begun.number refl; progress = p; ends = ran_here job (ran p) is; commits = commits; admitted = admitted }
 
       module _ (e : Bool) (now : Known Entry) where
         abbrev pub d : Opened
@@ -141,6 +143,7 @@ module _ (o : Opening) (place : Place) (k : Known Entry) (t : Opened) (begun : K
             → Comes o job place k (tx_of t) (begins_by t.begun.number refl) front b
         comes_here front b makes = record {
           commits = commits;
+          admitted = admitted;
           digest = sends_own d job runs makes.ready.digest_is;
           progress = p;
           ends = ran_here job (ran p) is;
@@ -234,14 +237,14 @@ finishes o job place first t begun now tx since result same_begun same_base same
     let stood : first.since ≡ since = same_since ∙ sym since_is in
     let told : outcome_of (tx_of first) first.since result ≡ outcome_of tx since result = λ i. outcome_of (record { raw = raw i }) (stood i) result in
     subst (λ x. Attempted o k job place x now) told
-    (ends_as o place k first begun c job t.done runs done.commits t.ended now result done.goes_on
+    (ends_as o place k first begun c job t.done runs done.commits done.admitted t.ended now result done.goes_on
     (subst (λ x. Calls begun now (λ front added. calls.Commits o front x job.digest result added)) same m))
 
 -- ---- what statements leave to commit
 
 pub done_here : (o : Opening) (job : Job) (place : Place) (t d : Opened) (known : Known Entry) → MayCommit o known t → d ≡ record t { done = d.done }
-    → ran d.done ≡ run t.begun t.base job.statements → t.ended ≡ false → job.abort ≡ false → IsDone o job place d known
-done_here o job place t d known may same runs goes commits =
+    → ran d.done ≡ run t.begun t.base job.statements → t.ended ≡ false → job.abort ≡ false → job.denied ≡ None → IsDone o job place d known
+done_here o job place t d known may same runs goes commits admitted =
     let begun : d.begun ≡ t.begun = ap (λ (x : Opened). x.begun) same in
     let base : d.base ≡ t.base = ap (λ (x : Opened). x.base) same in
     let stood : d.since ≡ t.since = ap (λ (x : Opened). x.since) same in
@@ -263,4 +266,5 @@ done_here o job place t d known may same runs goes commits =
       runs = ran_so;
       goes_on = ap (λ (x : Opened). x.ended) same ∙ goes;
       commits = commits;
+      admitted = admitted;
     }

@@ -3,7 +3,7 @@ use Rattle.std.proofs.Common.{◌≡◌, ◌∙◌, ℕ, zero, suc, List, [], �
 use Rattle.ql_types.specs.declared.Place.{Place}
 use Rattle.ql_types.specs.declared.TxId.{TxId}
 use Rattle.ledger_model.specs.declared.outcome.Outcome.{Outcome}
-use Rattle.ledger_model.specs.declared.outcome.Outcome.TheVariants.{Aborted, Committed, Conflict, DigestDiffers, IdsSpent, JournalFull, OutOfMemory, Refused, StoreFault}
+use Rattle.ledger_model.specs.declared.outcome.Outcome.TheVariants.{Aborted, Committed, Conflict, Denied, DigestDiffers, IdsSpent, JournalFull, OutOfMemory, Refused, StoreFault}
 use Rattle.ledger_model.specs.declared.script.Job.{Job}
 use Rattle.session_driver.specs.Retries.{Conflicted, Retried}
 use Rattle.turn_lock.specs.declared.view.Known.{Known}
@@ -48,6 +48,7 @@ module _ (o : Opening) (job : Job) (place : Place) (k now : Known Entry) where
   attempted_one (JournalFull tx blocks) h = begun_one tx h.ready.begun (seen_one h.ready.begun.now now h.sees)
   attempted_one (IdsSpent last) h = seen_one k now h.sees
   attempted_one (Aborted tx since) h = begun_one tx h.begun (seen_one h.begun.now now h.sees)
+  attempted_one (Denied statement action table rule) h = seen_one k now h.sees
   attempted_one OutOfMemory h = wanted_one h
 
 module _ (o : Opening) where

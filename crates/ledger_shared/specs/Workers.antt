@@ -1,9 +1,11 @@
 -- A worker of the ledger: what it knows, and what one attempt at a job's transaction does to that.
-use Rattle.std.specs.Prelude.{◌≡◌, ℕ, false, refl, List}
+use Rattle.std.specs.Prelude.{◌≡◌, ◌⊎◌, ℕ, false, refl, List, None}
 use Rattle.std.specs.Coded.{Coded, code_by, coded×, coded_ℕ, coded_list}
 use Rattle.ql_types.specs.declared.Place.{Place}
 use Rattle.ledger_model.specs.declared.outcome.Outcome.{Outcome}
+use Rattle.ledger_model.specs.declared.outcome.Outcome.TheVariants.{Denied, OutOfMemory}
 use Rattle.ledger_model.specs.Run.{ran, run}
+use Rattle.ledger_model.specs.declared.script.Denial.{Denial}
 use Rattle.ledger_model.specs.declared.script.Job.{Job}
 use Rattle.outside.specs.Told.{StoreTold}
 use Rattle.atomic_table.specs.Seated.{TableId, table_id_coded}
@@ -49,18 +51,29 @@ module _ {S C : Type 0} (told : S → StoreTold) where
     pub opened : after.opened ≡ before.opened
     pub attempted : Attempted (opening_of told before.opened) before.known job place outcome after.known
 
+-- ---- a denial
+
+abbrev pub denied_as : Denial → Outcome
+denied_as denial = Denied denial.statement denial.action denial.table denial.rule
+
+-- it is told, unless memory runs out
+abbrev pub TellsDenial : Denial → Outcome → Type 0
+TellsDenial denial outcome = (outcome ≡ OutOfMemory) ⊎ (outcome ≡ denied_as denial)
+
 -- ---- an attempt
 
 -- the transaction has begun at the place with the pass, and nothing else happened
 abbrev pub Starts : Opening → Known Entry → Place → Opened → Known Entry → Type 0
 Starts o k place t now = Calls k now (λ front added. Opens o front place t added)
 
--- all statements of the job's transaction are done, and it is to be committed with what the pass knows
+-- all statements of the job's transaction are done, nothing of it is denied, and it is to be committed with what the
+-- pass knows
 pub record IsDone (o : Opening) (job : Job) (place : Place) (t : Opened) (now : Known Entry) : Type 0 where
   pub may : MayCommit o now t
   pub runs : run t.begun t.base job.statements ≡ ran t.done
   pub goes_on : t.ended ≡ false
   pub commits : job.abort ≡ false
+  pub admitted : job.denied ≡ None
 
 -- this is how an attempt ends whose transaction began so
 abbrev pub Ends : Opening → Job → Place → Opened → Known Entry → Outcome → Known Entry → Type 0

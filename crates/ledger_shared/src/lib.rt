@@ -2,6 +2,7 @@
 #![tactic(auto)]
 
 mod crew;
+mod denials;
 mod desks;
 mod entry;
 mod laws;

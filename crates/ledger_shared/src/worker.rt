@@ -1,5 +1,5 @@
 //! A worker of the ledger: an attempt at a job's transaction with its pass.
-ghost use Rattle.std.specs.Prelude.{◌≡◌, false, IfOk, OnErr, OnOk};
+ghost use Rattle.std.specs.Prelude.{◌≡◌, false, None, IfOk, OnErr, OnOk};
 ghost use Rattle.txn_core.specs.Opened.{Opened};
 ghost use Rattle.ledger_model.specs.Run.{run, start};
 ghost use Rattle.ledger_model.specs.declared.script.Job.{Job};
@@ -11,12 +11,13 @@ ghost use Rattle.ledger_shared.specs.Behind.{IsRightFor, opening_of};
 ghost use Rattle.ledger_shared.specs.Desks.{IsOf};
 ghost use Rattle.ledger_shared.specs.Known.{MayCommit};
 ghost use Rattle.ledger_shared.specs.Ledgers.{IsPass, opened_of, table_of};
-ghost use Rattle.ledger_shared.specs.Workers.{Ends, IsDone, Tries};
+ghost use Rattle.ledger_shared.specs.Workers.{Ends, IsDone, TellsDenial, Tries};
 
+use crate::denials::denied;
 use crate::ledger::{Ledger, Pass};
 use ion_values::OutOfMemory;
 use ledger_core::{BeginFault, outcome_of};
-use ledger_model::{Job, Outcome, Request};
+use ledger_model::{Denial, Job, Outcome, Request};
 use outside::{Clock, Gate, JournalStore, Step};
 use ql_types::Place;
 use session_driver::Link;
@@ -93,6 +94,13 @@ impl<'a, S: JournalStore, C: Clock, G: Gate> Worker<'a, S, C, G> {
         })
     }
 
+    /// The outcome of a transaction of which this is denied.
+    fn deny(&self, denial: &Denial) -> Outcome
+        ensures { TellsDenial denial.now result }
+    {
+        denied(self.alloc, denial)
+    }
+
     /// The pass.
     pub fn into_pass(self) -> Pass<S, C>
         ensures pass { Rests (IsRightFor S.told) self.entry.table self.entry.opened result }
@@ -117,14 +125,16 @@ trait Steps {
     ghost may_finish: { Self → Job → Place → Opened → Type 0 };
 
     /// Runs the job's transaction once, from its begin to its end.
-    fn run_once<R: Wait + Sync>(&mut self, rt: &R, job: &Job, place: Place) -> Outcome;
+    fn run_once<R: Wait + Sync>(&mut self, rt: &R, job: &Job, place: Place) -> Outcome
+        requires admitted { job.now.denied ≡ None };
 
     /// Runs the job's statements as the transaction that has begun, and commits or aborts it.
     fn run<R: Wait + Sync>(&mut self, rt: &R, job: &Job, place: Place, txn: Txn) -> Outcome
         requires may { may_run self.old txn }
         requires fresh { txn.done ≡ start }
         requires goes_on { txn.ended ≡ false }
-        requires at { txn.place ≡ place };
+        requires at { txn.place ≡ place }
+        requires admitted { job.now.denied ≡ None };
 
     /// Runs all statements of a transaction that has run none, and calls the gate before each. `OutOfMemory` comes also
     /// where the transaction makes more than 2^24 - 1 tables and documents, or has more than 2^32 - 1 statements.
@@ -155,6 +165,7 @@ impl<'a, S: JournalStore, C: Clock, G: Gate> Steps for Worker<'a, S, C, G> {
     ghost may_finish = { λ w job place t. IsDone (opening_of S.told w.opened) job place t w.known };
 
     fn run_once<R: Wait + Sync>(&mut self, rt: &R, job: &Job, place: Place) -> Outcome
+        requires admitted { job.now.denied ≡ None }
         ensures { Tries S.told self.old job.now place result self.new }
     {
         self.gate.at(rt, place, Step::BeforeBegin);
@@ -170,6 +181,7 @@ impl<'a, S: JournalStore, C: Clock, G: Gate> Steps for Worker<'a, S, C, G> {
         requires fresh { txn.done ≡ start }
         requires goes_on { txn.ended ≡ false }
         requires at { txn.place ≡ place }
+        requires admitted { job.now.denied ≡ None }
         ensures table { self.new.table ≡ self.old.table }
         ensures opened { self.new.opened ≡ self.old.opened }
         ensures ends { Ends (opening_of S.told self.old.opened) job.now place txn self.old.known result self.new.known }
@@ -242,6 +254,9 @@ impl<'a, S: JournalStore, C: Clock, G: Gate> Link for Worker<'a, S, C, G> {
     ghost attempted = { Tries S.told };
 
     fn attempt<R: Wait + Sync>(&mut self, rt: &R, job: &Job, place: Place) -> Outcome {
-        self.run_once(rt, job, place)
+        match &job.denied {
+            Some(denial) => self.deny(denial),
+            None => self.run_once(rt, job, place),
+        }
     }
 }

@@ -62,7 +62,7 @@ pub record HasHash (blocks : List Block) (number : ℕ) (h : Hash32) : Type 0 wh
   pub at : slice_get blocks number ≡ Some block
   pub hash : block.hash ≡ h
 
--- the hash climbed to is that of what the block's transaction said and did, with that of its revisions
+-- the hash climbed to joins the hash of the transaction's info with that of the block's revisions
 abbrev pub HasChanges : Block → Climb → Type 0
 HasChanges b c = c.changes ≡ changes_of (hash_of (info_value b.info b.revisions)) (revisions_root b.revisions)
 

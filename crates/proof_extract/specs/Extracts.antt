@@ -47,7 +47,7 @@ data_in _ = None
 abbrev pub AreAlike : Value → Value → Type 0
 AreAlike v w = hash_of v ≡ hash_of w → is_equivalent v w ≡ true
 
--- the part hashes are the same, and where a value stands on both sides under one of them, the two are equivalent
+-- both have the same part hashes; values that both sides have under one of them are equivalent
 pub record SameParts (a : Content) (m : Metadata) (b : Content) (n : Metadata) : Type 0 where
   pub hashes : SameHashes a m b n
   pub metadata : AreAlike (metadata_value m) (metadata_value n)

@@ -172,8 +172,9 @@ fn same_entries(
     stop_at_previous(alloc, blocks, number, proof, climbed)
 }
 
-/// The hash of the header climbed to is that of the block, and so is that of what the transaction said and did with
-/// its revisions.
+/// Returns if the climb met the block's header and its changes.
+///
+/// It stops if the hash of the header, or that of the transaction's info with the revisions, is another one.
 fn same_changes(alloc: Global, block: &Block, climbed: &Climb) -> Result<(), Stop>
     requires hashes { has_hashes block.now ≡ true }
     requires entries { climbed.now.entries ≡ block.now.entries }

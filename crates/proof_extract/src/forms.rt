@@ -5,7 +5,7 @@ ghost use Rattle.sha2.specs.Sha256.{sha256};
 ghost use Rattle.hash_model.specs.PairHash.{dot32};
 ghost use Rattle.hash_model.specs.Serialize.{hash_of, serialize};
 ghost use Rattle.ledger_model.specs.Damages.{has_hashes};
-ghost use Rattle.ledger_model.specs.Journal.{header_value, info_value, metadata_value};
+ghost use Rattle.ledger_model.specs.Journal.{header_value, info_value};
 ghost use Rattle.ledger_model.specs.Seals.{revision_hash};
 ghost use Rattle.proof_model.specs.Chained.{Chained};
 ghost use Rattle.proof_extract.specs.Climbs as spec;
@@ -13,41 +13,19 @@ ghost use Rattle.proof_extract.specs.Extracts as parts;
 ghost use Rattle.proof_extract.specs.Extracts.{AreAlike};
 ghost use Rattle.tree_descent.specs.Collisions.{IsStop};
 
-use block_form::{header_value, to_ion};
-use containers::{Bytes, OutOfMemory, Sequence};
+use block_form::{header_value, metadata_value, to_ion};
+use containers::{Bytes, OutOfMemory};
 use ion_extract::{Compared, compare_hashed};
 use ion_hash::{hash, serialize};
 use ion_values::{Value, copy};
 use laws_descent::{four_fields_are_long, ids_are_short};
-use ledger_model::{Block, Content, Header, Metadata, Revision};
+use ledger_model::{Block, Content, Header, Revision};
 use pair_hash::dot_full;
 use ql_types::{Hash, Hash32};
 use std::alloc::Global;
 use tree_descent::{Stop, pair_form, stop_if_different};
-use value_codec::parts::{id_value, moment, number, put, structure};
+use value_codec::parts::id_value;
 use value_codec::read_parts::fields_in;
-
-/// The metadata of a revision as a value.
-pub fn metadata_value(alloc: Global, metadata: &Metadata) -> Result<Value, OutOfMemory>
-    ensures { IfOk result (λ v. v ≡ metadata_value metadata.now) }
-{
-    let mut fields = Sequence::new(alloc);
-    put(alloc, &mut fields, "id", id_value(alloc, metadata.id.raw)?)?;
-    put(
-        alloc,
-        &mut fields,
-        "version",
-        number(alloc, metadata.version),
-    )?;
-    put(alloc, &mut fields, "txTime", moment(alloc, &metadata.time))?;
-    put(
-        alloc,
-        &mut fields,
-        "txId",
-        id_value(alloc, metadata.tx.raw)?,
-    )?;
-    Ok(structure(alloc, fields))
-}
 
 /// What the transaction said and did, in the value of a block.
 fn info_in(v: &Value) -> Option<&Value>

@@ -15,9 +15,8 @@ ghost use Rattle.proof_extract.specs.Extracts.{AreAlike, IsFirst, IsRevisionOf, 
 ghost use Rattle.tree_descent.specs.Collisions.{IsStop};
 
 use crate::climb::{Climb, below};
-use crate::forms::{
-    alike, data_hash, entries_of, info_value, metadata_value, revision_form, stop_at_pair,
-};
+use crate::forms::{alike, data_hash, entries_of, info_value, revision_form, stop_at_pair};
+use block_form::metadata_value;
 use containers::{OutOfMemory, Sequence};
 use ion_hash::hash;
 use ion_values::Value;
@@ -29,7 +28,7 @@ use ql_types::{Hash, Hash32};
 use std::alloc::Global;
 use tree_descent::{Stop, descend, not_a_pad, one_pair};
 
-/// Stops if a revision's hash is that of what the block's transaction said and did.
+/// Stops if a revision's hash is that of the info of the block's transaction.
 fn stop_at_info(alloc: Global, block: &Block, revision: &Revision) -> Result<(), Stop>
     requires hash { revision.now.hash ≡ hash_of (journal.info_value block.now.info block.now.revisions) }
     requires stated { revision.now.hash ≡ revision_hash revision.now.content revision.now.metadata }

@@ -1,10 +1,10 @@
 //! What of transactions is denied. A row of a table is a session and its statements, which ` then ` parts, and after
 //! ` is` the number of the statement that is denied, its demand and its rule, or none. The rules stand on a line before.
 use crate::judged::put_rule;
-use crate::reading::{put_demand, rules_of, values};
-use access_rules::{Denial, denied};
+use crate::reading::{rules_of, values};
+use access_rules::denied;
 use containers::{Sequence, Text};
-use ledger_model::{Asked, Request};
+use ledger_model::{Asked, Denial, Request};
 use std::alloc::Global;
 
 /// Which statement of a transaction is denied.
@@ -162,7 +162,9 @@ fn requests(alloc: Global, texts: &str) -> Option<Asked> {
 fn put_denial(alloc: Global, out: &mut String, denial: &Denial) -> Option<()> {
     let number = format!(in alloc; " {} ", denial.statement).ok()?;
     out.push_str(number.as_str()).ok()?;
-    put_demand(out, &denial.demand)?;
+    out.push_str(denial.action.as_str()).ok()?;
+    out.push(' ').ok()?;
+    out.push_str(denial.table.as_str()).ok()?;
     put_rule(out, &denial.rule)
 }
 

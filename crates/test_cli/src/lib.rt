@@ -26,6 +26,8 @@ mod registration;
 #[cfg(test)]
 mod rows;
 #[cfg(test)]
+mod ruled;
+#[cfg(test)]
 mod runs;
 #[cfg(test)]
 mod selects;

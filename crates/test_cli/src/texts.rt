@@ -1,6 +1,7 @@
 //! Texts that rows name.
 use crate::extracts::SIX_BLOCKS;
 use crate::failing::{MENDED_BY_SETTLE, MENDED_LATER, STORE_FAULT, THREE};
+use crate::ruled::{ALL, KEEP};
 use crate::runs::{COMMITTED, FIRST, FOUR_OUTCOMES, RUN, SESSIONS};
 use crate::verdicts::HONEST;
 use std::alloc::Global;
@@ -25,6 +26,8 @@ fn named(name: &str) -> Option<&'static str> {
         "THREE" => Some(THREE),
         "MENDED_LATER" => Some(MENDED_LATER),
         "MENDED_BY_SETTLE" => Some(MENDED_BY_SETTLE),
+        "ALL" => Some(ALL),
+        "KEEP" => Some(KEEP),
         "SESSIONS" => Some(SESSIONS),
         "FOUR_OUTCOMES" => Some(FOUR_OUTCOMES),
         "ONE_BLOCK" => Some(ONE_BLOCK),
@@ -71,12 +74,23 @@ fn repeated(alloc: Global, part: &str, count: usize) -> Option<String> {
     Some(text)
 }
 
-/// The text in which something may stand between two `@` for another text.
+/// What stands for a part of a text: the text that it names, or itself.
+fn part_of(alloc: Global, part: &str, is_name: bool) -> Option<String> {
+    if is_name {
+        text_of(alloc, part)
+    } else {
+        String::from_str(alloc, part).ok()
+    }
+}
+
+/// The text in which each part between two `@` names another text.
 pub fn spelled(alloc: Global, text: &str) -> Option<String> {
-    let Some((before, rest)) = text.split_once('@') else {
-        return String::from_str(alloc, text).ok();
-    };
-    let (name, after) = rest.split_once('@')?;
-    let text = text_of(alloc, name)?;
-    format!(in alloc; "{before}{text}{after}").ok()
+    let mut whole = String::new(alloc);
+    let mut is_name = false;
+    for part in text.split('@') {
+        let part = part_of(alloc, part, is_name)?;
+        whole.push_str(part.as_str()).ok()?;
+        is_name = !is_name;
+    }
+    Some(whole)
 }

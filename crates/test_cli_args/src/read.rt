@@ -1,14 +1,107 @@
 //! Words that are read.
 use crate::words::asked;
-use cli_args::{Command, IdSource, MakeOptions, RunOptions};
+use cli_args::{Command, IdSource, MakeOptions};
+use ion_values::Text;
+use std::alloc::Global;
 
-/// A run that takes its ids from there, at the clock's times, by four workers.
-fn from_ids(ids: IdSource) -> Command {
-    Command::Run(RunOptions {
+/// What the words of a run are to say.
+#[derive(Clone, Copy)]
+struct Wanted<'a> {
+    ids: IdSource,
+    time: Option<i64>,
+    workers: u32,
+    rules: Option<&'a str>,
+}
+
+fn is_named(rules: &Option<Text>, wanted: Option<&str>) -> bool {
+    match (rules, wanted) {
+        (Some(name), Some(wanted)) => name.as_str() == wanted,
+        (None, None) => true,
+        _ => false,
+    }
+}
+
+/// Whether the words of a line ask for such a run.
+fn is_run(alloc: Global, line: &str, wanted: Wanted<'_>) -> bool {
+    match asked(alloc, line) {
+        Some(Ok(Command::Run(options))) => {
+            options.ids == wanted.ids
+                && options.time == wanted.time
+                && options.workers == wanted.workers
+                && is_named(&options.rules, wanted.rules)
+        }
+        _ => false,
+    }
+}
+
+/// Whether the words of a line ask for this workload.
+fn is_make(alloc: Global, line: &str, wanted: MakeOptions) -> bool {
+    match asked(alloc, line) {
+        Some(Ok(Command::Make(options))) => options == wanted,
+        _ => false,
+    }
+}
+
+/// Whether the words of a line ask for the digest with this tip.
+fn is_digest(alloc: Global, line: &str, wanted: Option<u64>) -> bool {
+    match asked(alloc, line) {
+        Some(Ok(Command::Digest { tip })) => tip == wanted,
+        _ => false,
+    }
+}
+
+/// Whether the words of a line ask for the proof of this revision of this block with this tip.
+fn is_prove(alloc: Global, line: &str, wanted: (u64, u32, Option<u64>)) -> bool {
+    match asked(alloc, line) {
+        Some(
+            Ok(
+                Command::Prove {
+                    sequence,
+                    index,
+                    tip,
+                },
+            ),
+        ) => (sequence, index, tip) == wanted,
+        _ => false,
+    }
+}
+
+fn is_verify(alloc: Global, line: &str) -> bool {
+    match asked(alloc, line) {
+        Some(Ok(Command::Verify)) => true,
+        _ => false,
+    }
+}
+
+fn is_extract(alloc: Global, line: &str) -> bool {
+    match asked(alloc, line) {
+        Some(Ok(Command::Extract)) => true,
+        _ => false,
+    }
+}
+
+fn is_export(alloc: Global, line: &str) -> bool {
+    match asked(alloc, line) {
+        Some(Ok(Command::Export)) => true,
+        _ => false,
+    }
+}
+
+fn is_audit(alloc: Global, line: &str) -> bool {
+    match asked(alloc, line) {
+        Some(Ok(Command::Audit)) => true,
+        _ => false,
+    }
+}
+
+/// A run that takes its ids from there, at the clock's times, by four workers, under no rules.
+fn from_ids(ids: IdSource) -> Wanted<'static> {
+    Wanted {
         ids,
         time: None,
         workers: 4,
-    })
+        rules: None,
+    }
 }
 
 #[test]
@@ -25,10 +118,7 @@ fn words_of_run(rt: HostRuntime) {
             IdSource::Seed(18_446_744_073_709_551_615),
         ),
     ] {
-        assert!(rt;
-            asked(rt.alloc(), line) == Some(Ok(from_ids(ids))),
-            "{line}"
-        );
+        assert!(rt; is_run(rt.alloc(), line, from_ids(ids)), "{line}");
     }
 }
 
@@ -61,12 +151,11 @@ fn times_of_run(rt: HostRuntime) {
             253_402_300_799_999,
         ),
     ] {
-        let wanted = Command::Run(RunOptions {
-            ids: IdSource::Plain,
+        let wanted = Wanted {
             time: Some(time),
-            workers: 4,
-        });
-        assert!(rt; asked(rt.alloc(), line) == Some(Ok(wanted)), "{line}");
+            ..from_ids(IdSource::Plain)
+        };
+        assert!(rt; is_run(rt.alloc(), line, wanted), "{line}");
     }
 }
 
@@ -78,12 +167,26 @@ fn workers_of_run(rt: HostRuntime) {
         ("run --plain-ids", 4),
         ("run --workers 64 --plain-ids", 64),
     ] {
-        let wanted = Command::Run(RunOptions {
-            ids: IdSource::Plain,
-            time: None,
+        let wanted = Wanted {
             workers,
-        });
-        assert!(rt; asked(rt.alloc(), line) == Some(Ok(wanted)), "{line}");
+            ..from_ids(IdSource::Plain)
+        };
+        assert!(rt; is_run(rt.alloc(), line, wanted), "{line}");
+    }
+}
+
+#[test]
+fn rules_of_run(rt: HostRuntime) {
+    for (line, rules) in [
+        ("run --rules r --plain-ids", "r"),
+        ("run --plain-ids --rules=clerks", "clerks"),
+        ("run --rules= --plain-ids", ""),
+    ] {
+        let wanted = Wanted {
+            rules: Some(rules),
+            ..from_ids(IdSource::Plain)
+        };
+        assert!(rt; is_run(rt.alloc(), line, wanted), "{line}");
     }
 }
 
@@ -114,13 +217,13 @@ fn words_of_make(rt: HostRuntime) {
             4,
         ),
     ] {
-        let wanted = Command::Make(MakeOptions {
+        let wanted = MakeOptions {
             seed,
             sessions,
             transactions,
             workers,
-        });
-        assert!(rt; asked(rt.alloc(), line) == Some(Ok(wanted)), "{line}");
+        };
+        assert!(rt; is_make(rt.alloc(), line, wanted), "{line}");
     }
 }
 
@@ -135,10 +238,7 @@ fn words_of_digest(rt: HostRuntime) {
             Some(18_446_744_073_709_551_615),
         ),
     ] {
-        assert!(rt;
-            asked(rt.alloc(), line) == Some(Ok(Command::Digest { tip })),
-            "{line}"
-        );
+        assert!(rt; is_digest(rt.alloc(), line, tip), "{line}");
     }
 }
 
@@ -156,26 +256,20 @@ fn words_of_prove(rt: HostRuntime) {
             Some(0),
         ),
     ] {
-        let wanted = Command::Prove {
-            sequence,
-            index,
-            tip,
-        };
-        assert!(rt; asked(rt.alloc(), line) == Some(Ok(wanted)), "{line}");
+        assert!(rt;
+            is_prove(rt.alloc(), line, (sequence, index, tip)),
+            "{line}"
+        );
     }
 }
 
 #[test]
 fn words_without_values(rt: HostRuntime) {
-    for (line, wanted) in [
-        ("verify", Command::Verify),
-        ("verify --", Command::Verify),
-        ("extract", Command::Extract),
-        ("extract --", Command::Extract),
-        ("audit", Command::Audit),
-        ("export", Command::Export),
-        ("export --", Command::Export),
-    ] {
-        assert!(rt; asked(rt.alloc(), line) == Some(Ok(wanted)), "{line}");
-    }
+    assert!(rt; is_verify(rt.alloc(), "verify"));
+    assert!(rt; is_verify(rt.alloc(), "verify --"));
+    assert!(rt; is_audit(rt.alloc(), "audit"));
+    assert!(rt; is_extract(rt.alloc(), "extract"));
+    assert!(rt; is_extract(rt.alloc(), "extract --"));
+    assert!(rt; is_export(rt.alloc(), "export"));
+    assert!(rt; is_export(rt.alloc(), "export --"));
 }

@@ -61,6 +61,7 @@ fn job(alloc: Global) -> Option<Job> {
         retries: 0,
         digest: None,
         abort: false,
+        denied: None,
     })
 }
 

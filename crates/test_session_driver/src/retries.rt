@@ -44,6 +44,7 @@ fn job_of(alloc: Global, retries: u32) -> Job {
         retries,
         digest: None,
         abort: false,
+        denied: None,
     }
 }
 

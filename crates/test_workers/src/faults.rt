@@ -32,6 +32,7 @@ fn letter(outcome: &Outcome) -> char {
         Outcome::Refused { .. } => 'R',
         Outcome::StoreFault { .. } => 'S',
         Outcome::Aborted { .. } => 'A',
+        Outcome::Denied { .. } => 'D',
         _ => '?',
     }
 }
@@ -163,7 +164,9 @@ rest 4 2 > SELECT * FROM t;SELECT * FROM t > S1 2 4
 rest 4 9999 > SELECT * FROM t;SELECT * FROM t > S1 2 4
 rest 5 0 > SELECT * FROM t;SELECT * FROM t > S1 2 4
 # a transaction is given up
-nothing 99 0 > -CREATE TABLE t;SELECT * FROM t;CREATE TABLE t;CREATE TABLE t;-SELECT * FROM t > AR0RA 1 4";
+nothing 99 0 > -CREATE TABLE t;SELECT * FROM t;CREATE TABLE t;CREATE TABLE t;-SELECT * FROM t > AR0RA 1 4
+# one of which the rules deny something draws no number
+nothing 99 0 > CREATE TABLE t;!SELECT * FROM t;SELECT * FROM t;-!SELECT * FROM t > 0D1D 2 3";
 
 /// The first row that doesn't come out as it says.
 fn failing<R: Threads + Wait + Sync>(rt: &R, alloc: Global) -> Option<&'static str> {

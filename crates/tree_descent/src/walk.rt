@@ -93,8 +93,8 @@ fn place_below(
 
 /// Returns the place of the leaf at which a path from the root ends.
 ///
-/// The root is that of the tree over these leaves, the way down begins with the path's last hash, and the leaf is
-/// `start`. Places are counted from 0; None says that the way ends at a pad. It stops with two different byte strings
+/// The leaves are those under the root. The way down begins with the path's last hash, and the leaf is `start`.
+/// Places are counted from 0; None says that the way ends at a pad. It stops with two different byte strings
 /// of equal SHA-256 where the path leaves the tree.
 pub fn descend(
     alloc: Global,

@@ -31,7 +31,7 @@ made_amount seed session transaction = amount_at (session_stream seed session (t
 
 -- a transaction of these statements in which a script says nothing else
 abbrev pub job_of : List Request → Job
-job_of statements = record { statements = statements; retries = 4; digest = None; abort = false }
+job_of statements = record { statements = statements; retries = 4; digest = None; abort = false; denied = None }
 
 -- a statement with one parameter
 abbrev pub asked_with : List ℕ → Value → Request

@@ -45,6 +45,7 @@ fn job_of(alloc: Global, first: Request, second: Request) -> Result<Job, OutOfMe
         retries: 4,
         digest: None,
         abort: false,
+        denied: None,
     })
 }
 

@@ -1,11 +1,11 @@
 //! How a transaction ended.
-ghost use Rattle.std.specs.Prelude.{◌≡◌, ◌++◌, OnOk};
-ghost use Rattle.ledger_model.specs.Report.{committed_text, conflict_text, digest_differs_text, journal_full_text, outcome_text, refused_text, since_text, store_fault_text, ids_spent_text, aborted_text};
+ghost use Rattle.std.specs.Prelude.{◌≡◌, ◌++◌, codes, OnOk};
+ghost use Rattle.ledger_model.specs.Report.{committed_text, conflict_text, digest_differs_text, journal_full_text, outcome_text, refused_text, since_text, store_fault_text, ids_spent_text, aborted_text, demand_text, rule_text};
 
 use super::answers::put_block;
 use super::causes::put_cause;
 use super::items::put_item;
-use super::pieces::{put_blob, put_counted, put_id, put_number};
+use super::pieces::{put_blob, put_counted, put_id, put_number, put_string};
 use containers::{OutOfMemory, Text};
 use ledger_model::{Blocks, Named, Outcome, Refusal};
 use ql_types::{Hash32, TxId};
@@ -48,6 +48,15 @@ pub fn put_outcome(
         Outcome::JournalFull { tx, blocks } => put_journal_full(alloc, out, *tx, *blocks),
         Outcome::IdsSpent { last } => put_ids_spent(alloc, out, *last),
         Outcome::Aborted { tx, since } => put_aborted(alloc, out, ran_on(*tx, *since)),
+        Outcome::Denied {
+            statement,
+            action,
+            table,
+            rule,
+        } => {
+            put_demand(alloc, out, *statement, action, table)?;
+            put_rule(alloc, out, rule)
+        }
         Outcome::OutOfMemory => out.push_str("out_of_memory"),
     }
 }
@@ -167,4 +176,33 @@ fn put_aborted(alloc: Global, out: &mut Text, begun: Begun) -> Result<(), OutOfM
 {
     out.push_str("aborted")?;
     put_since(alloc, out, begun)
+}
+
+/// Appends what is denied: of a statement, on a table.
+fn put_demand(
+    alloc: Global,
+    out: &mut Text,
+    statement: u32,
+    action: &Text,
+    table: &Text,
+) -> Result<(), OutOfMemory>
+    ensures { OnOk result (out.new ≡ out.old ++ demand_text statement action.now table.now) }
+{
+    out.push_str("denied,statement:")?;
+    put_number(alloc, out, statement as u64)?;
+    out.push_str(",action:")?;
+    out.push_str(action.as_str())?;
+    out.push_str(",table:")?;
+    put_string(alloc, out, table)
+}
+
+/// Appends the rule by which it is denied, or null.
+fn put_rule(alloc: Global, out: &mut Text, rule: &Option<Text>) -> Result<(), OutOfMemory>
+    ensures { OnOk result (out.new ≡ out.old ++ (codes ",rule:" ++ rule_text rule.now)) }
+{
+    out.push_str(",rule:")?;
+    match rule {
+        Some(name) => put_string(alloc, out, name),
+        None => out.push_str("null"),
+    }
 }

@@ -40,6 +40,7 @@ fn job_said(alloc: Global, fields: Fields) -> Result<Job, JobFault>
         retries: retries?,
         digest: digest?,
         abort: abort?,
+        denied: None,
     })
 }
 

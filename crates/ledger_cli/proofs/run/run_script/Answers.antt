@@ -13,7 +13,7 @@ pub returns-in-Some-clause-done : goal.returns-in-Some-clause-done
 returns-in-Some-clause-done g c =
     let k = c.run_by-value in
     let m = c.mask_by-mask in
-    let o = c.args.options in
+    let o = c.args.options.now in
     let s = span (g.S.JournalStore.told c.args.resources.store) (g.S.JournalStore.told k.result.store) in
     let first = g.C.Clock.answers c.args.resources.clock in
     let last = g.C.Clock.answers m.new.clock in
@@ -32,7 +32,7 @@ pub returns-in-Some-clause-ended : goal.returns-in-Some-clause-ended
 returns-in-Some-clause-ended g c =
     let k = c.run_by-value in
     let m = c.mask_by-mask in
-    let o = c.args.options in
+    let o = c.args.options.now in
     let s = span (g.S.JournalStore.told c.args.resources.store) (g.S.JournalStore.told k.result.store) in
     let first = g.C.Clock.answers c.args.resources.clock in
     let last = g.C.Clock.answers m.new.clock in
@@ -51,7 +51,7 @@ pub returns-in-None-clause-done : goal.returns-in-None-clause-done
 returns-in-None-clause-done g c =
     let k = c.run_by in
     let m = c.mask_by-mask in
-    let o = c.args.options in
+    let o = c.args.options.now in
     let s = span (g.S.JournalStore.told c.args.resources.store) (g.S.JournalStore.told k.result.store) in
     let clocks = clock_told g.C.Clock.answers g.C.Clock.always in
     let first = g.C.Clock.answers c.args.resources.clock in
@@ -68,7 +68,7 @@ pub returns-in-None-clause-ended : goal.returns-in-None-clause-ended
 returns-in-None-clause-ended g c =
     let k = c.run_by in
     let m = c.mask_by-mask in
-    let o = c.args.options in
+    let o = c.args.options.now in
     let s = span (g.S.JournalStore.told c.args.resources.store) (g.S.JournalStore.told k.result.store) in
     let clocks = clock_told g.C.Clock.answers g.C.Clock.always in
     let first = g.C.Clock.answers c.args.resources.clock in
@@ -83,10 +83,10 @@ returns-in-None-clause-ended g c =
 
 pub returns-in-Some-clause-asks : goal.returns-in-Some-clause-asks
 returns-in-Some-clause-asks g c e =
-    unasked c.args.options.time c.args.options.ids c.args.resources.clock c.mask_by-mask.new.clock c.mask_by-mask.new.clock c.mask_by-mask.ensures.asks
+    unasked c.args.options.now.time c.args.options.now.ids c.args.resources.clock c.mask_by-mask.new.clock c.mask_by-mask.new.clock c.mask_by-mask.ensures.asks
     (λ _. refl) e
 
 pub returns-in-None-clause-asks : goal.returns-in-None-clause-asks
 returns-in-None-clause-asks g c e =
-    unasked c.args.options.time c.args.options.ids c.args.resources.clock c.mask_by-mask.new.clock c.run_by.result.clock c.mask_by-mask.ensures.asks
-    (λ f. absurd (not_none c.args.options.time c.in-None.is f)) e
+    unasked c.args.options.now.time c.args.options.now.ids c.args.resources.clock c.mask_by-mask.new.clock c.run_by.result.clock c.mask_by-mask.ensures.asks
+    (λ f. absurd (not_none c.args.options.now.time c.in-None.is f)) e

@@ -25,8 +25,8 @@ returns-in-Ok-clause-keeps g c =
     (span (g.C.Clock.answers r.clock) (g.C.Clock.answers k.result.clock)) in
     keeps_run (k.result.store ≡ r.store) c.args.options x c.in-Ok.script reads.0 reads.2 k.result.value k.ensures.done k.ensures.ended
 
-pub returns-in-Err-clause-works : goal.returns-in-Err-clause-works
-returns-in-Err-clause-works g c =
+pub returns-clause-works : goal.returns-clause-works
+returns-clause-works g c =
     let r = c.args.resources in
     let answers = g.C.Clock.answers r.clock in
     let store = g.St.JournalStore.told r.store in
@@ -34,5 +34,5 @@ returns-in-Err-clause-works g c =
     works_unread (r.store ≡ r.store) c.args.options (outside source (span store store) (span answers answers)) c.in-Err.why
     (record { is = refl; told = refl }) c.in-Err.ensures.reads
 
-pub returns-in-Err-clause-keeps : goal.returns-in-Err-clause-keeps
-returns-in-Err-clause-keeps g c = keeps_run_all _ _ refl
+pub returns-clause-keeps : goal.returns-clause-keeps
+returns-clause-keeps g c = keeps_run_all _ _ refl

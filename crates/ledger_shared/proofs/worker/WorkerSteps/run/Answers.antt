@@ -10,7 +10,8 @@ finish-requires g c =
     let d = c.in-Ok-Done.txn in
     record {
       done = is_done o c.args.job.now c.args.place c.args.txn c.in-Ok-Done.field-0 c.as_slice.result.now c.as_slice.ensures c.in-Ok-Done.ensures.ran c.in-Ok-Done.ensures.of
-          c.args.self.now.known d c.in-Ok-Done.field-0-is c.requires.may c.requires.goes_on c.if-job.false;
+          c.args.self.now.known d c.in-Ok-Done.field-0-is c.requires.may c.requires.goes_on c.if-job.false
+          c.requires.admitted;
     }
 
 pub returns-then-job-clause-ends : goal.returns-then-job-clause-ends
@@ -19,7 +20,8 @@ returns-then-job-clause-ends g c =
     let o = opening_of told c.args.self.now.opened in
     let k = c.args.self.now.known in
     (is_given_up o c.args.job.now c.args.place c.args.txn c.in-Ok-Done.field-0 c.as_slice.result.now c.as_slice.ensures c.in-Ok-Done.ensures.ran c.in-Ok-Done.ensures.of
-    k c.in-Ok-Done.txn c.tx-tx.result c.since-since.result c.in-Ok-Done.field-0-is c.tx-tx.ensures c.since-since.ensures c.if-job.true)
+    k c.in-Ok-Done.txn c.tx-tx.result c.since-since.result c.in-Ok-Done.field-0-is c.tx-tx.ensures c.since-since.ensures c.if-job.true
+    c.requires.admitted)
 
 pub returns-else-job-clause-ends : goal.returns-else-job-clause-ends
 returns-else-job-clause-ends g c =
@@ -37,7 +39,8 @@ returns-in-Ok-Refused-clause-ends g c =
     let k = c.args.self.now.known in
     let outcome = Refused c.tx-tx.result c.since-since.result c.in-Ok-Refused.statement c.in-Ok-Refused.cause in
     (is_refused o c.args.job.now c.args.place c.args.txn c.in-Ok-Refused.field-0 c.as_slice.result.now c.as_slice.ensures c.in-Ok-Refused.ensures.ran c.in-Ok-Refused.ensures.of
-    k c.tx-tx.result c.since-since.result c.in-Ok-Refused.statement c.in-Ok-Refused.cause c.in-Ok-Refused.field-0-is c.tx-tx.ensures c.since-since.ensures)
+    k c.tx-tx.result c.since-since.result c.in-Ok-Refused.statement c.in-Ok-Refused.cause c.in-Ok-Refused.field-0-is c.tx-tx.ensures c.since-since.ensures
+    c.requires.admitted)
 
 pub returns-in-Err-clause-ends : goal.returns-in-Err-clause-ends
 returns-in-Err-clause-ends g c =

@@ -46,7 +46,7 @@ returns-in-Err-IdsSpent g c =
     let ends = rw c.in-Err-IdsSpent.field-0-is at c.in-Err-IdsSpent.ensures.begins in
     rw c.in-Err-IdsSpent.field-0-is (
     subst (λ (w : WorkerHeld _ _). Tries told w c.args.job.now c.args.place (IdsSpent c.in-Err-IdsSpent.last) after) c.self.view_is
-    (record { table = refl; opened = refl; attempted = spends o c.args.job.now c.args.place k now c.in-Err-IdsSpent.last ends }))
+    (record { table = refl; opened = refl; attempted = spends o c.args.job.now c.args.place k now c.in-Err-IdsSpent.last c.requires.admitted ends }))
 
 pub returns-in-Err-OutOfMemory : goal.returns-in-Err-OutOfMemory
 returns-in-Err-OutOfMemory g c =
