@@ -17,6 +17,7 @@ import ion_binary
 
 ROOT = Path(__file__).resolve().parent.parent
 PROGRAM = ROOT / "crates" / "ledger" / "out" / "ledger"
+RULES = "// rules "
 RUN = ["run", "--workers", "1", "--plain-ids", "--at", "2020-01-01T00:00:00.000Z"]
 MAKE = ["make", "--seed", "1", "--sessions", "4", "--transactions", "40", "--workers", "2"]
 EMPTY = bytes.fromhex("e00100ea")
@@ -61,9 +62,15 @@ def kinds(program, journal):
     check(status == 0 and report.count(b"committed") == 4, f"the kinds are committed: {report[:400]}")
 
 
+def rules_of(script):
+    """The words that name the rules of the script, if its second line does."""
+    second = script.read_text().split("\n")[1]
+    return ["--rules", second.removeprefix(RULES)] if second.startswith(RULES) else []
+
+
 def example(program, journal, scripts):
     for script in scripts:
-        status, report = run(program, journal, RUN, script.read_bytes())
+        status, report = run(program, journal, [*RUN, *rules_of(script)], script.read_bytes())
         check(status == 0, f"{script.name} is run: {report[:400]}")
 
 

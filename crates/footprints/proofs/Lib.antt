@@ -1,3 +1,6 @@
+pub mod Firsts
 mod Indexes
 pub mod Naming
+pub mod Once
 mod Resolving
+mod SourcesRead

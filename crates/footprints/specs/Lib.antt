@@ -1,2 +1,4 @@
+pub mod Joins
 pub mod Lent
+pub mod Rules
 pub mod Sides

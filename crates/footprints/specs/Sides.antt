@@ -1,10 +1,10 @@
--- Paths as sides of equations. What they are is the same whatever the parameters are.
+-- Paths as sides of parts. What they are is the same whatever the parameters are.
 use Rattle.std.specs.Prelude.{List, ℕ, Option}
 use Rattle.ion_values.specs.declared.value.Value.{Value}
 use Rattle.pql_model.specs.declared.expr.Expr.TheFolds.{fold-Path, fold-PathStep}
 use Rattle.pql_model.specs.declared.expr.Path.{Path}
 use Rattle.pql_model.specs.declared.expr.PathStep.{PathStep}
-use Rattle.ledger_model.specs.Footprints.{Condition, Side, no_side, one_level, path_side as path_level, step_name}
+use Rattle.ledger_model.specs.Conditions.{Condition, Side, no_side, one_level, path_side as path_level, step_name}
 
 -- the name of a step
 abbrev pub step_of : List Value → PathStep → Option (List ℕ)

@@ -1,12 +1,12 @@
-//! What equations ask of the rows of sources.
-ghost use Rattle.std.specs.Prelude.{◌≡◌, ◌∷◌, None, option_map, IfOk};
-ghost use Rattle.ledger_model.specs.Footprints as spec;
-ghost use Rattle.footprints.specs.Lent.{asked_of, meant_of, side_of, texts};
+//! What the parts of a condition ask of the rows of sources.
+ghost use Rattle.std.specs.Prelude.{◌≡◌, [], ◌∷◌, ◌++◌, None, option_map, IfOk, OnOk};
+ghost use Rattle.ledger_model.specs.Conditions as spec;
+ghost use Rattle.footprints.specs.Lent.{all_asked_of, asked_of, meant_of, side_of, texts, values_lent};
 
 use crate::names::resolved;
 use crate::sides::Side;
 use containers::Sequence;
-use ion_values::{OutOfMemory, Text, Value};
+use ion_values::{Body, OutOfMemory, Text, Value};
 use pql_model::{Resolved, Source};
 use std::alloc::Global;
 
@@ -22,34 +22,174 @@ pub(crate) enum Meant<'a> {
     Unknown,
 }
 
-/// A value that a row must have.
+/// Which values are asked for: one that equals a value, one of several, or one that equals what another path means.
 #[derive(Drop)]
-pub(crate) struct Asked<'a> {
-    pub of: Meant<'a>,
-    pub value: &'a Value,
+pub(crate) enum Wanted<'a> {
+    EqualTo(&'a Value),
+    OneOf(Sequence<&'a Value>),
+    SameAs(Meant<'a>),
 }
 
-/// What a path equated with a constant, in either order, asks for.
-pub(crate) fn asked_at<'a>(
+/// What a row must have.
+#[derive(Drop)]
+pub struct Asked<'a> {
+    pub(crate) of: Meant<'a>,
+    pub(crate) wanted: Wanted<'a>,
+}
+
+/// Appends what two sides ask for that are equated: a path and a constant, or two paths, in either order.
+pub(crate) fn put_equal<'a>(
     alloc: Global,
     sources: &[Source],
+    all: &mut Vec<Asked<'a>>,
     left: Side<'a>,
     right: Side<'a>,
-) -> Result<Option<Asked<'a>>, OutOfMemory>
-    ensures { IfOk result (λ o. option_map asked_of o
-        ≡ spec.asked_at sources.now (side_of left.entry) (side_of right.entry)) }
+) -> Result<(), OutOfMemory>
+    ensures { OnOk result (all_asked_of all.new.items ≡ all_asked_of all.old.items
+        ++ spec.asked_equal sources.now (side_of left.entry) (side_of right.entry)) }
 {
     match (left, right) {
         (Side::Names { first, fields }, Side::Constant(value)) => {
             let of = meaning(alloc, sources, first, fields)?;
-            Ok(Some(Asked { of, value }))
+            all.push(equal_to(of, value))?;
         }
         (Side::Constant(value), Side::Names { first, fields }) => {
             let of = meaning(alloc, sources, first, fields)?;
-            Ok(Some(Asked { of, value }))
+            all.push(equal_to(of, value))?;
         }
+        (
+            Side::Names { first, fields },
+            Side::Names {
+                first: again,
+                fields: more,
+            },
+        ) => {
+            let of = meaning(alloc, sources, first, fields)?;
+            let other = meaning(alloc, sources, again, more)?;
+            put_both(alloc, all, of, other)?;
+        }
+        _ => {}
+    }
+    Ok(())
+}
+
+fn equal_to<'a>(of: Meant<'a>, value: &'a Value) -> Asked<'a>
+    ensures { asked_of result ≡ record { of = meant_of of.entry; wanted = spec.equal_to value.now } }
+{
+    Asked {
+        of,
+        wanted: Wanted::EqualTo(value),
+    }
+}
+
+/// Appends of two paths that each is the same as the other.
+fn put_both<'a>(
+    alloc: Global,
+    all: &mut Vec<Asked<'a>>,
+    of: Meant<'a>,
+    other: Meant<'a>,
+) -> Result<(), OutOfMemory>
+    ensures { OnOk result (all_asked_of all.new.items ≡ all_asked_of all.old.items
+        ++ record { of = meant_of of.entry; wanted = spec.same_as (meant_of other.entry) }
+        ∷ record { of = meant_of other.entry; wanted = spec.same_as (meant_of of.entry) } ∷ []) }
+{
+    let turned = Asked {
+        of: copied(alloc, &other)?,
+        wanted: Wanted::SameAs(copied(alloc, &of)?),
+    };
+    all.push(Asked {
+        of,
+        wanted: Wanted::SameAs(other),
+    })?;
+    all.push(turned)?;
+    Ok(())
+}
+
+/// The same once more.
+fn copied<'a>(alloc: Global, meant: &Meant<'a>) -> Result<Meant<'a>, OutOfMemory>
+    ensures { IfOk result (λ m. meant_of m ≡ meant_of meant.now) }
+{
+    match meant {
+        Meant::Id(place) => Ok(Meant::Id(*place)),
+        Meant::AtNames { place, fields } => {
+            let fields = copied_names(alloc, fields.as_slice())?;
+            Ok(Meant::AtNames {
+                place: *place,
+                fields,
+            })
+        }
+        Meant::Unknown => Ok(Meant::Unknown),
+    }
+}
+
+/// The names once more.
+pub(crate) fn copied_names<'a>(
+    alloc: Global,
+    names: &[&'a Text],
+) -> Result<Sequence<&'a Text>, OutOfMemory>
+    ensures { IfOk result (λ all. texts all ≡ texts names.now) }
+{
+    let mut all = Sequence::new(alloc);
+    'names: for name in names {
+        all.push(*name)?;
+    }
+    Ok(all)
+}
+
+/// Appends what it asks for that a side is IN another: a path, in a list of constants or in a constant that is a list.
+pub(crate) fn put_among<'a>(
+    alloc: Global,
+    sources: &[Source],
+    all: &mut Vec<Asked<'a>>,
+    value: Side<'a>,
+    list: Side<'a>,
+) -> Result<(), OutOfMemory>
+    ensures { OnOk result (all_asked_of all.new.items ≡ all_asked_of all.old.items
+        ++ spec.asked_among sources.now (side_of value.entry) (side_of list.entry)) }
+{
+    let Side::Names { first, fields } = value else {
+        return Ok(());
+    };
+    let Some(values) = elements_in(alloc, list)? else {
+        return Ok(());
+    };
+    let of = meaning(alloc, sources, first, fields)?;
+    all.push(Asked {
+        of,
+        wanted: Wanted::OneOf(values),
+    })?;
+    Ok(())
+}
+
+/// The elements of a list of constants, or of a constant that is a list.
+fn elements_in<'a>(
+    alloc: Global,
+    side: Side<'a>,
+) -> Result<Option<Sequence<&'a Value>>, OutOfMemory>
+    ensures { IfOk result (λ o. option_map values_lent o ≡ spec.elements_in (side_of side.entry)) }
+{
+    match side {
+        Side::Constants(values) => Ok(Some(values)),
+        Side::Constant(value) => match &value.body {
+            Body::List(values) => {
+                let values = all_lent(alloc, values.as_slice())?;
+                Ok(Some(values))
+            }
+            _ => Ok(None),
+        },
         _ => Ok(None),
     }
+}
+
+/// The values, lent one by one.
+fn all_lent<'a>(alloc: Global, values: &'a [Value]) -> Result<Sequence<&'a Value>, OutOfMemory>
+    ensures { IfOk result (λ all. values_lent all ≡ values.now) }
+{
+    let mut all = Sequence::new(alloc);
+    'values: for value in values {
+        all.push(value)?;
+    }
+    Ok(all)
 }
 
 /// What the path of these names means.

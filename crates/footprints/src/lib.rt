@@ -3,13 +3,22 @@
 #![tactic(auto)]
 
 mod asked;
-mod equations;
+mod items;
+mod joins;
 mod names;
-mod reads;
+mod parts;
+mod read;
+mod rules;
 mod schemas;
 mod sides;
 mod statements;
 mod texts;
 
+pub use asked::Asked;
+pub use joins::join_of;
+pub use parts::all_asked;
+pub use read::{Read, Spot, document_shown};
+pub use rules::items_of;
 pub use schemas::Schemas;
-pub use statements::{footprint, read_by_sources};
+pub use statements::footprint;
+pub use texts::table_in;

@@ -1,26 +1,23 @@
 //! What statements read.
-ghost use Rattle.std.specs.Prelude.{◌≡◌, ◌∷◌, [], IfOk};
+ghost use Rattle.std.specs.Prelude.{◌≡◌, ◌∷◌, ◌++◌, [], IfOk, OnOk};
 ghost use Rattle.ledger_model.specs.Footprints as spec;
 ghost use Rattle.ledger_model.specs.declared.outcome.Item.TheVariants as item;
-ghost use Rattle.footprints.specs.Lent.{schemas_of};
+ghost use Rattle.footprints.specs.Rules.{footprint_with};
 
-use crate::equations::all_asked;
-use crate::reads::{put_names, put_reads};
-use crate::schemas::Schemas;
+use crate::texts::table_in;
 use containers::Sequence;
-use ion_values::{OutOfMemory, Text, Value};
+use ion_values::{OutOfMemory, Text};
 use ledger_model::Item;
-use pql_model::{FromClause, Statement};
+use pql_model::{Source, Statement};
 use std::alloc::Global;
 
-/// What the statement reads with these parameters, in order, repeats kept.
+/// What the statement reads, where these items are read of the sources of its FROM, in order, repeats kept.
 pub fn footprint(
     alloc: Global,
-    schemas: Schemas<'_>,
     statement: &Statement,
-    params: &[Value],
+    own: Vec<Item>,
 ) -> Result<Sequence<Item>, OutOfMemory>
-    ensures { IfOk result (λ items. items ≡ spec.footprint_of (schemas_of schemas.entry) params.now statement.now) }
+    ensures { IfOk result (λ items. items ≡ footprint_with statement.now own.items) }
 {
     match statement {
         Statement::Create { table } => created(alloc, table),
@@ -30,7 +27,7 @@ pub fn footprint(
         Statement::Select { from, .. }
         | Statement::Update { from, .. }
         | Statement::From { from, .. }
-        | Statement::Delete { from } => read_by_sources(alloc, schemas, from, params),
+        | Statement::Delete { from } => read_by_sources(alloc, from.sources.as_slice(), own),
     }
 }
 
@@ -54,25 +51,30 @@ fn created(alloc: Global, table: &Text) -> Result<Sequence<Item>, OutOfMemory>
     Ok(items)
 }
 
-/// What the sources of a FROM read with these parameters: the names of their tables, and then what is read of each.
-pub fn read_by_sources(
+/// The names of the tables of the sources, and then the items.
+fn read_by_sources(
     alloc: Global,
-    schemas: Schemas<'_>,
-    from: &FromClause,
-    params: &[Value],
+    sources: &[Source],
+    own: Vec<Item>,
 ) -> Result<Sequence<Item>, OutOfMemory>
-    ensures { IfOk result (λ items. items ≡ spec.read_by_sources (schemas_of schemas.entry)
-        (spec.equations_of params.now from.now) from.now.sources) }
+    ensures { IfOk result (λ items. items ≡ spec.names_read sources.now ++ own.items) }
 {
-    let asked = all_asked(alloc, from, params)?;
+    let mut own = own;
     let mut items = Vec::new(alloc);
-    put_names(alloc, &mut items, from.sources.as_slice())?;
-    put_reads(
-        alloc,
-        &mut items,
-        schemas,
-        asked.as_slice(),
-        from.sources.as_slice(),
-    )?;
+    put_names(alloc, &mut items, sources)?;
+    items.append(&mut own)?;
     Ok(Sequence::from_vec(items))
+}
+
+/// Puts the names of the tables behind the other items, in order.
+fn put_names(alloc: Global, items: &mut Vec<Item>, sources: &[Source]) -> Result<(), OutOfMemory>
+    ensures { OnOk result (items.new.items ≡ items.old.items ++ spec.names_read sources.now) }
+{
+    'sources: for source in sources {
+        if let Some(name) = table_in(&source.from) {
+            let name = Text::from_text(alloc, name)?;
+            items.push(Item::TableName { name })?;
+        }
+    }
+    Ok(())
 }

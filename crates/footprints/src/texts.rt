@@ -2,6 +2,7 @@
 ghost use Rattle.std.specs.Prelude.{◌≡◌, map};
 ghost use Rattle.std.specs.Option.{option_copied};
 ghost use Rattle.ledger_model.specs.Footprints as spec;
+ghost use Rattle.ledger_model.specs.Meets as met;
 ghost use Rattle.ledger_model.specs.Statements.{table_in};
 ghost use Rattle.pql_model.specs.Tables as tables;
 ghost use Rattle.pql_model.specs.Texts.{text_of};
@@ -31,7 +32,7 @@ fn table_named(name: &str) -> &str
 }
 
 /// The table that a source names, its views' prefix left out.
-pub(crate) fn table_in(from: &SourceKind) -> Option<&str>
+pub fn table_in(from: &SourceKind) -> Option<&str>
     ensures { option_copied result ≡ table_in from.now }
 {
     match from {
@@ -43,7 +44,7 @@ pub(crate) fn table_in(from: &SourceKind) -> Option<&str>
 
 /// Whether the rows of the source are committed revisions, which show their metadata.
 pub(crate) fn shows_metadata(kind: &SourceKind) -> bool
-    ensures { result ≡ spec.shows_metadata kind.now }
+    ensures { result ≡ met.shows_metadata kind.now }
 {
     match kind {
         SourceKind::Table { name } => is_committed(name.as_str()),

@@ -24,7 +24,7 @@ use Rattle.ledger_model.specs.Progress.{Effect, Progress, and_then, changed_by, 
 use Rattle.ledger_model.specs.State.{Recorded, State, Table, active_table, all_changed, changed, dropped, state_from}
 use Rattle.ledger_model.specs.Views.{latest}
 use Rattle.ledger_model.specs.Writing.{again_of, has_room_for, if_active, next_of, no_room, revised, revised_by, stored_changes, stored_deletes, touched, touching}
-use Rattle.laws_footprint.proofs.Equality.{inside}
+use Rattle.pql_model.proofs.Equality.{inside}
 use Rattle.laws_footprint.proofs.Naming.{NamedDoc}
 use Rattle.laws_footprint.proofs.Pending.{all_found, find_more, is_doc, latest_keeps, none_of, not_pending}
 use Rattle.laws_footprint.proofs.Revised.{latest_behind}

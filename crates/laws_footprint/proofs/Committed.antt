@@ -23,12 +23,12 @@ use Rattle.ledger_model.specs.Journal.{address_value, data_fields, hash_value, m
 use Rattle.ledger_model.specs.State.{Recorded, State, draft_of, state_from}
 use Rattle.ledger_model.specs.Values.{field}
 use Rattle.ledger_model.specs.Views.{latest, live, row_of}
-use Rattle.laws_footprint.specs.Covered.{data_in, id_shown, shows_own_id}
-use Rattle.laws_footprint.specs.Meets.{meets_one}
+use Rattle.ledger_model.specs.Meets.{data_in, meets_one}
+use Rattle.laws_footprint.specs.Covered.{id_shown, shows_own_id}
 use Rattle.laws_footprint.specs.Stillness.{block_revises}
 use Rattle.laws_footprint.specs.Touches.{conflict_from, id_of}
 use Rattle.laws_footprint.proofs.Documents.{IsLatest, all_latest, meets_row}
-use Rattle.laws_footprint.proofs.Equality.{inside}
+use Rattle.pql_model.proofs.Equality.{inside}
 use Rattle.laws_footprint.proofs.Revised.{latest_behind, unrevised}
 use Rattle.laws_footprint.proofs.Still.{still}
 

@@ -1,7 +1,7 @@
 -- The frame of one statement.
 use Rattle.std.proofs.Common.{◌≡◌, ◌∙◌, ◌⊎◌, inl, inr, ℕ, ◌+◌, true, false, Bool, List, [], ◌∷◌, ◌++◌, map, take, drop, length, refl, sym, ap, subst, arith, Option, Some, None, Result, Ok, Err, option_map}
 use Rattle.std.specs.Prelude.{nat_le, if◌then◌else◌}
-use Rattle.std.specs.List.{AllByRecursion, cons_option, filter, list_any}
+use Rattle.std.specs.List.{AllByRecursion, cons_option, filter, flat_map, list_any}
 use Rattle.std.proofs.lemmas.Bool.{or_parts, true≢false}
 use Rattle.std.proofs.lemmas.List.Elements.{filter-append}
 use Rattle.ion_values.specs.declared.value.Value.{Value}
@@ -11,7 +11,7 @@ use Rattle.pql_model.specs.declared.statement.FromClause.{FromClause}
 use Rattle.pql_model.specs.declared.statement.Select.{Select}
 use Rattle.pql_model.specs.declared.statement.Statement.{Statement}
 use Rattle.pql_model.specs.declared.statement.Statement.TheVariants as statement
-use Rattle.pql_model.specs.From.{rows_of}
+use Rattle.pql_model.specs.From.{rows_given, rows_of}
 use Rattle.pql_model.specs.Meaning.{meaning, under}
 use Rattle.ledger_model.specs.declared.block.Block.{Block}
 use Rattle.ledger_model.specs.declared.block.Draft.{Draft}
@@ -24,30 +24,30 @@ use Rattle.ledger_model.specs.Statements.{table_in}
 use Rattle.pql_model.specs.Effects.{changed_documents, deleted_documents}
 use Rattle.pql_model.specs.declared.statement.Change.{Change}
 use Rattle.pql_model.specs.declared.statement.Source.{Source}
-use Rattle.ledger_model.specs.Footprints.{equations_of, footprint_of, read_by_sources}
+use Rattle.ledger_model.specs.Footprints.{footprint_of, items_read, names_read, read_by_sources, sources_read}
 use Rattle.ledger_model.specs.Follows.{has_index, is_active}
 use Rattle.ledger_model.specs.declared.outcome.Refusal.{Refusal}
 use Rattle.ledger_model.specs.declared.outcome.Refusal.TheVariants.{IndexExists, TooManyIndexes}
 use Rattle.ledger_model.specs.Run.{Begun, Effect, Progress, and_then, changed_by, created, documents_in, done_by_statement, effect_of, existing, first_absent, if_documents, inserted, new_document, new_table, next_id, not_stored, no_table_more, on_table, reading, reserved, schemas_now, selected, stored, table_now, tables_now, unless, views_of}
 use Rattle.ledger_model.specs.SchemaChanges.{dropped as table_dropped, existing_index, indexed as table_indexed, indexes_now, no_index_more, schema_change}
 use Rattle.ledger_model.specs.State.{Indexed, State, Table, active_table, after, all_changed, all_indexed, changed as tables_changed, draft_of, empty, indexed, state, state_from}
-use Rattle.laws_footprint.specs.Framed.{Beside, CoveredRowsAreFramed, IsSettled, NameIsFramed, RowsAreFramed, SourceIsStill, StatementIsFramed, TablesStand, changes_no_history, indexes_of, no_history_of, is_index_of, names_read}
-use Rattle.laws_footprint.specs.Covered.{is_read}
-use Rattle.laws_footprint.proofs.Written.{written_plain}
-use Rattle.laws_footprint.specs.Restriction.{rows_given}
+use Rattle.laws_footprint.specs.Framed.{Beside, CoveredRowsAreFramed, IsSettled, NameIsFramed, RowsAreFramed, SourceIsStill, StatementIsFramed, indexes_of, is_index_of}
+use Rattle.laws_footprint.specs.Covered.{is_known, is_read_by, reads_by}
+use Rattle.laws_footprint.proofs.Written.{changes_no_history, no_history_of, read_changes_none, written_plain}
+use Rattle.laws_footprint.specs.Restriction.{Covers}
 use Rattle.laws_footprint.specs.Own.{AllCreated, AllFollow, IdsFit, StandsInNone, is_by}
 use Rattle.laws_footprint.specs.Stillness.{Apart, block_revises}
 use Rattle.laws_footprint.specs.Touches.{conflict_from, touches_list}
 use Rattle.laws_footprint.proofs.Owning.{follow_take, old_or_own, own_index_behind, own_is_apart}
 use Rattle.laws_footprint.proofs.Schemas.{Untouched, has_index_is, index_still, is_on}
-use Rattle.laws_footprint.proofs.Covering.{footprint_covers}
+use Rattle.laws_footprint.proofs.Listed.{from_start}
 use Rattle.laws_footprint.proofs.Changing.{Pends, ResultStands, Stands, Told, Touchable, changes_same, changes_stand, deletes_same, deletes_stand, named_stands, named_touchable, unless_stands}
 use Rattle.laws_footprint.proofs.Histories.{Steady, steady_behind}
 use Rattle.laws_footprint.proofs.NamedBy.{OfAll, changed_at, deleted_at}
 use Rattle.laws_footprint.proofs.Naming.{NamedDoc, NamedRow, all_named_docs}
 use Rattle.laws_footprint.proofs.Rows.{Named, all_left, first_name, all_named, all_right, all_untouched, fits_before, no_conflict, table_same}
-use Rattle.laws_footprint.proofs.Sources.{kind_same, read_here, rows_framed}
-use Rattle.laws_footprint.proofs.Selects.{first_absent_same, footprint_framed, names_untouched, select_framed}
+use Rattle.laws_footprint.proofs.Sources.{kind_same}
+use Rattle.laws_footprint.proofs.Selects.{covered_framed, first_absent_same, names_untouched, rows_framed, select_framed, sources_same}
 use Rattle.laws_footprint.proofs.Still.{state_split}
 
 -- ---- the list of tables
@@ -111,14 +111,26 @@ module _ (mask n m : ℕ) (s : State) (later : List Block) (p : Progress) (known
         | inr own ↦ known.own_index table own
       ])
 
+  -- what a FROM reads of each source is the same
+  pub sources_same_here : (params : List Value) (from : FromClause)
+      → conflict_from m s later (read_by_sources (schemas_now s p) (views_of s p) params from) ≡ None
+      → sources_read (schemas_now (state_from s later) p) (views_of (state_from s later) p) params from
+      ≡ sources_read (schemas_now s p) (views_of s p) params from
+  sources_same_here params from none =
+      sources_same m s later p params from none known.apart (λ name table named is. indexes_known name table named is)
+
   pub reads_same : (params : List Value) (from : FromClause)
-      → conflict_from m s later (read_by_sources (schemas_now s p) (equations_of params from) from.sources) ≡ None
-      → read_by_sources (schemas_now (state_from s later) p) (equations_of params from) from.sources
-      ≡ read_by_sources (schemas_now s p) (equations_of params from) from.sources
-  reads_same params from none =
-      footprint_framed m s later p params from
-      (λ name table named is. indexes_known name table named is)
-      (names_untouched m s later p params from none known.apart)
+      → conflict_from m s later (read_by_sources (schemas_now s p) (views_of s p) params from) ≡ None
+      → read_by_sources (schemas_now (state_from s later) p) (views_of (state_from s later) p) params from
+      ≡ read_by_sources (schemas_now s p) (views_of s p) params from
+  reads_same params from none = ap (items_read from.sources) (sources_same_here params from none)
+
+  pub rows_same : (params : List Value) (from : FromClause)
+      → conflict_from m s later (read_by_sources (schemas_now s p) (views_of s p) params from) ≡ None
+      → rows_of (views_of (state_from s later) p) params from ≡ rows_of (views_of s p) params from
+  rows_same params from none =
+      rows_framed m s later p params from none known.apart (λ name table named is. indexes_known name table named is)
+      known.fit known.own_fit
 
 module _ (b : Begun) (m : ℕ) (s : State) (later : List Block) (p : Progress)
     (known : Known b.mask b.number s later p) where
@@ -178,19 +190,22 @@ module _ (b : Begun) (m : ℕ) (s : State) (later : List Block) (p : Progress)
       (table_same s later p name un)
 
   selected_same : (params : List Value) (select : Select) (from : FromClause)
-      → AllByRecursion (Untouched s later) (footprint_of (schemas_now s p) params (statement.Select select from))
+      → AllByRecursion (Untouched s later) (footprint_of (schemas_now s p) (views_of s p) params
+      (statement.Select select from))
       → effect_of b now p params (statement.Select select from) ≡ effect_of b s p params (statement.Select select from)
   selected_same params select from un =
-      let none = no_conflict m s later (footprint_of (schemas_now s p) params (statement.Select select from)) un in
-      ap (λ x. reading (footprint_of (schemas_now now p) params (statement.Select select from)) x)
-      (select_framed m s later p params from none known.apart select known.fit known.own_fit)
+      let none = no_conflict m s later (footprint_of (schemas_now s p) (views_of s p) params
+      (statement.Select select from)) un in
+      ap (λ x. reading (footprint_of (schemas_now now p) (views_of now p) params (statement.Select select from)) x)
+      (select_framed m s later p params from none known.apart select
+      (λ x table named is. indexes_known b.mask b.number m s later p known x table named is) known.fit known.own_fit)
       ∙ ap (λ is. reading is (selected s p params select from))
       (reads_same b.mask b.number m s later p known params from none)
 
   -- ---- what changes documents
 
   abbrev reads : List Value → FromClause → List Item
-  reads params from = read_by_sources (schemas_now s p) (equations_of params from) from.sources
+  reads params from = read_by_sources (schemas_now s p) (views_of s p) params from
 
   module _ (params : List Value) (from : FromClause)
       (un : AllByRecursion (Untouched s later) (reads params from)) where
@@ -201,14 +216,12 @@ module _ (b : Begun) (m : ℕ) (s : State) (later : List Block) (p : Progress)
     sources_named = names_untouched m s later p params from none_touched known.apart
 
     from_same : rows_now now p params from ≡ rows_now s p params from
-    from_same =
-        rows_framed m s later p params from (reads params from) none_touched known.apart
-        (footprint_covers (schemas_now s p) params from) known.fit known.own_fit sources_named
+    from_same = rows_same b.mask b.number m s later p known params from none_touched
 
     docs_named : AllByRecursion (NamedRow s later p from) (rows_now s p params from)
     docs_named =
-        all_named_docs m s later p params from (inr known.steady)
-        (fits_before s later known.fit) known.own_fit none_touched
+        all_named_docs m s later p params from (fits_before s later known.fit) known.own_fit (inr known.steady)
+        none_touched
 
     changes_touchable : (c : Change) → ((n : ℕ) → is_root from.sources c n ≡ true → Told s later p from n)
         → OfAll (Touchable s later p.log p.schema) (changed_documents params c (rows_now s p params from))
@@ -226,15 +239,15 @@ module _ (b : Begun) (m : ℕ) (s : State) (later : List Block) (p : Progress)
     absent_same = first_absent_same m s later p params from from.sources sources_named
 
     effect_by : (x y : Result Effect Refusal) → x ≡ y
-        → reading (read_by_sources (schemas_now now p) (equations_of params from) from.sources) x
+        → reading (read_by_sources (schemas_now now p) (views_of now p) params from) x
         ≡ reading (reads params from) y
     effect_by x y same =
-        ap (reading (read_by_sources (schemas_now now p) (equations_of params from) from.sources)) same
+        ap (reading (read_by_sources (schemas_now now p) (views_of now p) params from)) same
         ∙ ap (λ is. reading is y) (reads_same b.mask b.number m s later p known params from none_touched)
 
   effect_same : (params : List Value) (from : FromClause) (x y : Result Effect Refusal) → x ≡ y
       → AllByRecursion (Untouched s later) (reads params from)
-      → reading (read_by_sources (schemas_now now p) (equations_of params from) from.sources) x
+      → reading (read_by_sources (schemas_now now p) (views_of now p) params from) x
       ≡ reading (reads params from) y
   effect_same params from x y same un = effect_by params from un x y same
 
@@ -283,7 +296,7 @@ module _ (b : Begun) (m : ℕ) (s : State) (later : List Block) (p : Progress)
       (deletes_same s later docs p (deletes_touchable params from un (told_at from (λ n. true) asks own 0 refl))))
 
   pub statement_same : (params : List Value) (st : Statement) → Asks st
-      → AllByRecursion (Untouched s later) (footprint_of (schemas_now s p) params st)
+      → AllByRecursion (Untouched s later) (footprint_of (schemas_now s p) (views_of s p) params st)
       → effect_of b now p params st ≡ effect_of b s p params st
   statement_same params (statement.Create name) told un =
       ap (reading (item.TableName name ∷ item.TableList ∷ [])) (created_same name un.1.0)
@@ -333,7 +346,7 @@ module _ (b : Begun) (m : ℕ) (s : State) (later : List Block) (p : Progress)
   on_table_stands name (Some table) f is each = each table is
 
   done_stands : (params : List Value) (st : Statement) → Pends s later p
-      → AllByRecursion (Untouched s later) (footprint_of (schemas_now s p) params st)
+      → AllByRecursion (Untouched s later) (footprint_of (schemas_now s p) (views_of s p) params st)
       → ResultStands s later p.schema (done_by_statement b s p params st)
   done_stands params (statement.Create name) pends un =
       unless_stands s later p.schema (reserved name)
@@ -371,11 +384,11 @@ module _ (b : Begun) (m : ℕ) (s : State) (later : List Block) (p : Progress)
   reading_stands items (Ok e) h = h
 
   pub statement_stands : (params : List Value) (st : Statement) → Pends s later p
-      → AllByRecursion (Untouched s later) (footprint_of (schemas_now s p) params st)
+      → AllByRecursion (Untouched s later) (footprint_of (schemas_now s p) (views_of s p) params st)
       → (e : Effect) → effect_of b s p params st ≡ Ok e
       → AllByRecursion (λ (d : Draft). Stands s later p.schema d.table) e.log
   statement_stands params st pends un e is =
-      subst (ResultStands s later p.schema) is (reading_stands (footprint_of (schemas_now s p) params st)
+      subst (ResultStands s later p.schema) is (reading_stands (footprint_of (schemas_now s p) (views_of s p) params st)
       (done_by_statement b s p params st) (done_stands params st pends un))
 
 -- ---- at a place of the journal
@@ -403,27 +416,14 @@ known_beside mask n blocks since p beside = record {
   steady = steady_behind mask empty (take since blocks) (follow_take mask n since empty blocks beside.follow) tt;
 }
 
-pends_here : (blocks : List Block) (since : ℕ) (p : Progress) → TablesStand blocks since p
-    → Pends (state (take since blocks)) (drop since blocks) p
-pends_here blocks since p stand =
-    subst (λ x. AllByRecursion (λ (d : Draft). is_active (all_changed x.tables p.schema) d.table
-    ≡ is_active (tables_now (state (take since blocks)) p) d.table) p.log) (state_split empty since blocks) stand
-
-asks : (b : Begun) (blocks : List Block) (since : ℕ) (p : Progress)
-    (known : Known b.mask b.number (state (take since blocks)) (drop since blocks) p) (st : Statement)
-    → (changes_no_history st ≡ true) ⊎ TablesStand blocks since p
-    → Asks b since (state (take since blocks)) (drop since blocks) p known st
-asks b blocks since p known st (inl none_such) = inl none_such
-asks b blocks since p known st (inr stand) = inr (pends_here blocks since p stand)
-
 pub statement_is_framed : StatementIsFramed
-statement_is_framed b blocks since p params st beside stand none =
+statement_is_framed b blocks since p text params st read beside none =
     let s = state (take since blocks) in
     let later = drop since blocks in
     let known = known_beside b.mask b.number blocks since p beside in
     ap (λ x. effect_of b x p params st) (state_split empty since blocks)
-    ∙ statement_same b since s later p known params st (asks b blocks since p known st stand)
-    (all_untouched since s later (footprint_of (schemas_now s p) params st) none)
+    ∙ statement_same b since s later p known params st (inl (read_changes_none text st read))
+    (all_untouched since s later (footprint_of (schemas_now s p) (views_of s p) params st) none)
 
 pub rows_are_framed : RowsAreFramed
 rows_are_framed mask n blocks since p params from beside none =
@@ -432,40 +432,38 @@ rows_are_framed mask n blocks since p params from beside none =
     let known = known_beside mask n blocks since p beside in
     let split = state_split empty since blocks in (
       ap (λ x. rows_of (views_of x p) params from) split
-          ∙ rows_framed since s later p params from
-          (read_by_sources (schemas_now s p) (equations_of params from) from.sources) none known.apart
-          (footprint_covers (schemas_now s p) params from) known.fit known.own_fit
-          (names_untouched since s later p params from none known.apart),
-      ap (λ x. read_by_sources (schemas_now x p) (equations_of params from) from.sources) split
-          ∙ reads_same mask n since s later p known params from none,
+          ∙ rows_same mask n since s later p known params from none,
+      ap (λ x. sources_read (schemas_now x p) (views_of x p) params from) split
+          ∙ sources_same_here mask n since s later p known params from none,
     )
 
 pub covered_rows_are_framed : CoveredRowsAreFramed
-covered_rows_are_framed mask n blocks since p params from items beside covers none =
+covered_rows_are_framed mask n blocks since p params from own beside fits before behind none =
     let s = state (take since blocks) in
     let later = drop since blocks in
     let known = known_beside mask n blocks since p beside in
-    let un = all_untouched since s later (names_read from.sources ++ items) none in
-    ap (λ x. rows_of (views_of x p) params from) (state_split empty since blocks)
-    ∙ rows_framed since s later p params from items
-    (no_conflict since s later items (all_right (Untouched s later) (names_read from.sources) items un)) known.apart
-    covers known.fit known.own_fit (all_named s later from.sources
-    (all_left (Untouched s later) (names_read from.sources) items un))
+    let split = state_split empty since blocks in
+    let all = flat_map (λ is. is) own in
+    let un = all_untouched since s later (names_read from.sources ++ all) none in
+    let covers = subst (λ x. Covers (views_of x p) params from is_known (reads_by (schemas_now s p) from.sources own))
+    split behind in
+    ap (λ x. rows_of (views_of x p) params from) split
+    ∙ covered_framed since s later p params from own known.apart fits before covers
+    (from_start from.sources) (from_start own) (all_right (Untouched s later) (names_read from.sources) all un)
+    (all_named s later from.sources (all_left (Untouched s later) (names_read from.sources) all un)) known.fit
+    known.own_fit
 
 pub source_is_still : SourceIsStill
-source_is_still mask n blocks since p params kind items beside none =
+source_is_still mask n blocks since p params kind items beside fits none =
     let s = state (take since blocks) in
     let later = drop since blocks in
     let known = known_beside mask n blocks since p beside in
-    let from : FromClause = record { sources = []; filter = None } in
     let un =
     first_name s later (table_in kind) items
     (all_untouched since s later (cons_option (option_map item.TableName (table_in kind)) items) none) in
-    let still = no_conflict since s later items un.1 in
-    ap (λ x. filter (is_read (schemas_now s p) items kind) (rows_given (views_of x p) params kind))
+    ap (λ x. filter (is_read_by (schemas_now s p) kind items) (rows_given (views_of x p) params kind))
     (state_split empty since blocks)
-    ∙ kind_same since s later p params from items still known.apart (is_read (schemas_now s p) items kind) kind
-    (read_here since s later p params from items still known.apart kind) un.0
+    ∙ kind_same since s later p params items (no_conflict since s later items un.1) known.apart kind fits un.0
 
 pub name_is_framed : NameIsFramed
 name_is_framed mask n blocks since p name beside none =

@@ -18,13 +18,13 @@ use Rattle.ledger_model.specs.declared.outcome.Item.TheVariants as item
 use Rattle.ledger_model.specs.Follows.{all_differ, continues, created_ids, document_ids, follows, has_table, ids_follow, is_kept, is_of, latest_of, made_ids, revision_follows, schema_follows}
 use Rattle.ledger_model.specs.Script.{or_else}
 use Rattle.ledger_model.specs.State.{Recorded, State, after, recorded_in, state_from}
-use Rattle.laws_footprint.specs.Covered.{counts, document_shown, is_met_by}
-use Rattle.laws_footprint.specs.Meets.{meets}
+use Rattle.laws_footprint.specs.Covered.{no_key}
+use Rattle.ledger_model.specs.Meets.{document_shown, meets, shows_one}
 use Rattle.laws_footprint.specs.Own.{AllFollow}
 use Rattle.laws_footprint.specs.Stillness.{block_revises, has_revision_of}
 use Rattle.laws_footprint.specs.Touches.{conflict_from, id_of, is_in, is_of_table, revisions_in, touched}
 use Rattle.laws_footprint.proofs.Documents.{latest_of-append}
-use Rattle.laws_footprint.proofs.Equality.{inside}
+use Rattle.pql_model.proofs.Equality.{inside}
 use Rattle.laws_footprint.proofs.Pending.{swapped}
 use Rattle.laws_footprint.proofs.Revised.{absent}
 use Rattle.laws_footprint.proofs.Rows.{all_joined}
@@ -67,8 +67,8 @@ module _ (name : List ℕ) (from to : Option Expr) (table : TableId) (items : Li
   abbrev kind : SourceKind
   kind = source.History name from to
 
-  abbrev test : Row → Bool
-  test row = is_met_by kind table items row
+  abbrev pub test : Row → Bool
+  test row = list_any (λ i. no_key i && meets table i (document_shown kind row)) items
 
   -- ---- one block
 
@@ -77,7 +77,7 @@ module _ (name : List ℕ) (from to : Option Expr) (table : TableId) (items : Li
     new = revisions_in b
 
     abbrev met_by : Row → Item → Bool
-    met_by row i = counts kind i && meets table i (document_shown kind row)
+    met_by row i = no_key i && meets table i (document_shown kind row)
 
     unmet_item : (i : Item) (w : Recorded) (row : Row)
         → ((read : TableId) → is_of_table s read w ≡ false → (read.raw == table.raw) ≡ false) → id_of w ≡ row.id.raw
@@ -364,3 +364,14 @@ pub steady_behind : (mask : ℕ) (s : State) (blocks : List Block) → AllFollow
     → Steady (state_from s blocks)
 steady_behind mask s [] h steady = steady
 steady_behind mask s (b ∷ bs) h steady = steady_behind mask (after s b) bs h.1 (steady_after mask s b h.0 steady)
+
+-- of items without keys it is the same
+pub past_is : (name : List ℕ) (from to : Option Expr) (table : TableId) (items : List Item) (row : Row)
+    → list_all no_key items ≡ true
+    → shows_one (source.History name from to) table items row ≡ test name from to table items row
+past_is name from to table [] row h = refl
+past_is name from to table (i ∷ items) row h =
+    let parts = and_parts (no_key i) (list_all no_key items) h in
+    let met = meets table i (document_shown (source.History name from to) row) in
+    ap (λ b. b && met || shows_one (source.History name from to) table items row) (sym parts.0)
+    ∙ ap (λ b. no_key i && met || b) (past_is name from to table items row parts.1)

@@ -1,8 +1,8 @@
-pub mod Combinations
 pub mod Restricts
-pub mod Equality
 pub mod Parts
+pub mod Listed
 pub mod Asked
+pub mod Chosen
 pub mod Covering
 pub mod Documents
 pub mod Still

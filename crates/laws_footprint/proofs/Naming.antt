@@ -3,7 +3,7 @@ use Rattle.std.proofs.Common.{◌≡◌, ◌∙◌, ◌⊎◌, inl, inr, ℕ, ze
 use Rattle.std.specs.Prelude.{option_and_then, if◌then◌else◌}
 use Rattle.std.specs.List.{AllByRecursion, cons_option, filter, filter_map, find, flat_map, list_all, list_any}
 use Rattle.std.specs.Option.{option_map_or}
-use Rattle.std.proofs.lemmas.Bool.{and_parts, both_ways, eq-eqb, eqb-true, false≢true, or_left, or_right, true_from_ne_false}
+use Rattle.std.proofs.lemmas.Bool.{and_parts, both_ways, eq-eqb, eqb-true, false≢true, or_left, or_right}
 use Rattle.std.proofs.lemmas.List.{append_assoc, append-nil}
 use Rattle.ion_values.specs.declared.value.Value.{Value}
 use Rattle.ql_types.specs.declared.TableId.{TableId}
@@ -16,7 +16,7 @@ use Rattle.pql_model.specs.declared.statement.SourceKind.TheVariants as source
 use Rattle.pql_model.specs.declared.tables.Row.{Row}
 use Rattle.pql_model.specs.declared.tables.View.{View}
 use Rattle.pql_model.specs.declared.tables.View.TheVariants as view
-use Rattle.pql_model.specs.From.{Combined, bound_element, bound_of, bound_row, given_by, is_kept, rows_of}
+use Rattle.pql_model.specs.From.{Combined, bound_element, bound_of, bound_row, first_rows, given_over, is_kept, other_rows, rows_given, rows_of}
 use Rattle.pql_model.specs.Names.{called, called_in_row}
 use Rattle.pql_model.specs.Tables.{is_committed, table_named, view_named}
 use Rattle.ql_types.specs.declared.DocId.{DocId}
@@ -28,30 +28,30 @@ use Rattle.ledger_model.specs.declared.block.Draft.{Draft}
 use Rattle.ledger_model.specs.declared.outcome.Item.{Item}
 use Rattle.ledger_model.specs.declared.outcome.Item.TheVariants as item
 use Rattle.ledger_model.specs.Follows.{latest_of}
-use Rattle.ledger_model.specs.Footprints.{Schemas, all_asked, equations_of, read_by_sources, read_from}
+use Rattle.ledger_model.specs.Conditions.{Asked, all_asked, parts_of}
+use Rattle.ledger_model.specs.Footprints.{Read, Schemas, all_read, is_read, names_read, read_by_sources, read_of, sources_read, table_of}
 use Rattle.ledger_model.specs.Run.{Progress, rows_in, schemas_now, table_now, views_of}
 use Rattle.ledger_model.specs.State.{Recorded, State, active_table, draft_of, empty, state}
 use Rattle.ledger_model.specs.Statements.{table_in}
 use Rattle.ledger_model.specs.Views.{latest, latest_from, live, put, row_of}
-use Rattle.laws_footprint.specs.Covered.{document_shown, is_known, is_met_by, is_no_history, is_read, reads_of, table_of}
-use Rattle.laws_footprint.specs.Framed.{names_read}
-use Rattle.laws_footprint.specs.Meets.{meets_one}
+use Rattle.ledger_model.specs.Meets.{document_shown, meets_one, shows_one}
+use Rattle.laws_footprint.specs.Covered.{fits_kind, is_known, is_no_history, no_key, rows_by_source}
 use Rattle.laws_footprint.specs.Naming.{IsUnrevised, NamedAreUnrevised, is_pending}
 use Rattle.laws_footprint.specs.Own.{IdsFit}
-use Rattle.laws_footprint.specs.Restriction.{rows_given}
 use Rattle.laws_footprint.specs.Stillness.{block_revises}
 use Rattle.laws_footprint.specs.Touches.{conflict_from, id_of}
-use Rattle.laws_footprint.proofs.Combinations.{AllFit, Elements, Gives, behind, filter-flat_map}
-use Rattle.laws_footprint.proofs.Covering.{footprint_covers}
+use Rattle.pql_model.proofs.Combinations.{behind, one_start}
+use Rattle.laws_footprint.proofs.Covering.{footprint_restricts}
 use Rattle.laws_footprint.proofs.Documents.{IsLatest, all_latest, all_put, latest_after, meets_row}
-use Rattle.laws_footprint.proofs.Equality.{inside}
+use Rattle.pql_model.proofs.Equality.{inside}
 use Rattle.laws_footprint.proofs.Pending.{Agrees, is_doc, pending_agree}
 use Rattle.laws_footprint.proofs.Revised.{unrevised}
-use Rattle.laws_footprint.proofs.Restricts.{combined_is, given_at, one_start}
-use Rattle.laws_footprint.proofs.Rows.{Named, all_joined, all_left, all_named, all_untouched, here_at, is_plain, known_user, latest_fit, next_at, user_shown}
-use Rattle.laws_footprint.proofs.Sources.{committed_rows, committed_shown, history_rows, ids_fit, known_showing, latest_fits}
+use Rattle.laws_footprint.proofs.Listed.{From, from_start, here_of, next_of}
+use Rattle.laws_footprint.proofs.Selects.{own_fits}
+use Rattle.laws_footprint.proofs.Rows.{Named, all_joined, all_left, all_named, all_right, all_untouched, is_plain, known_user, latest_fit, no_conflict, user_shown}
+use Rattle.laws_footprint.proofs.Sources.{all_known, committed_rows, committed_shown, history_rows, ids_fit, known_showing, latest_fits}
 use Rattle.laws_footprint.proofs.Committed.{row_is}
-use Rattle.laws_footprint.proofs.Histories.{HasTable, Steady, historic_unrevised, steady_behind}
+use Rattle.laws_footprint.proofs.Histories.{HasTable, Steady, historic_unrevised, past_is, steady_behind}
 use Rattle.laws_footprint.proofs.Owning.{follow_take}
 use Rattle.laws_footprint.proofs.Schemas.{Untouched}
 
@@ -102,24 +102,22 @@ all_flat : {A B : Type 0} (Q : A → Type 0) (P : B → Type 0) (f : A → List 
 all_flat Q P f [] h each = tt
 all_flat Q P f (x ∷ xs) h each = all_appended P (f x) (flat_map f xs) (each x h.0) (all_flat Q P f xs h.1 each)
 
-module _ (Fits : ℕ → Source → Bound → Type 0) (elements : Elements) (keep : List Bound → Bool)
-    (P : List Bound → Type 0) where
-  alone : (c : List Bound) (b : Bool) → keep c ≡ b → (keep c ≡ true → P c) → AllByRecursion P (cond b (c ∷ []) [])
-  alone c true e h = (h e, tt)
-  alone c false e h = tt
+-- what is left of a list of which it holds
+kept_one : {A : Type 0} (P : A → Type 0) (p : A → Bool) (x : A) (ys : List A) (b : Bool) → p x ≡ b → P x
+    → AllByRecursion (λ y. P y × (p y ≡ true)) ys
+    → AllByRecursion (λ y. P y × (p y ≡ true)) (cond b (x ∷ ys) ys)
+kept_one P p x ys true e h all = ((h, e), all)
+kept_one P p x ys false e h all = all
 
-  pub kept_behind : (n : ℕ) (ss : List Source) (c : List Bound) → Gives Fits elements n ss
-      → ((rest : List Bound) → AllFit Fits n ss rest → keep (c ++ rest) ≡ true → P (c ++ rest))
-      → AllByRecursion P (filter keep (behind elements n ss c))
-  kept_behind n [] c gives h =
-      alone c (keep c) refl (λ e. subst P (append-nil c) (h [] tt (ap keep (append-nil c) ∙ e)))
-  kept_behind n (s ∷ ss) c gives h =
-      subst (AllByRecursion P) (sym (filter-flat_map keep (λ b. behind elements (n + 1) ss (c ++ b ∷ []))
-      (elements n s c)))
-      (all_flat (Fits n s) P (λ b. filter keep (behind elements (n + 1) ss (c ++ b ∷ []))) (elements n s c) (gives.0 c)
-      (λ b fits. kept_behind (n + 1) ss (c ++ b ∷ []) gives.1 (λ rest all e.
-      subst P (sym (append_assoc c (b ∷ []) rest))
-      (h (b ∷ rest) (fits, all) (ap keep (sym (append_assoc c (b ∷ []) rest)) ∙ e)))))
+all_kept : {A : Type 0} (P : A → Type 0) (p : A → Bool) (xs : List A) → AllByRecursion P xs
+    → AllByRecursion (λ x. P x × (p x ≡ true)) (filter p xs)
+all_kept P p [] h = tt
+all_kept P p (x ∷ xs) h = kept_one P p x (filter p xs) (p x) refl h.0 (all_kept P p xs h.1)
+
+all_mapped : {A : Type 0} (P Q : A → Type 0) (xs : List A) → ((x : A) → P x → Q x) → AllByRecursion P xs
+    → AllByRecursion Q xs
+all_mapped P Q [] f h = tt
+all_mapped P Q (x ∷ xs) f h = (f x h.0, all_mapped P Q xs f h.1)
 
 all_both : {A : Type 0} (P Q : A → Type 0) (xs : List A) → AllByRecursion P xs → AllByRecursion Q xs
     → AllByRecursion (λ x. P x × Q x) xs
@@ -133,7 +131,7 @@ all_both P Q (x ∷ xs) h k = ((h.0, k.0), all_both P Q xs h.1 k.1)
 pub record Shown (s : State) (later : List Block) (p : Progress) (items : List Item) (kind : SourceKind)
     (table : TableId) (row : Row) : Type 0 where
   pub known : is_known kind row ≡ true
-  pub unrevised : is_met_by kind table items row ≡ true → is_pending row.id.raw p.log ≡ false
+  pub unrevised : shows_one kind table items row ≡ true → is_pending row.id.raw p.log ≡ false
       → list_any (block_revises row.id.raw) later ≡ false
   pub in_table : is_pending row.id.raw p.log ≡ false → (r : Recorded) → latest_of s.revisions row.id.raw ≡ Some r
       → r.table.raw ≡ table.raw
@@ -151,12 +149,6 @@ module _ (m : ℕ) (s : State) (later : List Block) (p : Progress) (items : List
       → draft_of r ≡ d
   of_draft r d o e h = inside (draft_of r) d (sym (ap (option_map draft_of) e) ∙ h)
 
-  plain_met : (kind : SourceKind) (table : TableId) (row : Row) → is_plain kind ≡ true
-      → meets_one table items (document_shown kind row) ≡ is_met_by kind table items row
-  plain_met (source.Table name) table row plain = refl
-  plain_met (source.History name start end) table row plain = absurd (false≢true plain)
-  plain_met (source.Path path) table row plain = refl
-
   shown_live : (kind : SourceKind) (table : TableId) (d : Draft) (content : Content) (b : Bool) (rows : List Row)
       → is_plain kind ≡ true → (d.table.raw == table.raw) ≡ b → d.content ≡ content
       → Committed s.revisions p.log d → Agrees (latest p.log) d → nat_lt d.id.raw (2 ^ 128) ≡ true
@@ -173,8 +165,7 @@ module _ (m : ℕ) (s : State) (later : List Block) (p : Progress) (items : List
           unrevised = λ met not.
               unrevised m s later table items d none (h not)
               (ap (meets_row (meets_one table items)) shows
-              ∙ (ap (meets_one table items) (sym (user_shown kind row plain))
-              ∙ (plain_met kind table row plain ∙ met)));
+              ∙ (ap (meets_one table items) (sym (user_shown kind row plain)) ∙ met));
           in_table =
               λ not r there. ap (λ (x : Draft). x.table.raw)
               (of_draft r d (latest_of s.revisions d.id.raw) there (h not)) ∙ eqb-true d.table.raw table.raw e;
@@ -221,9 +212,10 @@ module _ (m : ℕ) (s : State) (later : List Block) (p : Progress) (items : List
 
     -- ---- of a history
 
-    history_shows : (name : List ℕ) (f t : Option Expr) (start end : Option Value) (table : TableId) → Steady s
+    history_shows : (name : List ℕ) (f t : Option Expr) (start end : Option Value) (table : TableId)
+        → list_all no_key items ≡ true → Steady s
         → ShownAll (source.History name f t) table (rows_in s p (view.History start end) (Some table))
-    history_shows name f t start end table steady =
+    history_shows name f t start end table fits steady =
         history_rows (Shown s later p items (source.History name f t) table) table
         (λ (r : Recorded). HasTable s (id_of r) r.table × (nat_lt (id_of r) (2 ^ 128) ≡ true)) start end
         s.revisions
@@ -233,7 +225,9 @@ module _ (m : ℕ) (s : State) (later : List Block) (p : Progress) (items : List
         let at : HasTable s (id_of r) table = (w.0.0, w.0.1, w.0.2 ∙ eqb-true r.table.raw table.raw here) in
         record {
           known = known_showing (source.History name f t) r refl w.1;
-          unrevised = λ met not. historic_unrevised name f t table items m s later (row_showing r) none at met;
+          unrevised = λ met not.
+              historic_unrevised name f t table items m s later (row_showing r) none at
+              (sym (past_is name f t table items (row_showing r) fits) ∙ met);
           in_table = λ not x there. sym (ap (λ (y : Recorded). y.table.raw) (inside at.0 x (sym at.1 ∙ there))) ∙ at.2;
           pends_in = λ user. absurd (false≢true user);
         })
@@ -241,7 +235,7 @@ module _ (m : ℕ) (s : State) (later : List Block) (p : Progress) (items : List
     -- ---- of each source
 
     -- where the source names an active table
-    abbrev InTable : SourceKind → List Row → Option TableId → Type 0
+    abbrev pub InTable : SourceKind → List Row → Option TableId → Type 0
     InTable kind rows None = Unit {0}
     InTable kind rows (Some table) = ShownAll kind table rows
 
@@ -252,23 +246,22 @@ module _ (m : ℕ) (s : State) (later : List Block) (p : Progress) (items : List
     table_rows name true (Some table) e = committed_shows name table e
     table_rows name false (Some table) e = user_rows (source.Table name) table (ap not e)
 
-    past_rows : (name : List ℕ) (f t : Option Expr) (start end : Option Value) (o : Option TableId) → Steady s
+    past_rows : (name : List ℕ) (f t : Option Expr) (start end : Option Value) (o : Option TableId)
+        → list_all no_key items ≡ true → Steady s
         → InTable (source.History name f t) (rows_in s p (view.History start end) o) o
-    past_rows name f t start end None steady = tt
-    past_rows name f t start end (Some table) steady = history_shows name f t start end table steady
+    past_rows name f t start end None fits steady = tt
+    past_rows name f t start end (Some table) fits steady = history_shows name f t start end table fits steady
 
-    -- a source is no history, or each document stays in its table
-    abbrev Stays : SourceKind → Type 0
-    Stays kind = (is_no_history kind ≡ true) ⊎ Steady s
+    pub table_shown : (name : List ℕ) → InTable (source.Table name)
+        (rows_in s p (view_named name) (table_now s p (table_named name))) (table_now s p (table_named name))
+    table_shown name = table_rows name (is_committed name) (table_now s p (table_named name)) refl
 
-    pub source_rows : (params : List Value) (kind : SourceKind) → Stays kind
-        → InTable kind (rows_given (views_of s p) params kind) (table_of (schemas_now s p) kind)
-    source_rows params (source.Table name) stays =
-        table_rows name (is_committed name) (table_now s p (table_named name)) refl
-    source_rows params (source.History name f t) (inl none_such) = absurd (false≢true none_such)
-    source_rows params (source.History name f t) (inr steady) =
-        past_rows name f t (bound_of params f) (bound_of params t) (table_now s p name) steady
-    source_rows params (source.Path path) stays = tt
+    pub past_shown : (name : List ℕ) (f t : Option Expr) (start end : Option Value) → list_all no_key items ≡ true
+        → (is_no_history (source.History name f t) ≡ true) ⊎ Steady s
+        → InTable (source.History name f t) (rows_in s p (view.History start end) (table_now s p name))
+        (table_now s p name)
+    past_shown name f t start end fits (inl none_such) = absurd (false≢true none_such)
+    past_shown name f t start end fits (inr steady) = past_rows name f t start end (table_now s p name) fits steady
 
 -- ---- documents that kept rows name
 
@@ -326,166 +319,164 @@ all_at P [] n x h at = cc
 all_at P (y ∷ ys) zero x h at = subst P (inside y x at) h.0
 all_at P (y ∷ ys) (suc n) x h at = all_at P ys n x h.1 at
 
-here_in : (c : List Bound) (n : ℕ) (b : Bound) (bs : List Bound)
-    → ((k : ℕ) → slice_get c (n + k) ≡ slice_get (b ∷ bs) k) → slice_get c n ≡ Some b
-here_in c n b bs at = let here : n + 0 ≡ n = omega arith in subst (λ i. slice_get c i ≡ Some b) here (at 0)
+-- ---- combinations of such rows
 
-next_in : (c : List Bound) (n : ℕ) (b : Bound) (bs : List Bound)
-    → ((k : ℕ) → slice_get c (n + k) ≡ slice_get (b ∷ bs) k) → (k : ℕ) → slice_get c (n + 1 + k) ≡ slice_get bs k
-next_in c n b bs at k = let there : n + 1 + k ≡ n + suc k = omega arith in ap (slice_get c) there ∙ at (suc k)
+module _ (P : ℕ → DocId → Type 0) (params : List Value) (Q : Combined → Type 0) where
+  abbrev RowsHold : ℕ → List (List Row) → Type 0
+  RowsHold n [] = Unit {0}
+  RowsHold n (rows ∷ more) = AllByRecursion (λ (row : Row). P n row.id) rows × RowsHold (n + 1) more
 
-module _ (m : ℕ) (s : State) (later : List Block) (p : Progress) (params : List Value) (from : FromClause) where
+  abbrev Holds : ℕ → Source → Bound → Type 0
+  Holds n x b = (called_in_row b ≡ called x) × OfDoc (P n) b.id
+
+  rows_hold : (n : ℕ) (x : Source) (rows : List Row) → AllByRecursion (λ (row : Row). P n row.id) rows
+      → AllByRecursion (Holds n x) (map (bound_row x) rows)
+  rows_hold n x [] h = tt
+  rows_hold n x (r ∷ rows) h = ((refl, h.0), rows_hold n x rows h.1)
+
+  values_hold : (n : ℕ) (x : Source) (vs : List Value) → AllByRecursion (Holds n x) (map (bound_element x) vs)
+  values_hold n x [] = tt
+  values_hold n x (v ∷ vs) = ((refl, tt), values_hold n x vs)
+
+  given_hold : (n : ℕ) (x : Source) (kind : SourceKind) (rows : List Row) (c : Combined)
+      → AllByRecursion (λ (row : Row). P n row.id) rows
+      → AllByRecursion (Holds n x) (given_over rows params x kind c)
+  given_hold n x (source.Table name) rows c h = rows_hold n x rows h
+  given_hold n x (source.History table start end) rows c h = rows_hold n x rows h
+  given_hold n x (source.Path path) rows c h = values_hold n x _
+
+  first_hold : (n : ℕ) (rows : List (List Row)) → RowsHold n rows
+      → AllByRecursion (λ (row : Row). P n row.id) (first_rows rows) × RowsHold (n + 1) (other_rows rows)
+  first_hold n [] h = (tt, tt)
+  first_hold n (rows ∷ more) h = h
+
+  pub all_hold_behind : (n : ℕ) (ss : List Source) (rows : List (List Row)) (c : Combined) → RowsHold n rows
+      → ((rest : Combined) → map called_in_row rest ≡ map called ss → OfPlaces P n rest → Q (c ++ rest))
+      → AllByRecursion Q (behind params ss rows c)
+  all_hold_behind n [] rows c h each = (subst Q (append-nil c) (each [] refl tt), tt)
+  all_hold_behind n (x ∷ xs) rows c h each =
+      let parts = first_hold n rows h in
+      all_flat (Holds n x) Q (λ b. behind params xs (other_rows rows) (c ++ b ∷ []))
+      (given_over (first_rows rows) params x x.from c) (given_hold n x x.from (first_rows rows) c parts.0)
+      (λ b w. all_hold_behind (n + 1) xs (other_rows rows) (c ++ b ∷ []) parts.1 (λ rest same places.
+      subst Q (sym (append_assoc c (b ∷ []) rest))
+      (each (b ∷ rest) (ap (λ y. y ∷ map called_in_row rest) w.0 ∙ ap (λ ys. called x ∷ ys) same) (w.1, places))))
+
+module _ (m : ℕ) (s : State) (later : List Block) (p : Progress) (params : List Value) (from : FromClause)
+    (fit : IdsFit (map draft_of s.revisions)) (own_fit : IdsFit p.log) where
   abbrev schemas : Schemas
   schemas = schemas_now s p
 
-  abbrev items : List Item
-  items = read_by_sources schemas (equations_of params from) from.sources
+  abbrev asked : List Asked
+  asked = all_asked from.sources (parts_of params from)
 
-  -- a bound is a row of the source's table, or an element of a list
-  abbrev Fits : ℕ → Source → Bound → Type 0
-  Fits n x b =
-      (called_in_row b ≡ called x)
-      × (((row : Row) × (table : TableId) × (b ≡ bound_row x row) × (table_of schemas x.from ≡ Some table)
-      × Shown s later p items x.from table row) ⊎ (b.id ≡ None))
+  abbrev read : List Read → SourceKind → Read
+  read = read_of schemas (views_of s p) params asked
 
-  rows_fit : (n : ℕ) (x : Source) (table : TableId) (rows : List Row) → table_of schemas x.from ≡ Some table
-      → AllByRecursion (Shown s later p items x.from table) rows
-      → AllByRecursion (Fits n x) (map (bound_row x) rows)
-  rows_fit n x table [] e h = tt
-  rows_fit n x table (r ∷ rows) e h = ((refl, inl (r, table, refl, e, h.0)), rows_fit n x table rows e h.1)
+  abbrev IsNamed : ℕ → Row → Type 0
+  IsNamed n row = NamedDoc s later p from n row.id
 
-  values_fit : (n : ℕ) (x : Source) (vs : List Value) → AllByRecursion (Fits n x) (map (bound_element x) vs)
-  values_fit n x [] = tt
-  values_fit n x (v ∷ vs) = ((refl, inr refl), values_fit n x vs)
+  -- the name of its source's table
+  name_of : (o : Option (List ℕ)) (table : TableId) → Named s later o
+      → option_and_then (active_table schemas.tables) o ≡ Some table
+      → (name : List ℕ) × (table_now s p name ≡ Some table) × Untouched s later (item.TableName name)
+  name_of None table un is = cc
+  name_of (Some name) table un is = (name, is, un)
 
-  module _ (fit : IdsFit (map draft_of s.revisions)) (own_fit : IdsFit p.log)
-      (none : conflict_from m s later items ≡ None) where
-    -- a table that isn't active has no rows
-    given_rows : (n : ℕ) (x : Source) (v : View) (o : Option TableId) → table_of schemas x.from ≡ o
-        → InTable m s later p items none fit own_fit x.from (rows_in s p v o) o
-        → AllByRecursion (Fits n x) (map (bound_row x) (rows_in s p v o))
-    given_rows n x v None e h = tt
-    given_rows n x v (Some table) e h = rows_fit n x table (rows_in s p v (Some table)) e h
+  row_named : (n : ℕ) (x : Source) (kind : SourceKind) (row : Row) (table : TableId) (items : List Item)
+      → x.from ≡ kind → slice_get from.sources n ≡ Some x → table_of schemas kind ≡ Some table
+      → Named s later (table_in kind) → shows_one kind table items row ≡ true
+      → Shown s later p items kind table row → IsNamed n row
+  row_named n x kind row table items of at is un met shown =
+      let called = name_of (table_in kind) table un is in
+      record {
+        name = called.0;
+        table = table;
+        active = called.1;
+        untouched = called.2;
+        fits = (and_parts (nat_lt row.id.raw (2 ^ 128)) _ shown.known).0;
+        unrevised = shown.unrevised met;
+        in_table = shown.in_table;
+        pends_in = λ user. shown.pends_in (ap is_plain (sym of) ∙ user x at);
+      }
 
-    source_fits : (n : ℕ) (x : Source) (kind : SourceKind) (c : Combined) → x.from ≡ kind
-        → InTable m s later p items none fit own_fit x.from (rows_given (views_of s p) params kind)
-        (table_of schemas kind)
-        → AllByRecursion (Fits n x) (given_by (views_of s p) params x kind c)
-    source_fits n x (source.Table name) c is h =
-        given_rows n x (view_named name) (table_now s p (table_named name)) (ap (table_of schemas) is) h
-    source_fits n x (source.History table start end) c is h =
-        given_rows n x (view.History (bound_of params start) (bound_of params end)) (table_now s p table)
-        (ap (table_of schemas) is) h
-    source_fits n x (source.Path path) c is h = values_fit n x _
+  -- the rows that are read of a source that shows a view
+  view_named_by : (n : ℕ) (x : Source) (kind : SourceKind) (v : View) (items : List Item)
+      (none : conflict_from m s later items ≡ None) (o : Option TableId)
+      → x.from ≡ kind → slice_get from.sources n ≡ Some x → table_of schemas kind ≡ o → Named s later (table_in kind)
+      → InTable m s later p items none fit own_fit kind (rows_in s p v o) o
+      → AllByRecursion (IsNamed n) (filter (is_read o kind items) (rows_in s p v o))
+  view_named_by n x kind v items none None of at is un h = tt
+  view_named_by n x kind v items none (Some table) of at is un h =
+      all_mapped (λ row. Shown s later p items kind table row × (shows_one kind table items row ≡ true)) (IsNamed n)
+      (filter (shows_one kind table items) (rows_in s p v (Some table)))
+      (λ row w. row_named n x kind row table items of at is un w.1 w.0)
+      (all_kept (Shown s later p items kind table) (shows_one kind table items) (rows_in s p v (Some table)) h)
 
-    first_stays : (x : Source) (xs : List Source)
-        → (list_all (λ (y : Source). is_no_history y.from) (x ∷ xs) ≡ true) ⊎ Steady s
-        → ((is_no_history x.from ≡ true) ⊎ Steady s)
-        × ((list_all (λ (y : Source). is_no_history y.from) xs ≡ true) ⊎ Steady s)
-    first_stays x xs (inl h) = let parts =
-        and_parts (is_no_history x.from) (list_all (λ (y : Source). is_no_history y.from) xs)
-        h in (inl parts.0, inl parts.1)
-    first_stays x xs (inr steady) = (inr steady, inr steady)
+  read_named : (n : ℕ) (x : Source) (kind : SourceKind) (items : List Item) → x.from ≡ kind
+      → slice_get from.sources n ≡ Some x → Named s later (table_in kind) → fits_kind kind items ≡ true
+      → conflict_from m s later items ≡ None → (is_no_history kind ≡ true) ⊎ Steady s
+      → AllByRecursion (IsNamed n) (filter (is_read (table_of schemas kind) kind items)
+      (rows_given (views_of s p) params kind))
+  read_named n x (source.Table name) items of at un fits none stays =
+      view_named_by n x (source.Table name) (view_named name) items none
+      (table_now s p (table_named name)) of at refl un
+      (table_shown m s later p items none fit own_fit name)
+  read_named n x (source.History name f t) items of at un fits none stays =
+      view_named_by n x (source.History name f t) (view.History (bound_of params f) (bound_of params t)) items none
+      (table_now s p name) of at refl un
+      (past_shown m s later p items none fit own_fit name f t (bound_of params f) (bound_of params t) fits stays)
+  read_named n x (source.Path path) items of at un fits none stays = tt
 
-    all_give : (n : ℕ) (ss : List Source) → (list_all (λ (y : Source). is_no_history y.from) ss ≡ true) ⊎ Steady s
-        → Gives Fits (given_at (views_of s p) params) n ss
-    all_give n [] stays = tt
-    all_give n (x ∷ xs) stays =
-        let parts = first_stays x xs stays in (
-          (λ c. source_fits n x x.from c refl (source_rows m s later p items none fit own_fit params x.from parts.0)),
-          all_give (n + 1) xs parts.1,
-        )
+  -- no source is a history, or each document stays in its table
+  abbrev AllStay : List Source → Type 0
+  AllStay ss = (list_all (λ (y : Source). is_no_history y.from) ss ≡ true) ⊎ Steady s
 
-  all_called : (n : ℕ) (ss : List Source) (bs : List Bound) → AllFit Fits n ss bs
-      → map called_in_row bs ≡ map called ss
-  all_called n [] [] h = refl
-  all_called n [] (b ∷ bs) h = absurd h
-  all_called n (x ∷ xs) [] h = absurd h
-  all_called n (x ∷ xs) (b ∷ bs) h = ap (λ y. y ∷ map called_in_row bs) h.0.0
-      ∙ ap (λ ys. called x ∷ ys) (all_called (n + 1) xs bs h.1)
+  first_stays : (x : Source) (xs : List Source) → AllStay (x ∷ xs)
+      → ((is_no_history x.from ≡ true) ⊎ Steady s) × AllStay xs
+  first_stays x xs (inl h) = let parts =
+      and_parts (is_no_history x.from) (list_all (λ (y : Source). is_no_history y.from) xs)
+      h in (inl parts.0, inl parts.1)
+  first_stays x xs (inr steady) = (inr steady, inr steady)
 
-  module _ (names : AllByRecursion (λ (x : Source). Named s later (table_in x.from)) from.sources) (c : List Bound)
-      (same : map called_in_row c ≡ map called from.sources) (kept : is_kept params from c ≡ true) where
-    -- the row is read
-    row_read : (n : ℕ) (x : Source) (row : Row) → slice_get from.sources n ≡ Some x
-        → slice_get c n ≡ Some (bound_row x row) → is_known x.from row ≡ true
-        → reads_of schemas items from.sources n row ≡ true
-    row_read n x row at here known =
-        true_from_ne_false (reads_of schemas items from.sources n row) (λ unread.
-        both_ways (is_kept params from c)
-        (footprint_covers schemas params from c n x row same at here
-        (ap (λ o. option_map_or (λ (y : Source). is_known y.from row) o true) at ∙ known) unread) kept)
+  all_named_rows : (n : ℕ) (earlier : List Read) (ss : List Source) → From from.sources n ss → AllStay ss
+      → AllByRecursion (λ (x : Source). Named s later (table_in x.from)) ss
+      → AllByRecursion (Untouched s later) (flat_map (λ (r : Read). r.items) (all_read read earlier ss))
+      → RowsHold (NamedDoc s later p from) params (NamedRow s later p from) n
+      (rows_by_source (all_read read earlier ss))
+  all_named_rows n earlier [] at stays un still = tt
+  all_named_rows n earlier (x ∷ xs) at stays un still =
+      let r = read earlier x.from in
+      let rest = flat_map (λ (q : Read). q.items) (all_read read (earlier ++ r ∷ []) xs) in
+      let parts = first_stays x xs stays in (
+        read_named n x x.from r.items refl (here_of from.sources n x xs at) un.0
+            (own_fits schemas asked earlier x.from (table_of schemas x.from))
+            (no_conflict m s later r.items (all_left (Untouched s later) r.items rest still)) parts.0,
+        all_named_rows (n + 1) (earlier ++ r ∷ []) xs (next_of from.sources n x xs at) parts.1 un.1
+            (all_right (Untouched s later) r.items rest still),
+      )
 
-    -- the name of its source's table
-    name_of : (o : Option (List ℕ)) (table : TableId) → Named s later o
-        → option_and_then (active_table schemas.tables) o ≡ Some table
-        → (name : List ℕ) × (table_now s p name ≡ Some table) × Untouched s later (item.TableName name)
-    name_of None table un is = cc
-    name_of (Some name) table un is = (name, is, un)
-
-    row_named : (n : ℕ) (x : Source) (row : Row) (table : TableId) → slice_get from.sources n ≡ Some x
-        → slice_get c n ≡ Some (bound_row x row) → table_of schemas x.from ≡ Some table
-        → Shown s later p items x.from table row → NamedDoc s later p from n row.id
-    row_named n x row table at here is shown =
-        let read = row_read n x row at here shown.known in
-        let found : is_met_by x.from table items row ≡ true =
-        sym (ap (λ o. option_map_or (λ t. is_met_by x.from t items row) o true) is)
-        ∙ sym (ap (λ o. option_map_or (λ (y : Source). is_read schemas items y.from row) o true) at) ∙ read in
-        let called =
-        name_of (table_in x.from) table (all_at
-        (λ (y : Source). Named s later (table_in y.from)) from.sources n x names at) is in
-        record {
-          name = called.0;
-          table = table;
-          active = called.1;
-          untouched = called.2;
-          fits = (and_parts (nat_lt row.id.raw (2 ^ 128)) _ shown.known).0;
-          unrevised = shown.unrevised found;
-          in_table = shown.in_table;
-          pends_in = λ user. shown.pends_in (user x at);
-        }
-
-    bound_named : (n : ℕ) (x : Source) (b : Bound) → slice_get from.sources n ≡ Some x → slice_get c n ≡ Some b
-        → ((row : Row) × (table : TableId) × (b ≡ bound_row x row) × (table_of schemas x.from ≡ Some table)
-        × Shown s later p items x.from table row) ⊎ (b.id ≡ None)
-        → OfDoc (NamedDoc s later p from n) b.id
-    bound_named n x b at here (inr no_id) = subst (OfDoc (NamedDoc s later p from n)) (sym no_id) tt
-    bound_named n x b at here (inl w) =
-        subst (OfDoc (NamedDoc s later p from n)) (sym (ap (λ (y : Bound). y.id) w.2))
-        (row_named n x w.0 w.1 at (here ∙ ap Some w.2) w.3 w.4)
-
-    bounds_named : (n : ℕ) (ss : List Source) (bs : List Bound) → AllFit Fits n ss bs
-        → ((k : ℕ) → slice_get from.sources (n + k) ≡ slice_get ss k)
-        → ((k : ℕ) → slice_get c (n + k) ≡ slice_get bs k)
-        → OfPlaces (NamedDoc s later p from) n bs
-    bounds_named n [] [] h at here = tt
-    bounds_named n [] (b ∷ bs) h at here = absurd h
-    bounds_named n (x ∷ xs) [] h at here = absurd h
-    bounds_named n (x ∷ xs) (b ∷ bs) h at here = (
-      bound_named n x b (here_at from.sources n x xs at) (here_in c n b bs here) h.0.1,
-      bounds_named (n + 1) xs bs h.1 (next_at from.sources n x xs at) (next_in c n b bs here),
-    )
-
-  pub all_named_docs : (list_all (λ (y : Source). is_no_history y.from) from.sources ≡ true) ⊎ Steady s
-      → IdsFit (map draft_of s.revisions) → IdsFit p.log → conflict_from m s later items ≡ None
+  pub all_named_docs : AllStay from.sources
+      → conflict_from m s later (read_by_sources schemas (views_of s p) params from) ≡ None
       → AllByRecursion (NamedRow s later p from) (rows_of (views_of s p) params from)
-  all_named_docs stays fit own_fit none =
-      let names = all_named s later from.sources (all_left (Untouched s later) (names_read from.sources)
-      (read_from schemas (all_asked from.sources (equations_of params from)) 0 from.sources)
-      (all_untouched m s later items none)) in
-      subst (λ cs. AllByRecursion (NamedRow s later p from) (filter (is_kept params from) cs))
-      (sym (combined_is (views_of s p) params 0 ([] ∷ []) from.sources
-      ∙ one_start (given_at (views_of s p) params) from.sources))
-      (kept_behind Fits (given_at (views_of s p) params) (is_kept params from)
-      (NamedRow s later p from) 0 from.sources []
-      (all_give fit own_fit none 0 from.sources stays)
-      (λ rest all kept.
-      let same = all_called 0 from.sources rest all in (
-        same,
-        bounds_named names rest same kept 0 from.sources rest all
-            (λ k. let same : 0 + k ≡ k = omega arith in ap (slice_get from.sources) same)
-            (λ k. let same : 0 + k ≡ k = omega arith in ap (slice_get rest) same),
-      )))
+  all_named_docs stays none =
+      let own = flat_map (λ (r : Read). r.items) (sources_read schemas (views_of s p) params from) in
+      let rows = rows_by_source (sources_read schemas (views_of s p) params from) in
+      let un =
+      all_untouched m s later (read_by_sources schemas (views_of s p) params from) none in
+      let names =
+      all_named s later from.sources (all_left (Untouched s later) (names_read from.sources) own un) in
+      let combined =
+      all_hold_behind (NamedDoc s later p from) params (NamedRow s later p from) 0 from.sources rows []
+      (all_named_rows 0 [] from.sources (from_start from.sources) stays names
+      (all_right (Untouched s later) (names_read from.sources) own un))
+      (λ rest same places. (same, places)) in
+      subst (AllByRecursion (NamedRow s later p from))
+      (sym (footprint_restricts schemas (views_of s p) params from (all_known s p fit own_fit params from.sources)
+      ∙ ap (filter (is_kept params from)) (one_start params from.sources rows)))
+      (all_mapped (λ c. NamedRow s later p from c × (is_kept params from c ≡ true)) (NamedRow s later p from)
+      (filter (is_kept params from) (behind params from.sources rows [])) (λ c w. w.0)
+      (all_kept (NamedRow s later p from) (is_kept params from) (behind params from.sources rows []) combined))
 
 -- ---- the law
 
@@ -522,4 +513,4 @@ named_are_unrevised mask blocks since p params from stays fit own_fit none =
     rows_unrevised later p.log (rows_of (views_of s p) params from)
     (of_rows s later p from (λ id. is_pending id.raw p.log ≡ false
     → list_any (block_revises id.raw) later ≡ false) (rows_of (views_of s p) params from)
-    (λ place id n. n.unrevised) (all_named_docs since s later p params from steady fit own_fit none))
+    (λ place id n. n.unrevised) (all_named_docs since s later p params from fit own_fit steady none))

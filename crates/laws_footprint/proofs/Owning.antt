@@ -21,7 +21,7 @@ use Rattle.laws_footprint.specs.Framed.{indexes_of}
 use Rattle.laws_footprint.specs.Own.{AllCreated, AllFollow, AllOwn, OwnIsApart, StandsInNone, StillnessOfOwn, is_by}
 use Rattle.laws_footprint.specs.Stillness.{Apart, block_revises, has_revision_of}
 use Rattle.laws_footprint.specs.Touches.{has_name, id_of, revisions_in}
-use Rattle.laws_footprint.proofs.Equality.{inside}
+use Rattle.pql_model.proofs.Equality.{inside}
 use Rattle.laws_footprint.proofs.Schemas.{active_is, called, called_dropped, has_id, has_name_is, is_called, keeps, no_index_more}
 use Rattle.laws_footprint.proofs.Still.{stillness_with_pending}
 

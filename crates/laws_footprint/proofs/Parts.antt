@@ -1,10 +1,11 @@
--- Where a condition is true, each of its equations is.
-use Rattle.std.proofs.Common.{◌≡◌, ◌∙◌, ℕ, true, List, [], ◌∷◌, ◌++◌, map, refl, ap, subst, rules, slice_get, Option, Some, None, option_map}
-use Rattle.std.specs.List.{AllByRecursion}
+-- Where a condition is true, each of its parts is.
+use Rattle.std.proofs.Common.{◌≡◌, ◌∙◌, ℕ, true, List, [], ◌∷◌, ◌++◌, map, refl, sym, ap, subst, rules, slice_get, Option, Some, None, option_map}
+use Rattle.std.specs.List.{AllByRecursion, flat_map}
+use Rattle.ion_values.specs.declared.value.Body.TheVariants as body
 use Rattle.ion_values.specs.declared.value.Value.{Value}
 use Rattle.pql_model.specs.declared.scope.Bound.{Bound}
 use Rattle.pql_model.specs.declared.scope.Evaluated.{Evaluated}
-use Rattle.pql_model.specs.declared.scope.Evaluated.TheVariants.{Found}
+use Rattle.pql_model.specs.declared.scope.Evaluated.TheVariants.{Found, Missing}
 use Rattle.pql_model.specs.declared.expr.Expr.{Expr, roll-Expr}
 use Rattle.pql_model.specs.declared.expr.Member.{Member}
 use Rattle.pql_model.specs.declared.expr.Operator.{Operator}
@@ -15,11 +16,12 @@ use Rattle.pql_model.specs.declared.expr.Expr.TheOpen.{Expr-F, Path-F, PathStep-
 use Rattle.pql_model.specs.declared.expr.Expr.TheFolds.{ind-Expr, map-Expr, map-PathStep, fold-Member, fold-Path, fold-PathStep, the_lemmas}
 use Rattle.pql_model.specs.Comparisons.{equal}
 use Rattle.pql_model.specs.Logic.{is_true, truth_in}
-use Rattle.pql_model.specs.Made.{found, onward}
+use Rattle.pql_model.specs.Lists.{is_in, list_of, value_in}
+use Rattle.pql_model.specs.Made.{answer, found, onward}
 use Rattle.pql_model.specs.Meaning.{Context, Meant, expr_step, meaning, meaning_of_member, meaning_of_path, meaning_of_step, operate, step_step, under, walked}
 use Rattle.pql_model.specs.Steps as steps
-use Rattle.ledger_model.specs.Footprints.{Condition, Equation, Side, all_names, condition_of, constant, given, named, names, no_side, one_level, operated, other, path_side, step_name}
-use Rattle.laws_footprint.proofs.Equality.{conjunction_true}
+use Rattle.ledger_model.specs.Conditions.{Condition, Part, Side, all_constants, all_names, among, condition_of, constant, constants, equation, given, list_side, missing, named, names, no_side, one_level, operated, other, path_side, step_name, with_constant}
+use Rattle.pql_model.proofs.Equality.{conjunction_true}
 
 -- ---- what a side is in a row
 
@@ -30,14 +32,19 @@ stepped (name ∷ more) e = stepped more (onward (λ v. found (steps.field_of na
 
 abbrev pub Is : List Bound → Side → Evaluated → Type 0
 Is c (constant v) e = e ≡ Found v
+Is c missing e = e ≡ Missing
 Is c (names first fields) e = e ≡ stepped fields (steps.named first true c)
+Is c (constants values) e = e ≡ answer (body.List values)
 Is c other e = Unit {0}
 
--- both sides stand for values that are equal
-abbrev pub Holds : List Bound → Equation → Type 0
-Holds c q =
-    (left : Evaluated) × (right : Evaluated) × Is c q.left left × Is c q.right right
+-- what both sides stand for is equal, or the one is IN the other
+abbrev pub Holds : List Bound → Part → Type 0
+Holds c (equation l r) =
+    (left : Evaluated) × (right : Evaluated) × Is c l left × Is c r right
     × (is_true (truth_in (equal left right)) ≡ true)
+Holds c (among l r) =
+    (left : Evaluated) × (right : Evaluated) × Is c l left × Is c r right
+    × (is_true (truth_in (is_in left right)) ≡ true)
 
 -- ---- by induction over expressions
 
@@ -53,9 +60,9 @@ module _ (params : List Value) where
   nothing_of_member =
       fold-Member Condition (Option (List ℕ)) (Unit {0}) Side (one_level params) step_name no_side path_side
 
-  -- what it is in a row, and its equations where it is true
+  -- what it is in a row, and its parts where it is true
   abbrev Says : List Bound → Condition → Evaluated → Type 0
-  Says c parts e = Is c parts.side e × (is_true (truth_in e) ≡ true → AllByRecursion (Holds c) parts.equations)
+  Says c condition e = Is c condition.side e × (is_true (truth_in e) ≡ true → AllByRecursion (Holds c) condition.parts)
 
   abbrev OfExpr : Expr → Type 0
   OfExpr e = (c : List Bound) → Says c (condition_of params e) (meaning e (under c params))
@@ -112,7 +119,7 @@ module _ (params : List Value) where
   given_is c None = tt
   given_is c (Some v) = refl
 
-  all_append : (c : List Bound) (xs ys : List Equation) → AllByRecursion (Holds c) xs → AllByRecursion (Holds c) ys
+  all_append : (c : List Bound) (xs ys : List Part) → AllByRecursion (Holds c) xs → AllByRecursion (Holds c) ys
       → AllByRecursion (Holds c) (xs ++ ys)
   all_append c [] ys h k = k
   all_append c (x ∷ xs) ys h k = (h.0, all_append c xs ys h.1 k)
@@ -122,7 +129,7 @@ module _ (params : List Value) where
   operated_says c op.And l r e f h k = (
     tt,
     λ t. let both =
-        conjunction_true (truth_in e) (truth_in f) t in all_append c l.equations r.equations (h.1 both.0) (k.1 both.1),
+        conjunction_true (truth_in e) (truth_in f) t in all_append c l.parts r.parts (h.1 both.0) (k.1 both.1),
   )
   operated_says c op.Equal l r e f h k = (tt, λ t. ((e, f, h.0, k.0, t), tt))
   operated_says c op.Or l r e f h k = (tt, λ t. tt)
@@ -138,19 +145,62 @@ module _ (params : List Value) where
   operated_says c op.Divide l r e f h k = (tt, λ t. tt)
   operated_says c op.Remainder l r e f h k = (tt, λ t. tt)
 
+  -- ---- lists of constants
+
+  abbrev sides_of : List E → List Condition
+  sides_of es = map (condition_of params) (map (λ (e : E). e.0) es)
+
+  abbrev answers_of : List E → List Bound → List Evaluated
+  answers_of es c = map (λ m. m (under c params)) (map meaning (map (λ (e : E). e.0) es))
+
+  abbrev ValuesAre : Option (List Value) → List Value → Type 0
+  ValuesAre None values = Unit {0}
+  ValuesAre (Some all) values = values ≡ all
+
+  one_constant : (v : Value) (o : Option (List Value)) (values : List Value) → ValuesAre o values
+      → ValuesAre (option_map (λ vs. v ∷ vs) o) (v ∷ values)
+  one_constant v None values h = tt
+  one_constant v (Some vs) values h = ap (λ xs. v ∷ xs) h
+
+  one_side : (c : List Bound) (side : Side) (e : Evaluated) (o : Option (List Value)) (values : List Value)
+      → Is c side e → ValuesAre o values → ValuesAre (with_constant side o) (value_in e ++ values)
+  one_side c (constant v) e o values is h =
+      subst (λ x. ValuesAre (option_map (λ vs. v ∷ vs) o) (value_in x ++ values)) (sym is) (one_constant v o values h)
+  one_side c missing e o values is h = subst (λ x. ValuesAre o (value_in x ++ values)) (sym is) h
+  one_side c (names first fields) e o values is h = tt
+  one_side c (constants vs) e o values is h = tt
+  one_side c other e o values is h = tt
+
+  values_are : (es : List E) (c : List Bound)
+      → ValuesAre (all_constants (sides_of es)) (flat_map value_in (answers_of es c))
+  values_are [] c = refl
+  values_are (e ∷ es) c =
+      one_side c (condition_of params e.0).side (meaning e.0 (under c params)) (all_constants (sides_of es))
+      (flat_map value_in (answers_of es c)) (e.1 c).0 (values_are es c)
+
+  list_by : (c : List Bound) (o : Option (List Value)) (values : List Value) → ValuesAre o values
+      → Is c (list_side o) (answer (body.List values))
+  list_by c None values h = tt
+  list_by c (Some vs) values h = ap (λ xs. answer (body.List xs)) h
+
+  list_is : (es : List E) (c : List Bound)
+      → Is c (list_side (all_constants (sides_of es))) (list_of (answers_of es c))
+  list_is es c = list_by c (all_constants (sides_of es)) (flat_map value_in (answers_of es c)) (values_are es c)
+
   level : (y : Expr-F E S M P) (c : List Bound) → Says c (parts (first y)) (meant (first y) (under c params))
   level (Expr-F.Value v) c = (refl, λ t. tt)
-  level Expr-F.Missing c = (tt, λ t. tt)
+  level Expr-F.Missing c = (refl, λ t. tt)
   level (Expr-F.Parameter n) c = (given_is c (slice_get params n), λ t. tt)
   level (Expr-F.Path p) c = (p.1 c, λ t. tt)
   level (Expr-F.Negate e) c = (tt, λ t. tt)
   level (Expr-F.Not e) c = (tt, λ t. tt)
-  level (Expr-F.List es) c = (tt, λ t. tt)
+  level (Expr-F.List es) c = (list_is es c, λ t. tt)
   level (Expr-F.Struct ms) c = (tt, λ t. tt)
   level (Expr-F.Binary o left right) c =
       operated_says c o (condition_of params left.0) (condition_of params right.0) (meaning left.0 (under c params))
       (meaning right.0 (under c params)) (left.1 c) (right.1 c)
-  level (Expr-F.IsIn e list) c = (tt, λ t. tt)
+  level (Expr-F.IsIn e list) c =
+      (tt, λ t. ((meaning e.0 (under c params), meaning list.0 (under c params), (e.1 c).0, (list.1 c).0, t), tt))
   level (Expr-F.Like e pattern) c = (tt, λ t. tt)
   level (Expr-F.Between e low high) c = (tt, λ t. tt)
   level (Expr-F.IsNull e) c = (tt, λ t. tt)
@@ -247,6 +297,6 @@ module _ (params : List Value) where
       (λ x y is. tt)
       (λ x y is. subst (λ z. OfPath (roll-Path z)) is (of_path y.first y.steps))
 
-  pub equations_hold : (e : Expr) (c : List Bound) → is_true (truth_in (meaning e (under c params))) ≡ true
-      → AllByRecursion (Holds c) (condition_of params e).equations
-  equations_hold e c h = (says e c).1 h
+  pub parts_hold : (e : Expr) (c : List Bound) → is_true (truth_in (meaning e (under c params))) ≡ true
+      → AllByRecursion (Holds c) (condition_of params e).parts
+  parts_hold e c h = (says e c).1 h

@@ -6,7 +6,7 @@ use Rattle.ledger_model.specs.declared.block.Draft.{Draft}
 use Rattle.ledger_model.specs.Views.{latest, latest_from, put}
 use Rattle.laws_footprint.specs.Naming.{is_pending}
 use Rattle.laws_footprint.proofs.Documents.{Distinct, all_put, distinct_put, latest_after}
-use Rattle.laws_footprint.proofs.Equality.{inside}
+use Rattle.pql_model.proofs.Equality.{inside}
 
 -- a revision of the document
 abbrev pub is_doc : ℕ → Draft → Bool

@@ -1,203 +1,101 @@
 -- Restriction, and the frame of FROM's rows.
-use Rattle.std.proofs.Common.{◌≡◌, ◌∙◌, ◌⊎◌, inl, inr, ℕ, suc, ◌+◌, Bool, true, false, cond, List, [], ◌∷◌, ◌++◌, map, refl, sym, ap, subst, slice_get, Some, None, arith}
-use Rattle.std.specs.List.{AllByRecursion, filter, flat_map}
-use Rattle.std.specs.Option.{option_map_or}
-use Rattle.std.proofs.lemmas.Bool.{false≢true}
-use Rattle.std.proofs.lemmas.List.{append-nil}
+use Rattle.std.proofs.Common.{◌≡◌, ◌∙◌, inl, inr, ℕ, suc, ◌+◌, Bool, true, false, List, [], ◌∷◌, ◌++◌, length, map, refl, sym, ap, subst, arith}
+use Rattle.std.specs.List.{AllByRecursion, filter}
+use Rattle.std.proofs.lemmas.List.{append_assoc, map-append}
 use Rattle.ion_values.specs.declared.value.Value.{Value}
 use Rattle.pql_model.specs.declared.scope.Bound.{Bound}
+use Rattle.pql_model.specs.declared.statement.FromClause.{FromClause}
 use Rattle.pql_model.specs.declared.statement.Source.{Source}
-use Rattle.pql_model.specs.declared.statement.SourceKind.{SourceKind}
-use Rattle.pql_model.specs.declared.statement.SourceKind.TheVariants as source
 use Rattle.pql_model.specs.declared.tables.Row.{Row}
-use Rattle.pql_model.specs.From.{Combined, Viewed, bound_element, bound_row, combined_with, extended, given, given_by, is_kept}
+use Rattle.pql_model.specs.From.{Combined, Viewed, bound_element, bound_row, combined_over, is_kept, rows_given}
 use Rattle.pql_model.specs.Names.{called, called_in_row}
-use Rattle.laws_footprint.specs.Restriction.{AllKnown, FrameOfRows, Reads, Restriction, SameRead, cut, read_with, rows_given}
-use Rattle.laws_footprint.proofs.Combinations.{AllFit, Elements, Gives, SomeLeft, all_behind, all_with, behind, cut_behind, cut_elements, flat_map-same}
+use Rattle.laws_footprint.specs.Restriction.{AllKnown, AllRead, Covers, FrameOfRows, Gives, IsKnown, IsRead, Knows, Reads, Restriction, rows_read}
+use Rattle.laws_footprint.proofs.Listed.{all_among}
+use Rattle.pql_model.proofs.Combinations.{all_given, all_rows, behind, cut_source, nothing, one_start}
 
--- ---- the combinations of FROM
+-- ---- combinations whose rows are read
 
-abbrev pub given_at : Viewed → List Value → Elements
-given_at views params n s c = given views params s c
+pub all_called : (views : Viewed) (params : List Value) (known : Knows) (reads : Reads) (n : ℕ)
+    (ss : List Source) (c : Combined) → AllRead views params known reads n ss c
+    → map called_in_row c ≡ map called ss
+all_called views params known reads n [] [] h = refl
+all_called views params known reads n [] (b ∷ bs) h = absurd h
+all_called views params known reads n (s ∷ ss) [] h = absurd h
+all_called views params known reads n (s ∷ ss) (b ∷ bs) h =
+    ap (λ x. x ∷ map called_in_row bs) h.0.0
+    ∙ ap (λ xs. called s ∷ xs) (all_called views params known reads (n + 1) ss bs h.1)
 
-abbrev read_at : Viewed → List Value → Reads → Elements
-read_at views params reads n s c = given (cut (reads n) views) params s c
-
-pub combined_is : (views : Viewed) (params : List Value) (n : ℕ) (cs : List Combined) (ss : List Source)
-    → combined_with views params cs ss ≡ all_with (given_at views params) n cs ss
-combined_is views params n cs [] = refl
-combined_is views params n cs (s ∷ ss) = combined_is views params (n + 1) (flat_map (extended views params s) cs) ss
-
-read_is : (views : Viewed) (params : List Value) (reads : Reads) (n : ℕ) (cs : List Combined) (ss : List Source)
-    → read_with views params reads n cs ss ≡ all_with (read_at views params reads) n cs ss
-read_is views params reads n cs [] = refl
-read_is views params reads n cs (s ∷ ss) =
-    read_is views params reads (n + 1) (flat_map (extended (cut (reads n) views) params s) cs) ss
-
--- ---- cutting what a source gives
-
--- a document passes where its row is read, and an element of a list always
-abbrev passes : Reads → ℕ → Bound → Bool
-passes reads n b = option_map_or (λ id. reads n (record { id = id; value = b.value })) b.id true
-
-cut_row : (reads : Reads) (n : ℕ) (s : Source) (r : Row) (rows : List Row) (b : Bool)
-    → filter (passes reads n) (map (bound_row s) rows) ≡ map (bound_row s) (filter (reads n) rows)
-    → cond b (bound_row s r ∷ filter (passes reads n) (map (bound_row s) rows))
-    (filter (passes reads n) (map (bound_row s) rows))
-    ≡ map (bound_row s) (cond b (r ∷ filter (reads n) rows) (filter (reads n) rows))
-cut_row reads n s r rows true ih = ap (λ bs. bound_row s r ∷ bs) ih
-cut_row reads n s r rows false ih = ih
-
-cut_rows : (reads : Reads) (n : ℕ) (s : Source) (rows : List Row)
-    → filter (passes reads n) (map (bound_row s) rows) ≡ map (bound_row s) (filter (reads n) rows)
-cut_rows reads n s [] = refl
-cut_rows reads n s (r ∷ rows) = cut_row reads n s r rows (reads n r) (cut_rows reads n s rows)
-
-cut_values : (reads : Reads) (n : ℕ) (s : Source) (vs : List Value)
-    → filter (passes reads n) (map (bound_element s) vs) ≡ map (bound_element s) vs
-cut_values reads n s [] = refl
-cut_values reads n s (v ∷ vs) = ap (λ bs. bound_element s v ∷ bs) (cut_values reads n s vs)
-
-cut_given : (views : Viewed) (params : List Value) (reads : Reads) (n : ℕ) (s : Source) (kind : SourceKind)
-    (c : Combined)
-    → filter (passes reads n) (given_by views params s kind c) ≡ given_by (cut (reads n) views) params s kind c
-cut_given views params reads n s (source.Table name) c = cut_rows reads n s _
-cut_given views params reads n s (source.History table start end) c = cut_rows reads n s _
-cut_given views params reads n s (source.Path path) c = cut_values reads n s _
-
-behind-same : (e f : Elements) → ((n : ℕ) (s : Source) (c : List Bound) → e n s c ≡ f n s c)
-    → (n : ℕ) (ss : List Source) (c : List Bound) → behind e n ss c ≡ behind f n ss c
-behind-same e f same n [] c = refl
-behind-same e f same n (s ∷ ss) c =
-    ap (λ bs. flat_map (λ b. behind e (n + 1) ss (c ++ b ∷ [])) bs) (same n s c)
-    ∙ flat_map-same _ _ (f n s c) (λ b. behind-same e f same (n + 1) ss (c ++ b ∷ []))
-
--- ---- what the sources give
-
-abbrev Fits : Reads → ℕ → Source → Bound → Type 0
-Fits known n s b =
-    (called_in_row b ≡ called s) × (((row : Row) × (b ≡ bound_row s row) × (known n row ≡ true)) ⊎ (b.id ≡ None))
-
-rows_fit : (known : Reads) (n : ℕ) (s : Source) (rows : List Row) → AllByRecursion (λ row. known n row ≡ true) rows
-    → AllByRecursion (Fits known n s) (map (bound_row s) rows)
-rows_fit known n s [] h = tt
-rows_fit known n s (r ∷ rows) h = ((refl, inl (r, refl, h.0)), rows_fit known n s rows h.1)
-
-values_fit : (known : Reads) (n : ℕ) (s : Source) (vs : List Value)
-    → AllByRecursion (Fits known n s) (map (bound_element s) vs)
-values_fit known n s [] = tt
-values_fit known n s (v ∷ vs) = ((refl, inr refl), values_fit known n s vs)
-
-given_fit : (views : Viewed) (params : List Value) (known : Reads) (n : ℕ) (s : Source) (kind : SourceKind)
-    (c : Combined)
-    → AllByRecursion (λ row. known n row ≡ true) (rows_given views params kind)
-    → AllByRecursion (Fits known n s) (given_by views params s kind c)
-given_fit views params known n s (source.Table name) c h = rows_fit known n s _ h
-given_fit views params known n s (source.History table start end) c h = rows_fit known n s _ h
-given_fit views params known n s (source.Path path) c h = values_fit known n s _
-
-all_given : (views : Viewed) (params : List Value) (known : Reads) (n : ℕ) (ss : List Source)
-    → AllKnown views params known n ss
-    → Gives (Fits known) (given_at views params) n ss
-all_given views params known n [] h = tt
-all_given views params known n (s ∷ ss) h =
-    ((λ c. given_fit views params known n s s.from c h.0), all_given views params known (n + 1) ss h.1)
-
-all_called : (known : Reads) (n : ℕ) (ss : List Source) (bs : List Bound) → AllFit (Fits known) n ss bs
-    → map called_in_row bs ≡ map called ss
-all_called known n [] [] h = refl
-all_called known n [] (b ∷ bs) h = absurd h
-all_called known n (s ∷ ss) [] h = absurd h
-all_called known n (s ∷ ss) (b ∷ bs) h =
-    ap (λ x. x ∷ map called_in_row bs) h.0.0 ∙ ap (λ xs. called s ∷ xs) (all_called known (n + 1) ss bs h.1)
-
--- a row at some place that isn't read
-abbrev LeftAt : Reads → Reads → ℕ → List Source → List Bound → Type 0
-LeftAt known reads n ss bs =
-    (k : ℕ) × (s : Source) × (row : Row) × (slice_get ss k ≡ Some s) × (slice_get bs k ≡ Some (bound_row s row))
-    × (known (n + k) row ≡ true) × (reads (n + k) row ≡ false)
-
-left_here : (known reads : Reads) (n : ℕ) (s : Source) (ss : List Source) (b : Bound) (bs : List Bound)
-    → passes reads n b ≡ false
-    → ((row : Row) × (b ≡ bound_row s row) × (known n row ≡ true)) ⊎ (b.id ≡ None)
-    → LeftAt known reads n (s ∷ ss) (b ∷ bs)
-left_here known reads n s ss b bs left (inl w) =
-    let here : n ≡ n + 0 = omega arith in
-    let unread : reads n w.0 ≡ false = subst (λ x. passes reads n x ≡ false) w.1 left in (
-      0,
-      s,
-      w.0,
-      refl,
-      ap Some w.1,
-      subst (λ m. known m w.0 ≡ true) here w.2,
-      subst
-          (λ m. reads m w.0 ≡ false) here unread,
+one_more_read : (views : Viewed) (params : List Value) (known : Knows) (reads : Reads) (n : ℕ)
+    (ss : List Source) (c : Combined) (s : Source) (b : Bound)
+    → AllRead views params known reads n ss c → Gives (IsRead views params known reads (n + length ss) s) s b
+    → AllRead views params known reads n (ss ++ s ∷ []) (c ++ b ∷ [])
+one_more_read views params known reads n [] [] s b h g =
+    let here : n + 0 ≡ n = omega arith in (subst (λ m. Gives (IsRead views params known reads m s) s b) here g, tt)
+one_more_read views params known reads n [] (d ∷ ds) s b h g = absurd h
+one_more_read views params known reads n (x ∷ xs) [] s b h g = absurd h
+one_more_read views params known reads n (x ∷ xs) (d ∷ ds) s b h g =
+    let there : n + suc (length xs) ≡ n + 1 + length xs = omega arith in (
+      h.0,
+      one_more_read views params known reads (n + 1) xs ds s b h.1
+          (subst (λ m. Gives (IsRead views params known reads m s) s b) there g),
     )
-left_here known reads n s ss b bs left (inr none) =
-    absurd (false≢true (sym left ∙ ap (λ o. option_map_or (λ id. reads n (record { id = id; value = b.value })) o true)
-    none))
 
-left_at : (known reads : Reads) (n : ℕ) (ss : List Source) (bs : List Bound) → AllFit (Fits known) n ss bs
-    → SomeLeft (passes reads) n bs
-    → LeftAt known reads n ss bs
-left_at known reads n [] [] h left = absurd left
-left_at known reads n [] (b ∷ bs) h left = absurd h
-left_at known reads n (s ∷ ss) [] h left = absurd left
-left_at known reads n (s ∷ ss) (b ∷ bs) h (inl left) = left_here known reads n s ss b bs left h.0.1
-left_at known reads n (s ∷ ss) (b ∷ bs) h (inr left) =
-    let w = left_at known reads (n + 1) ss bs h.1 left in
-    let there : n + 1 + w.0 ≡ n + suc w.0 = omega arith in (
-      suc w.0,
-      w.1,
-      w.2,
-      w.3,
-      w.4,
-      subst (λ m. known m w.2 ≡ true) there w.5,
-      subst
-          (λ m. reads m w.2 ≡ false) there w.6,
-    )
+length_more : (left : List Source) (s : Source) → length (left ++ s ∷ []) ≡ length left + 1
+length_more [] s = refl
+length_more (x ∷ left) s = let ih = length_more left s in omega arith
 
 -- ---- the laws
 
-pub one_start : (elements : Elements) (ss : List Source) → all_with elements 0 ([] ∷ []) ss ≡ behind elements 0 ss []
-one_start elements ss = all_behind elements 0 ([] ∷ []) ss ∙ append-nil (behind elements 0 ss [])
+module _ (views : Viewed) (params : List Value) (from : FromClause) (known : Knows) (reads : Reads)
+    (covers : Covers views params from known reads) where
+  abbrev keep : Combined → Bool
+  keep c = is_kept params from c
+
+  -- behind rows that are read, a row that isn't read is kept with nothing
+  unread : (left ss : List Source) (s : Source) (c : Combined) (row : Row) → from.sources ≡ left ++ s ∷ ss
+      → AllRead views params known reads 0 left c → IsKnown views params known s row → reads (length left) row ≡ false
+      → filter keep (behind params ss (all_rows views params ss) (c ++ bound_row s row ∷ [])) ≡ []
+  unread left ss s c row is read is_known not_read =
+      nothing params keep ss (all_rows views params ss) (c ++ bound_row s row ∷ []) (λ rest same.
+      let named : map called_in_row (c ++ bound_row s row ∷ rest) ≡ map called from.sources =
+      map-append called_in_row c (bound_row s row ∷ rest)
+      ∙ ap (λ xs. xs ++ called s ∷ map called_in_row rest) (all_called views params known reads 0 left c read)
+      ∙ ap (λ xs. map called left ++ called s ∷ xs) same
+      ∙ sym (map-append called left (s ∷ ss)) ∙ ap (map called) (sym is) in
+      ap keep (append_assoc c (bound_row s row ∷ []) rest)
+      ∙ covers left ss s c rest row is read named is_known not_read)
+
+  cut_behind : (left ss : List Source) (n : ℕ) (c : Combined) → from.sources ≡ left ++ ss → length left ≡ n
+      → AllRead views params known reads 0 left c → AllKnown views params known ss
+      → filter keep (behind params ss (all_rows views params ss) c)
+      ≡ filter keep (behind params ss (rows_read views params reads n ss) c)
+  cut_behind left [] n c is long read all = refl
+  cut_behind left (s ∷ ss) n c is long read all =
+      let next : from.sources ≡ (left ++ s ∷ []) ++ ss = is ∙ sym (append_assoc left (s ∷ []) ss) in
+      let longer : length (left ++ s ∷ []) ≡ n + 1 = length_more left s ∙ ap (λ k. k + 1) long in
+      let here : 0 + length left ≡ n = omega arith in
+      let further = λ (b : Bound) (g : Gives (IsRead views params known reads n s) s b).
+      cut_behind (left ++ s ∷ []) ss (n + 1) (c ++ b ∷ []) next longer
+      (one_more_read views params known reads 0 left c s b read
+      (subst (λ m. Gives (IsRead views params known reads m s) s b) (sym here) g)) all.1 in
+      cut_source params keep s (behind params ss (all_rows views params ss))
+      (behind params ss (rows_read views params reads (n + 1) ss)) c s.from (IsKnown views params known s) (reads n)
+      (rows_given views params s.from)
+      (all_among (λ row. known s.from row ≡ true) (rows_given views params s.from) all.0)
+      (λ row k r. further (bound_row s row) (refl, inl (row, refl, (k, r))))
+      (λ row k r. unread left ss s c row is read k (ap (λ m. reads m row) long ∙ r))
+      (λ path v. further (bound_element s v) (refl, inr (path, refl)))
 
 pub restriction : Restriction
 restriction views params from known reads all covers =
-    ap (filter (is_kept params from)) (combined_is views params 0 ([] ∷ []) from.sources
-    ∙ one_start (given_at views params) from.sources)
-    ∙ cut_behind (Fits known) (given_at views params) (passes reads) (is_kept params from) 0 from.sources []
-    (all_given views params known 0 from.sources all)
-    (λ rest fit left.
-    let w = left_at known reads 0 from.sources rest fit left in
-    let here : 0 + w.0 ≡ w.0 = omega arith in
-    covers rest w.0 w.1 w.2 (all_called known 0 from.sources rest fit) w.3 w.4
-    (subst (λ m. known m w.2 ≡ true) here w.5) (subst (λ m. reads m w.2 ≡ false) here w.6))
-    ∙ ap (filter (is_kept params from)) (behind-same (cut_elements (passes reads) (given_at views params))
-    (read_at views params reads) (λ n s c. cut_given views params reads n s s.from c) 0 from.sources [])
+    ap (filter (is_kept params from)) (all_given views params ([] ∷ []) from.sources
+    ∙ one_start params from.sources (all_rows views params from.sources))
+    ∙ cut_behind views params from known reads covers [] from.sources 0 [] refl refl tt all
     ∙ sym (ap (filter (is_kept params from))
-    (read_is views params reads 0 ([] ∷ []) from.sources ∙ one_start (read_at views params reads) from.sources))
-
-same_given : (before now : Viewed) (params : List Value) (p : Row → Bool) (s : Source) (kind : SourceKind)
-    (c : Combined)
-    → filter p (rows_given before params kind) ≡ filter p (rows_given now params kind)
-    → given_by (cut p before) params s kind c ≡ given_by (cut p now) params s kind c
-same_given before now params p s (source.Table name) c same = ap (map (bound_row s)) same
-same_given before now params p s (source.History table start end) c same = ap (map (bound_row s)) same
-same_given before now params p s (source.Path path) c same = refl
-
-same_read : (before now : Viewed) (params : List Value) (reads : Reads) (n : ℕ) (cs : List Combined) (ss : List Source)
-    → SameRead before now params reads n ss
-    → read_with before params reads n cs ss ≡ read_with now params reads n cs ss
-same_read before now params reads n cs [] same = refl
-same_read before now params reads n cs (s ∷ ss) same =
-    ap (λ ds. read_with before params reads (n + 1) ds ss)
-    (flat_map-same (extended (cut (reads n) before) params s) (extended (cut (reads n) now) params s) cs
-    (λ c. ap (map (λ b. c ++ b ∷ [])) (same_given before now params (reads n) s s.from c same.0)))
-    ∙ same_read before now params reads (n + 1) _ ss same.1
+    (one_start params from.sources (rows_read views params reads 0 from.sources)))
 
 pub frame_of_rows : FrameOfRows
-frame_of_rows before now params from known reads all_before all_now covers same =
-    restriction before params from known reads all_before covers
-    ∙ ap (filter (is_kept params from)) (same_read before now params reads 0 ([] ∷ []) from.sources same)
-    ∙ sym (restriction now params from known reads all_now covers)
+frame_of_rows before now params from known reads all_before all_now covers_before covers_now same =
+    restriction before params from known reads all_before covers_before
+    ∙ ap (λ rows. filter (is_kept params from) (combined_over params ([] ∷ []) from.sources rows)) same
+    ∙ sym (restriction now params from known reads all_now covers_now)

@@ -10,7 +10,7 @@ use Rattle.ledger_model.specs.Follows.{latest_of}
 use Rattle.ledger_model.specs.Script.{or_else}
 use Rattle.ledger_model.specs.State.{Recorded, State, after, draft_of, state_from}
 use Rattle.ledger_model.specs.Views.{row_of}
-use Rattle.laws_footprint.specs.Meets.{meets, meets_one}
+use Rattle.ledger_model.specs.Meets.{meets, meets_one}
 use Rattle.laws_footprint.specs.Stillness.{block_revises, has_revision_of}
 use Rattle.laws_footprint.specs.Touches.{conflict_from, id_of, revisions_in, touched}
 use Rattle.laws_footprint.proofs.Documents.{IsLatest, latest_of-append, meets_row}

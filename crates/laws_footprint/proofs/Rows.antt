@@ -17,13 +17,13 @@ use Rattle.ledger_model.specs.declared.block.Content.TheVariants.{Deleted, Kept,
 use Rattle.ledger_model.specs.declared.block.Draft.{Draft}
 use Rattle.ledger_model.specs.declared.outcome.Item.{Item}
 use Rattle.ledger_model.specs.declared.outcome.Item.TheVariants as item
-use Rattle.ledger_model.specs.Footprints.{first_of, shows_metadata}
+use Rattle.ledger_model.specs.Footprints.{first_of, names_read}
+use Rattle.ledger_model.specs.Meets.{data_in, document_shown, shows_metadata}
 use Rattle.ledger_model.specs.Run.{Progress, table_now, tables_now}
 use Rattle.ledger_model.specs.State.{State, Table, after, draft_of, state_from}
 use Rattle.ledger_model.specs.Statements.{table_in}
 use Rattle.ledger_model.specs.Views.{latest_from, live, put, row_of}
-use Rattle.laws_footprint.specs.Covered.{data_in, document_shown, is_known, shows_own_id}
-use Rattle.laws_footprint.specs.Framed.{names_read}
+use Rattle.laws_footprint.specs.Covered.{is_known, shows_own_id}
 use Rattle.laws_footprint.specs.Own.{IdsFit}
 use Rattle.laws_footprint.specs.Touches.{conflict_from, named_or, revisions_in, touched}
 use Rattle.laws_footprint.proofs.Documents.{all_put}

@@ -24,14 +24,14 @@ use Rattle.ledger_model.specs.declared.script.Request.{Request}
 use Rattle.ledger_model.specs.Follows.{created_ids, is_active, is_kept, latest_of}
 use Rattle.ledger_model.specs.Footprints.{footprint_of}
 use Rattle.ledger_model.specs.Progress.{not_kept}
-use Rattle.ledger_model.specs.Run.{Begun, Effect, Progress, and_then, changed_by, created, documents_in, done_by_statement, existing, first_absent, if_documents, new_document, next_id, no_table_more, not_stored, on_table, ran, reading, recorded, reserved, run_from, schemas_now, stored, table_now, tables_now, unless}
+use Rattle.ledger_model.specs.Run.{Begun, Effect, Progress, and_then, changed_by, created, documents_in, done_by_statement, existing, first_absent, if_documents, new_document, next_id, no_table_more, not_stored, on_table, ran, reading, recorded, reserved, run_from, schemas_now, stored, table_now, tables_now, unless, views_of}
 use Rattle.ledger_model.specs.SchemaChanges.{existing_index, indexes_now, no_index_more}
 use Rattle.ledger_model.specs.State.{Recorded, State, Table}
 use Rattle.ledger_model.specs.Views.{latest}
 use Rattle.ledger_model.specs.Writing.{again_of, first_own, has_room_for, if_active, is_root, next_of, no_room, revised, revised_by, rows_now, stored_changes, stored_deletes, touched}
 use Rattle.laws_footprint.specs.Naming.{is_pending}
 use Rattle.laws_footprint.specs.Own.{is_by}
-use Rattle.laws_footprint.proofs.Equality.{inside}
+use Rattle.pql_model.proofs.Equality.{inside}
 use Rattle.laws_footprint.proofs.Pending.{all_found, is_doc, latest_keeps, not_pending}
 use Rattle.laws_footprint.proofs.Rows.{all_joined, all_left, all_right}
 use Rattle.laws_footprint.proofs.StillDocuments.{latest_id}
@@ -329,7 +329,7 @@ module _ (b : Begun) (s : State) (Old : ℕ → Type 0) where
 
     -- where all that is changed is old
     module _ (each : (p : Progress) (params : List Value) (st : Statement) → Made p → Fine p
-        → AllByRecursion F (footprint_of (schemas_now s p) params st) → AreOld p params st) where
+        → AllByRecursion F (footprint_of (schemas_now s p) (views_of s p) params st) → AreOld p params st) where
       pub run_made : (j : ℕ) (p : Progress) (rs : List Request) (q : Progress) → Fine q → Made p
           → run_from b s j p rs ≡ ran q → Made q
       run_made j p [] q fine made h = let same : p ≡ q = cc h in subst Made same made
@@ -341,6 +341,6 @@ module _ (b : Begun) (s : State) (Old : ℕ → Type 0) where
           before.1 in
           let old = each p r.params w.st made before.0 read in
           let does =
-          subst (ResultMade p) w.does (reading_made p (footprint_of (schemas_now s p) r.params w.st)
+          subst (ResultMade p) w.does (reading_made p (footprint_of (schemas_now s p) (views_of s p) r.params w.st)
           (done_by_statement b s p r.params w.st) (statement_made p r.params w.st made.0 old)) in
           run_made (j + 1) w.after rs q fine (recorded_made p r w.effect w.after made does w.records) w.others

@@ -16,7 +16,7 @@ use Rattle.ledger_model.specs.declared.outcome.Item.TheVariants as item
 use Rattle.ledger_model.specs.Follows.{has_index}
 use Rattle.ledger_model.specs.Footprints.{first_of}
 use Rattle.ledger_model.specs.State.{Indexed, State, Table, active_table, after, all_changed, all_indexed, changed, dropped, indexed, state_from}
-use Rattle.laws_footprint.proofs.Equality.{inside}
+use Rattle.pql_model.proofs.Equality.{inside}
 use Rattle.laws_footprint.specs.Framed.{indexes_of, is_index_of}
 use Rattle.laws_footprint.specs.Touches.{change_touches_name, has_name, touched, touches_name}
 

@@ -14,8 +14,8 @@ use Rattle.ledger_model.specs.declared.block.Block.{Block}
 use Rattle.ledger_model.specs.declared.block.Draft.{Draft}
 use Rattle.ledger_model.specs.declared.outcome.Item.{Item}
 use Rattle.ledger_model.specs.Follows.{created_ids, latest_of}
-use Rattle.ledger_model.specs.Footprints.{equations_of, footprint_of, read_by_sources}
-use Rattle.ledger_model.specs.Run.{Begun, Progress, schemas_now, start}
+use Rattle.ledger_model.specs.Footprints.{footprint_of, read_by_sources}
+use Rattle.ledger_model.specs.Run.{Begun, Progress, schemas_now, start, views_of}
 use Rattle.ledger_model.specs.Script.{or_else}
 use Rattle.ledger_model.specs.State.{Recorded, State, draft_of, empty, state}
 use Rattle.ledger_model.specs.Writing.{rows_now}
@@ -25,7 +25,7 @@ use Rattle.laws_footprint.specs.Own.{IdsFit, is_by}
 use Rattle.laws_footprint.specs.RunIsOwn.{IsOwnOrOld, RunIsKept, RunIsSettled, RunOwnsAll}
 use Rattle.laws_footprint.specs.Stillness.{block_revises}
 use Rattle.laws_footprint.specs.Touches.{id_of}
-use Rattle.laws_footprint.proofs.Equality.{inside}
+use Rattle.pql_model.proofs.Equality.{inside}
 use Rattle.laws_footprint.proofs.Histories.{Steady, steady_behind}
 use Rattle.laws_footprint.proofs.Owning.{follow_take}
 use Rattle.laws_footprint.proofs.NamedBy.{changed_named, deleted_named}
@@ -150,17 +150,18 @@ module _ (b : Begun) (m : ℕ) (s : State) (later : List Block) (fit : IdsFit (m
     docs_found : (p : Progress) (params : List Value) (from : FromClause) → Made b s Kept p
         → Fine b s Kept (Untouched s later) limit p
         → AllByRecursion (Untouched s later)
-        (read_by_sources (schemas_now s p) (equations_of params from) from.sources)
+        (read_by_sources (schemas_now s p) (views_of s p) params from)
         → OfRows (Found b s Kept p.log) (rows_now s p params from)
     docs_found p params from made fine read =
         of_rows s later p from (Found b s Kept p.log) (rows_now s p params from) (named_found p from)
-        (all_named_docs m s later p params from (inr steady) fit
+        (all_named_docs m s later p params from fit
         (drafts_fit b s Kept p.made p.log mask number (omega (arith, fine.1, few)) (λ id old. old.1) made.0)
-        (no_conflict m s later (read_by_sources (schemas_now s p) (equations_of params from) from.sources) read))
+        (inr steady) (no_conflict m s later (read_by_sources (schemas_now s p) (views_of s p) params from) read))
 
     are_kept : (p : Progress) (params : List Value) (st : Statement) → Made b s Kept p
         → Fine b s Kept (Untouched s later) limit p
-        → AllByRecursion (Untouched s later) (footprint_of (schemas_now s p) params st) → AreOld b s Kept p params st
+        → AllByRecursion (Untouched s later) (footprint_of (schemas_now s p) (views_of s p) params st)
+        → AreOld b s Kept p params st
     are_kept p params (statement.Update from change) made fine read =
         changed_named (Found b s Kept p.log) params change (rows_now s p params from)
         (docs_found p params from made fine read)

@@ -3,7 +3,7 @@
 -- that are read are the same.
 use Rattle.std.proofs.Common.{◌≡◌, ◌∙◌, ℕ, ◌+◌, ◌^◌, Bool, true, false, not, cond, ◌==◌, ◌&&◌, nat_lt, List, [], ◌∷◌, ◌++◌, map, refl, sym, ap, subst, arith, slice_get, Option, Some, None, option_map}
 use Rattle.std.specs.Prelude.{option_and_then, if◌then◌else◌}
-use Rattle.std.specs.List.{AllByRecursion, cons_option, filter, filter_map}
+use Rattle.std.specs.List.{AllByRecursion, cons_option, filter, filter_map, list_all}
 use Rattle.std.specs.Option.{option_map_or}
 use Rattle.std.proofs.lemmas.Bool.{and_from}
 use Rattle.std.proofs.lemmas.List.Elements.{filter_agree}
@@ -16,29 +16,29 @@ use Rattle.pql_model.specs.declared.statement.SourceKind.{SourceKind}
 use Rattle.pql_model.specs.declared.statement.SourceKind.TheVariants as source
 use Rattle.pql_model.specs.declared.tables.Row.{Row}
 use Rattle.pql_model.specs.declared.tables.View.TheVariants as view
-use Rattle.pql_model.specs.From.{bound_of, rows_of}
+use Rattle.pql_model.specs.From.{bound_of, rows_given}
 use Rattle.pql_model.specs.Tables.{is_committed, table_named, view_named}
 use Rattle.ledger_model.specs.CommittedViews.{committed_row, committed_view, history_view, is_between, began, ended, row_showing}
 use Rattle.ledger_model.specs.declared.block.Block.{Block}
 use Rattle.ledger_model.specs.declared.block.Draft.{Draft}
 use Rattle.ledger_model.specs.declared.outcome.Item.{Item}
 use Rattle.ledger_model.specs.Follows.{latest_of}
-use Rattle.ledger_model.specs.Footprints.{Schemas, shows_metadata}
+use Rattle.ledger_model.specs.Footprints.{Schemas, is_read, table_of}
+use Rattle.ledger_model.specs.Meets.{data_in, document_shown, shows_metadata, shows_one}
 use Rattle.ledger_model.specs.Run.{Progress, rows_in, schemas_now, table_now, views_of}
 use Rattle.ledger_model.specs.State.{Recorded, State, draft_of, state_from}
 use Rattle.ledger_model.specs.Statements.{table_in}
 use Rattle.ledger_model.specs.Views.{latest, row_of, user_view}
-use Rattle.laws_footprint.specs.Covered.{data_in, document_shown, is_known, is_met_by, is_read, known_of, reads_of, shows_own_id, table_of}
-use Rattle.laws_footprint.specs.Meets.{meets_one}
+use Rattle.laws_footprint.specs.Covered.{fits_kind, is_known, is_read_by, no_key, shows_own_id}
+use Rattle.ledger_model.specs.Meets.{meets_one}
 use Rattle.laws_footprint.specs.Own.{IdsFit}
-use Rattle.laws_footprint.specs.Restriction.{AllKnown, Covers, SameRead, rows_given}
+use Rattle.laws_footprint.specs.Restriction.{AllKnown}
 use Rattle.laws_footprint.specs.Stillness.{Apart}
 use Rattle.laws_footprint.specs.Touches.{conflict_from, id_of}
 use Rattle.laws_footprint.proofs.Committed.{committed_still, document, own_id, showing}
 use Rattle.laws_footprint.proofs.Documents.{IsLatest, all_latest}
-use Rattle.laws_footprint.proofs.Histories.{history_still, latest_holds}
-use Rattle.laws_footprint.proofs.Restricts.{frame_of_rows}
-use Rattle.laws_footprint.proofs.Rows.{Named, all_joined, fits_before, here_at, is_plain, known_user, latest_fit, next_at, rows_fit, table_same, user_shown}
+use Rattle.laws_footprint.proofs.Histories.{history_still, latest_holds, past_is, test}
+use Rattle.laws_footprint.proofs.Rows.{Named, all_joined, is_plain, known_user, latest_fit, rows_fit, table_same, user_shown}
 use Rattle.laws_footprint.proofs.Still.{still}
 
 -- ---- the rows of a committed view and of a history, revision by revision
@@ -140,21 +140,9 @@ module _ (s : State) (p : Progress) (fit : IdsFit (map draft_of s.revisions)) (o
       history_known name from to (bound_of params from) (bound_of params to) (table_now s p name)
   given_known params (source.Path path) = tt
 
-  at_source : (sources : List Source) (n : ℕ) (x : Source) (rows : List Row) → slice_get sources n ≡ Some x
-      → AllOf x.from rows → AllByRecursion (λ (r : Row). known_of sources n r ≡ true) rows
-  at_source sources n x [] at h = tt
-  at_source sources n x (r ∷ rows) at h =
-      (ap (λ o. option_map_or (λ (y : Source). is_known y.from r) o true) at ∙ h.0, at_source sources n x rows at h.1)
-
-  all_known : (params : List Value) (sources : List Source) (n : ℕ) (ss : List Source)
-      → ((k : ℕ) → slice_get sources (n + k) ≡ slice_get ss k)
-      → AllKnown (views_of s p) params (known_of sources) n ss
-  all_known params sources n [] at = tt
-  all_known params sources n (x ∷ xs) at = (
-    at_source sources n x (rows_given (views_of s p) params x.from) (here_at sources n x xs at)
-        (given_known params x.from),
-    all_known params sources (n + 1) xs (next_at sources n x xs at),
-  )
+  pub all_known : (params : List Value) (sources : List Source) → AllKnown (views_of s p) params is_known sources
+  all_known params [] = tt
+  all_known params (x ∷ xs) = (given_known params x.from, all_known params xs)
 
 -- ---- the same rows
 
@@ -162,8 +150,9 @@ pub committed_shown : (name : List ℕ) (row : Row) → is_committed name ≡ tr
     → document_shown (source.Table name) row ≡ document row
 committed_shown name row e = ap (λ b. record { id = row.id; value = if b then data_in row.value else row.value }) e
 
-module _ (m : ℕ) (s : State) (later : List Block) (p : Progress) (params : List Value) (from : FromClause)
-    (items : List Item) where
+-- ---- the rows of one source, by its own items
+
+module _ (m : ℕ) (s : State) (later : List Block) (p : Progress) (params : List Value) (items : List Item) where
   abbrev now : State
   now = state_from s later
 
@@ -171,9 +160,9 @@ module _ (m : ℕ) (s : State) (later : List Block) (p : Progress) (params : Lis
   schemas = schemas_now s p
 
   module _ (none : conflict_from m s later items ≡ None) (apart : Apart later p.log) where
-    -- what passes is what meets an item that counts
+    -- what passes is what meets an item
     abbrev Passes : SourceKind → (Row → Bool) → Option TableId → Type 0
-    Passes kind passes o = (table : TableId) (row : Row) → o ≡ Some table → passes row ≡ is_met_by kind table items row
+    Passes kind passes o = (table : TableId) (row : Row) → o ≡ Some table → passes row ≡ shows_one kind table items row
 
     table_rows : (name : List ℕ) (passes : Row → Bool) (b : Bool) (o : Option TableId) → is_committed name ≡ b
         → Passes (source.Table name) passes o
@@ -195,62 +184,31 @@ module _ (m : ℕ) (s : State) (later : List Block) (p : Progress) (params : Lis
         ∙ sym (filter_agree passes meets_document alike (committed_view table s.revisions))
 
     past_rows : (name : List ℕ) (f t : Option Expr) (passes : Row → Bool) (start end : Option Value)
-        (o : Option TableId) → Passes (source.History name f t) passes o
+        (o : Option TableId) → list_all no_key items ≡ true → Passes (source.History name f t) passes o
         → filter passes (rows_in now p (view.History start end) o)
         ≡ filter passes (rows_in s p (view.History start end) o)
-    past_rows name f t passes start end None same = refl
-    past_rows name f t passes start end (Some table) same =
-        let test = λ (row : Row). is_met_by (source.History name f t) table items row in
-        let alike = λ (row : Row). same table row refl in
-        filter_agree passes test alike (history_view table start end now.revisions)
+    past_rows name f t passes start end None fits same = refl
+    past_rows name f t passes start end (Some table) fits same =
+        let alike = λ (row : Row). same table row refl ∙ past_is name f t table items row fits in
+        filter_agree passes (test name f t table items) alike (history_view table start end now.revisions)
         ∙ history_still name f t table items m s later start end none
-        ∙ sym (filter_agree passes test alike (history_view table start end s.revisions))
+        ∙ sym (filter_agree passes (test name f t table items) alike (history_view table start end s.revisions))
 
-    pub kind_same : (passes : Row → Bool) (kind : SourceKind) → Passes kind passes (table_of schemas kind)
-        → Named s later (table_in kind)
+    kind_by : (passes : Row → Bool) (kind : SourceKind) → fits_kind kind items ≡ true
+        → Passes kind passes (table_of schemas kind) → Named s later (table_in kind)
         → filter passes (rows_given (views_of now p) params kind)
         ≡ filter passes (rows_given (views_of s p) params kind)
-    kind_same passes (source.Table name) same un =
+    kind_by passes (source.Table name) fits same un =
         ap (λ o. filter passes (rows_in now p (view_named name) o)) (table_same s later p (table_named name) un)
         ∙ table_rows name passes (is_committed name) (table_now s p (table_named name)) refl same
-    kind_same passes (source.History name f t) same un =
+    kind_by passes (source.History name f t) fits same un =
         ap (λ o. filter passes (rows_in now p (view.History (bound_of params f) (bound_of params t)) o))
         (table_same s later p name un)
-        ∙ past_rows name f t passes (bound_of params f) (bound_of params t) (table_now s p name) same
-    kind_same passes (source.Path path) same un = refl
+        ∙ past_rows name f t passes (bound_of params f) (bound_of params t) (table_now s p name) fits same
+    kind_by passes (source.Path path) fits same un = refl
 
-    pub read_here : (kind : SourceKind) → Passes kind (is_read schemas items kind) (table_of schemas kind)
-    read_here kind table row e = ap (λ o. option_map_or (λ t. is_met_by kind t items row) o true) e
-
-    -- ---- the sources of a FROM
-
-    passes_are : (n : ℕ) (x : Source) → slice_get from.sources n ≡ Some x
-        → Passes x.from (reads_of schemas items from.sources n) (table_of schemas x.from)
-    passes_are n x at table row e =
-        ap (λ o. option_map_or (λ (y : Source). is_read schemas items y.from row) o true) at
-        ∙ read_here x.from table row e
-
-    sources_same : (n : ℕ) (ss : List Source) → ((k : ℕ) → slice_get from.sources (n + k) ≡ slice_get ss k)
-        → AllByRecursion (λ (x : Source). Named s later (table_in x.from)) ss
-        → SameRead (views_of now p) (views_of s p) params (reads_of schemas items from.sources) n ss
-    sources_same n [] at un = tt
-    sources_same n (x ∷ xs) at un = (
-      kind_same (reads_of schemas items from.sources n) x.from
-          (passes_are n x (here_at from.sources n x xs at)) un.0,
-      sources_same (n + 1) xs
-          (next_at from.sources n x xs at) un.1,
-    )
-
-    whole : (k : ℕ) → slice_get from.sources (0 + k) ≡ slice_get from.sources k
-    whole k = let same : 0 + k ≡ k = omega arith in ap (slice_get from.sources) same
-
-    pub rows_framed : Covers params from (known_of from.sources) (reads_of (schemas_now s p) items from.sources)
-        → IdsFit (map draft_of now.revisions) → IdsFit p.log
-        → AllByRecursion (λ (x : Source). Named s later (table_in x.from)) from.sources
-        → rows_of (views_of now p) params from ≡ rows_of (views_of s p) params from
-    rows_framed covers fit log_fits un =
-        frame_of_rows (views_of now p) (views_of s p) params from (known_of from.sources)
-        (reads_of schemas items from.sources)
-        (all_known now p fit log_fits params from.sources 0 from.sources whole)
-        (all_known s p (fits_before s later fit) log_fits params from.sources 0 from.sources whole)
-        covers (sources_same 0 from.sources whole un)
+    pub kind_same : (kind : SourceKind) → fits_kind kind items ≡ true → Named s later (table_in kind)
+        → filter (is_read_by schemas kind items) (rows_given (views_of now p) params kind)
+        ≡ filter (is_read_by schemas kind items) (rows_given (views_of s p) params kind)
+    kind_same kind fits un =
+        kind_by (is_read_by schemas kind items) kind fits (λ table row e. ap (λ o. is_read o kind items row) e) un

@@ -20,10 +20,10 @@ use Rattle.ledger_model.specs.Follows.{latest_of}
 use Rattle.ledger_model.specs.Script.{or_else}
 use Rattle.ledger_model.specs.State.{Recorded, State, after, draft_of, empty, state, state_from}
 use Rattle.ledger_model.specs.Views.{latest, latest_from, live, row_of}
-use Rattle.laws_footprint.specs.Meets.{meets, meets_one}
+use Rattle.ledger_model.specs.Meets.{meets, meets_one}
 use Rattle.laws_footprint.specs.Stillness.{Apart, Stillness, StillnessWithPending, block_revises, has_revision_of, rows_met}
 use Rattle.laws_footprint.specs.Touches.{conflict_from, content_in, has_key_at, has_key_in, id_of, is_in, is_of_table, kept, named_or, revisions_in, touched, touches_document, touches_key}
-use Rattle.laws_footprint.proofs.Equality.{inside}
+use Rattle.pql_model.proofs.Equality.{inside}
 use Rattle.laws_footprint.proofs.Documents.{IsLatest, Silent, alike, all_latest, latest_after, latest_of-append, meets_row, met, others_after}
 
 -- ---- items one by one

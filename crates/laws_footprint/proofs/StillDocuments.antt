@@ -12,11 +12,11 @@ use Rattle.ledger_model.specs.Follows.{latest_of}
 use Rattle.ledger_model.specs.Script.{or_else}
 use Rattle.ledger_model.specs.State.{Recorded, State, after, draft_of, empty, state, state_from}
 use Rattle.ledger_model.specs.Views.{row_of}
-use Rattle.laws_footprint.specs.Meets.{meets, meets_one}
+use Rattle.ledger_model.specs.Meets.{meets, meets_one}
 use Rattle.laws_footprint.specs.Stillness.{DocumentsAreStill, IsStill, block_revises, is_met}
 use Rattle.laws_footprint.specs.Touches.{conflict_from, id_of, revisions_in, touched}
 use Rattle.laws_footprint.proofs.Documents.{IsLatest, latest_of-append, meets_row}
-use Rattle.laws_footprint.proofs.Equality.{inside}
+use Rattle.pql_model.proofs.Equality.{inside}
 use Rattle.laws_footprint.proofs.Revised.{absent}
 use Rattle.laws_footprint.proofs.Still.{all_items, each_unmet, none_found, none_named, state_split, unmet_after, unmet_before}
 

@@ -18,7 +18,9 @@ use Rattle.ledger_model.specs.declared.block.Schema.TheVariants.{Create, Index, 
 use Rattle.ledger_model.specs.declared.outcome.Item.{Item}
 use Rattle.ledger_model.specs.declared.outcome.Item.TheVariants as item
 use Rattle.ledger_model.specs.declared.outcome.Named.{Named}
-use Rattle.ledger_model.specs.Footprints.{Equation, Schemas, constant, names, read_by_sources}
+use Rattle.ledger_model.specs.Conditions.{Part, all_asked, constant, equation, names}
+use Rattle.ledger_model.specs.Footprints.{Schemas, all_read, items_read, read_of}
+use Rattle.pql_model.specs.From.{Viewed}
 use Rattle.ledger_model.specs.State.{state}
 use Rattle.laws_footprint.specs.Touches.{conflict, touches}
 
@@ -45,8 +47,16 @@ abbrev named : ℕ → Item → Option Named
 named m i = Some (record { block = m; item = i })
 
 -- the equation a = n of SELECT * FROM t WHERE a = n
-abbrev equation : ℕ → List Equation
-equation n = record { left = names (codes "a") []; right = constant (int n) } ∷ []
+abbrev a_is : ℕ → List Part
+a_is n = equation (names (codes "a") []) (constant (int n)) ∷ []
+
+-- no table has rows
+abbrev no_rows : Viewed
+no_rows name view = []
+
+abbrev read_by : Schemas → List Part → List Source → List Item
+read_by now parts sources =
+    items_read sources (all_read (read_of now no_rows [] (all_asked sources parts)) [] sources)
 
 abbrev from_t : List Source
 from_t = record { from = source.Table (codes "t"); variable = codes "t"; id_name = None; on = None } ∷ []
@@ -79,7 +89,7 @@ module _ (b : Block) (r : Revision) where
   schemas blocks = record { tables = (state blocks).tables; indexes = (state blocks).indexes }
 
   abbrev reads_a : ℕ → List Block → List Item
-  reads_a n blocks = read_by_sources (schemas (take 4 blocks)) (equation n) from_t
+  reads_a n blocks = read_by (schemas (take 4 blocks)) (a_is n) from_t
 
   abbrev with_block : List Block → Block → List Block
   with_block [] last = last ∷ []

@@ -1,31 +1,29 @@
 -- The frame: what a statement, and a whole transaction, does at a state it does at a later one, where no block
 -- between them touches what it reads.
-use Rattle.std.specs.Prelude.{◌≡◌, ◌⊎◌, ◌==◌, ◌&&◌, ◌||◌, ◌+◌, not, ℕ, Bool, true, false, List, [], ◌∷◌, ◌++◌, drop, map, option_map, take, None, Some}
-use Rattle.std.specs.List.{AllByRecursion, cons_option, filter, filter_map, list_any}
+use Rattle.std.specs.Prelude.{◌≡◌, ◌⊎◌, ◌==◌, ◌+◌, ℕ, Bool, true, false, List, [], ◌∷◌, ◌++◌, drop, map, option_map, take, None, Ok, Some}
+use Rattle.std.specs.List.{AllByRecursion, cons_option, filter, flat_map, list_any}
 use Rattle.ion_values.specs.declared.value.Value.{Value}
 use Rattle.ql_types.specs.declared.TableId.{TableId}
 use Rattle.pql_model.specs.declared.statement.FromClause.{FromClause}
 use Rattle.pql_model.specs.declared.statement.Source.{Source}
 use Rattle.pql_model.specs.declared.statement.SourceKind.{SourceKind}
 use Rattle.pql_model.specs.declared.statement.Statement.{Statement}
-use Rattle.pql_model.specs.declared.statement.Statement.TheVariants as statement
 use Rattle.pql_model.specs.declared.tables.Row.{Row}
-use Rattle.pql_model.specs.From.{Viewed, rows_of}
+use Rattle.pql_model.specs.From.{Viewed, rows_given, rows_of}
+use Rattle.pql_model.specs.Parse.{parsed}
 use Rattle.ledger_model.specs.declared.block.Block.{Block}
 use Rattle.ledger_model.specs.declared.block.Draft.{Draft}
 use Rattle.ledger_model.specs.declared.outcome.Item.{Item}
 use Rattle.ledger_model.specs.declared.outcome.Item.TheVariants as item
 use Rattle.ledger_model.specs.declared.script.Request.{Request}
-use Rattle.ledger_model.specs.Follows.{is_active}
-use Rattle.ledger_model.specs.Footprints.{Schemas, equations_of, footprint_of, read_by_sources}
+use Rattle.ledger_model.specs.Footprints.{Read, Schemas, footprint_of, names_read, read_by_sources, sources_read}
 use Rattle.ledger_model.specs.Legal.{Means}
-use Rattle.ledger_model.specs.Run.{Begun, Progress, effect_of, ran, run, schemas_now, table_now, tables_now, views_of}
+use Rattle.ledger_model.specs.Run.{Begun, Progress, effect_of, ran, run, schemas_now, table_now, views_of}
 use Rattle.ledger_model.specs.State.{Indexed, State, draft_of, empty, state}
 use Rattle.ledger_model.specs.Statements.{table_in}
-use Rattle.ledger_model.specs.Writing.{is_root}
-use Rattle.laws_footprint.specs.Covered.{is_no_history, is_read, known_of, reads_of}
+use Rattle.laws_footprint.specs.Covered.{AllFitKind, fits_kind, is_known, is_read_by, reads_by}
 use Rattle.laws_footprint.specs.Own.{AllCreated, AllFollow, IdsFit, StandsInNone, is_by}
-use Rattle.laws_footprint.specs.Restriction.{Covers, rows_given}
+use Rattle.laws_footprint.specs.Restriction.{Covers}
 use Rattle.laws_footprint.specs.Stillness.{block_revises}
 use Rattle.laws_footprint.specs.Touches.{conflict}
 
@@ -64,12 +62,12 @@ NameIsFramed =
 -- the rows of a table source that meet one of the items are equal, if neither the name of its table nor any
 -- item is touched: of a user view, a committed view or a history
 abbrev pub rows_read_of : Schemas → List Item → Viewed → List Value → SourceKind → List Row
-rows_read_of now items views params kind = filter (is_read now items kind) (rows_given views params kind)
+rows_read_of now items views params kind = filter (is_read_by now kind items) (rows_given views params kind)
 
 abbrev pub SourceIsStill : Type 0
 SourceIsStill =
     (mask n : ℕ) (blocks : List Block) (since : ℕ) (p : Progress) (params : List Value) (kind : SourceKind)
-    (items : List Item) → Beside mask n blocks since p
+    (items : List Item) → Beside mask n blocks since p → fits_kind kind items ≡ true
     → conflict blocks since (cons_option (option_map item.TableName (table_in kind)) items) ≡ None
     → rows_read_of (schemas_now (state (take since blocks)) p) items (views_of (state blocks) p) params kind
     ≡ rows_read_of (schemas_now (state (take since blocks)) p) items
@@ -77,9 +75,13 @@ SourceIsStill =
 
 -- what a FROM reads
 abbrev pub read_by : State → Progress → List Value → FromClause → List Item
-read_by s p params from = read_by_sources (schemas_now s p) (equations_of params from) from.sources
+read_by s p params from = read_by_sources (schemas_now s p) (views_of s p) params from
 
--- a FROM gives the same rows, and reads the same
+-- of each source
+abbrev pub reads_at : State → Progress → List Value → FromClause → List Read
+reads_at s p params from = sources_read (schemas_now s p) (views_of s p) params from
+
+-- a FROM gives the same rows, and reads the same items and the same rows of each source
 abbrev pub RowsAreFramed : Type 0
 RowsAreFramed =
     (mask n : ℕ) (blocks : List Block) (since : ℕ) (p : Progress) (params : List Value) (from : FromClause)
@@ -87,48 +89,28 @@ RowsAreFramed =
     → conflict blocks since (read_by (state (take since blocks)) p params from) ≡ None
     → (rows_of (views_of (state blocks) p) params from
     ≡ rows_of (views_of (state (take since blocks)) p) params from)
-    × (read_by (state blocks) p params from ≡ read_by (state (take since blocks)) p params from)
+    × (reads_at (state blocks) p params from ≡ reads_at (state (take since blocks)) p params from)
 
--- any items serve that cover what the conditions need, beside the names of the tables
-abbrev pub names_read : List Source → List Item
-names_read sources = filter_map (λ (s : Source). option_map item.TableName (table_in s.from)) sources
-
+-- any items of the sources serve that cover what the conditions need, beside the names of the tables
 abbrev pub CoveredRowsAreFramed : Type 0
 CoveredRowsAreFramed =
     (mask n : ℕ) (blocks : List Block) (since : ℕ) (p : Progress) (params : List Value) (from : FromClause)
-    (items : List Item) → Beside mask n blocks since p
-    → Covers params from (known_of from.sources)
-    (reads_of (schemas_now (state (take since blocks)) p) items from.sources)
-    → conflict blocks since (names_read from.sources ++ items) ≡ None
+    (own : List (List Item)) → Beside mask n blocks since p
+    → AllFitKind from.sources own
+    → Covers (views_of (state (take since blocks)) p) params from is_known
+    (reads_by (schemas_now (state (take since blocks)) p) from.sources own)
+    → Covers (views_of (state blocks) p) params from is_known
+    (reads_by (schemas_now (state (take since blocks)) p) from.sources own)
+    → conflict blocks since (names_read from.sources ++ flat_map (λ items. items) own) ≡ None
     → rows_of (views_of (state blocks) p) params from ≡ rows_of (views_of (state (take since blocks)) p) params from
 
--- the tables of the documents that pend are active behind all blocks as they were at the base, the transaction's own
--- changes counted
-abbrev pub TablesStand : List Block → ℕ → Progress → Type 0
-TablesStand blocks since p = AllByRecursion (λ (d : Draft).
-    is_active (tables_now (state blocks) p) d.table
-    ≡ is_active (tables_now (state (take since blocks)) p) d.table) p.log
-
--- no source whose documents are changed, as its place tells, is a history
-abbrev pub no_history_of : (ℕ → Bool) → ℕ → List Source → Bool
-no_history_of is_changed n [] = true
-no_history_of is_changed n (s ∷ ss) =
-    (is_no_history s.from || not (is_changed n)) && no_history_of is_changed (n + 1) ss
-
--- the rules of statements refuse any other
-abbrev pub changes_no_history : Statement → Bool
-changes_no_history (statement.Update from change) = no_history_of (is_root from.sources change) 0 from.sources
-changes_no_history (statement.From from change) = no_history_of (is_root from.sources change) 0 from.sources
-changes_no_history (statement.Delete from) = no_history_of (λ n. true) 0 from.sources
-changes_no_history _ = true
-
--- its answer, its effects, its footprint, or why it is refused
+-- of a statement that is read: its answer, its effects, its footprint, or why it is refused
 abbrev pub StatementIsFramed : Type 0
 StatementIsFramed =
-    (b : Begun) (blocks : List Block) (since : ℕ) (p : Progress) (params : List Value) (st : Statement)
-    → Beside b.mask b.number blocks since p
-    → (changes_no_history st ≡ true) ⊎ TablesStand blocks since p
-    → conflict blocks since (footprint_of (schemas_now (state (take since blocks)) p) params st) ≡ None
+    (b : Begun) (blocks : List Block) (since : ℕ) (p : Progress) (text : List ℕ) (params : List Value) (st : Statement)
+    → parsed text ≡ Ok st → Beside b.mask b.number blocks since p
+    → conflict blocks since (footprint_of (schemas_now (state (take since blocks)) p)
+    (views_of (state (take since blocks)) p) params st) ≡ None
     → effect_of b (state blocks) p params st ≡ effect_of b (state (take since blocks)) p params st
 
 -- all its answers, effects and footprints

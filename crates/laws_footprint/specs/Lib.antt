@@ -1,4 +1,3 @@
-pub mod Meets
 pub mod Restriction
 pub mod Stillness
 pub mod Touches

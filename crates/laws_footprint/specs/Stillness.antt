@@ -11,7 +11,7 @@ use Rattle.ledger_model.specs.declared.outcome.Item.{Item}
 use Rattle.ledger_model.specs.Follows.{latest_of}
 use Rattle.ledger_model.specs.State.{Recorded, State, draft_of, state}
 use Rattle.ledger_model.specs.Views.{row_of, user_view}
-use Rattle.laws_footprint.specs.Meets.{meets_one}
+use Rattle.ledger_model.specs.Meets.{meets_one}
 use Rattle.laws_footprint.specs.Touches.{conflict, id_of, revisions_in}
 
 abbrev pub has_revision_of : ℕ → Recorded → Bool

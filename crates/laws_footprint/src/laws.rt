@@ -1,5 +1,5 @@
 ghost use Rattle.laws_footprint.specs.Conflicts.{ConflictIsFirst};
-ghost use Rattle.laws_footprint.specs.Covered.{FootprintCovers};
+ghost use Rattle.laws_footprint.specs.Covered.{FootprintCovers, FootprintRestricts};
 ghost use Rattle.laws_footprint.specs.Following.{FollowingTouches};
 ghost use Rattle.laws_footprint.specs.Framed.{CoveredRowsAreFramed, MeaningIsKept, NameIsFramed, RowsAreFramed};
 ghost use Rattle.laws_footprint.specs.Framed.{SourceIsStill, StatementIsFramed, TransactionIsFramed};
@@ -22,7 +22,7 @@ pub fn following_touches()
 {}
 
 /// Where each source's rows are cut to those that are read, FROM keeps the same rows, if a row that isn't
-/// read stands only in combinations on which ON and WHERE aren't true.
+/// read stands behind those that are only in combinations on which ON and WHERE aren't true.
 pub fn restriction()
     ensures { Restriction }
 {}
@@ -32,10 +32,15 @@ pub fn frame_of_rows()
     ensures { FrameOfRows }
 {}
 
-/// A row that meets no item of its statement's footprint stands only in combinations on which ON and
-/// WHERE aren't true.
+/// A row that meets no item of its source stands, behind rows that are read, only in combinations on which ON
+/// and WHERE aren't true.
 pub fn footprint_covers()
     ensures { FootprintCovers }
+{}
+
+/// FROM keeps the same rows over those rows of its sources that are read.
+pub fn footprint_restricts()
+    ensures { FootprintRestricts }
 {}
 
 /// Blocks that touch none of the items leave the rows of a user view that meet one of them as they are.

@@ -29,7 +29,7 @@ use Rattle.ledger_model.specs.declared.outcome.Refusal.{Refusal}
 use Rattle.ledger_model.specs.declared.outcome.Refusal.TheVariants.{DocumentTooLarge, IndexExists, NoSuchTable, NotADocument, ParameterCount, ParseFault, ReservedName, TableExists, TooDeep, TooManyIndexes, TooManyRevisions, TooManyTables}
 use Rattle.ledger_model.specs.declared.script.Request.{Request}
 use Rattle.ledger_model.specs.Progress.{Begun, Effect, Progress, and_then, changed_by, first_deep, has_room, is_shallow, is_small, next_id, not_kept, not_stored, on_table, or_else, reserved, start, table_now, tables_now, told_depth, unless}
-use Rattle.ledger_model.specs.Run.{Ran, done_by_statement, effect_of, if_read, if_shallow, ran, reading, recorded, refused, run, run_from, schemas_now, step, then_run}
+use Rattle.ledger_model.specs.Run.{Ran, done_by_statement, effect_of, if_read, if_shallow, ran, reading, recorded, refused, run, run_from, schemas_now, step, then_run, views_of}
 use Rattle.ledger_model.specs.Footprints.{footprint_of}
 use Rattle.ledger_model.specs.SchemaChanges.{active_count, created, created_count, dropped, existing, existing_index, index_count, indexed, indexes_now, no_index_more, no_table_more}
 use Rattle.ledger_model.specs.Selecting.{absent_table, first_absent, selected}
@@ -263,7 +263,7 @@ fine_step b s p r =
     fine_recorded p r _
     (fine_read (λ st. if_shallow (first_deep r.params) (effect_of b s p r.params st)) (statement_of r)
     (λ st. fine_shallow (first_deep r.params) (effect_of b s p r.params st)
-    (fine_reading (footprint_of (schemas_now s p) r.params st) (done_by_statement b s p r.params st)
+    (fine_reading (footprint_of (schemas_now s p) (views_of s p) r.params st) (done_by_statement b s p r.params st)
     (fine_done b s p r.params st)))
     (fine_parsed (parsed r.text) r.params))
 

@@ -12,7 +12,7 @@ use Rattle.ledger_model.specs.declared.outcome.Refusal.{Refusal}
 use Rattle.ledger_model.specs.State.{State}
 use Rattle.ledger_model.specs.Footprints.{footprint_of}
 use Rattle.ledger_model.specs.Statements.{statement_of}
-use Rattle.ledger_model.specs.Run.{Begun, Progress, Effect, Ran, ran, refused, is_shallow, told_depth, first_deep, done_by_statement, schemas_now, effect_of, if_read, if_shallow, recorded, step, then_run, run_from, run, start}
+use Rattle.ledger_model.specs.Run.{Begun, Progress, Effect, Ran, ran, refused, is_shallow, told_depth, first_deep, done_by_statement, schemas_now, effect_of, if_read, if_shallow, recorded, step, then_run, run_from, run, start, views_of}
 use Rattle.laws_validity.proofs.Lists.{all_push}
 use Rattle.laws_validity.proofs.Shapes.{Shallow}
 use Rattle.laws_validity.proofs.Statements.{Reads, request_reads}
@@ -60,7 +60,7 @@ module _ (b : Begun) (s : State) (ready : IsReady b s) where
       → AllByRecursion (Shallow 64) params → parsed text ≡ Ok st
       → Leaves b s p (effect_of b s p params st)
   leaves_effect p params text st m given e =
-      reading_leaves b s p (footprint_of (schemas_now s p) params st) _ (leaves_statement p params text st m given e)
+      reading_leaves b s p (footprint_of (schemas_now s p) (views_of s p) params st) _ (leaves_statement p params text st m given e)
 
   abbrev Keeps : Result Progress Refusal → Type 0
   Keeps (Ok q) = FineProgress b s q

@@ -14,7 +14,7 @@ use Rattle.ledger_model.specs.declared.script.Request.{Request}
 use Rattle.ledger_model.specs.Footprints.{footprint_of}
 use Rattle.ledger_model.specs.State.{State}
 use Rattle.ledger_model.specs.Statements.{counted, statement_of, wanted, with_parameters}
-use Rattle.ledger_model.specs.Run.{Begun, Effect, Progress, Ran, changed_by, done_by_statement, effect_of, first_deep, if_read, if_shallow, on_table, ran, reading, recorded, refused, run, run_from, schemas_now, start, step, then_run, unless}
+use Rattle.ledger_model.specs.Run.{Begun, Effect, Progress, Ran, changed_by, done_by_statement, effect_of, first_deep, if_read, if_shallow, on_table, ran, reading, recorded, refused, run, run_from, schemas_now, start, step, then_run, unless, views_of}
 
 -- ---- the statement of a request
 
@@ -65,7 +65,7 @@ module _ (b : Begun) (s : State) (p : Progress) (r : Request) (q : Progress) whe
       → recorded p r (if_shallow o (effect_of b s p r.params st)) ≡ Ok q → Stepped b s p r q
   by_depth st read (Some depth) h = let bad : ⊥ = cc h in absurd bad
   by_depth st read None h =
-      by_done st read (footprint_of (schemas_now s p) r.params st) (done_by_statement b s p r.params st) refl h
+      by_done st read (footprint_of (schemas_now s p) (views_of s p) r.params st) (done_by_statement b s p r.params st) refl h
 
   by_text : (x : Result Statement Refusal) → statement_of r ≡ x
       → recorded p r (if_read (λ st. if_shallow (first_deep r.params) (effect_of b s p r.params st)) x) ≡ Ok q

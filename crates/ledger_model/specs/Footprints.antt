@@ -1,152 +1,43 @@
--- What a statement reads (the ledger's own rule): names of tables, and of each table that it selects from a document, a
--- key of an index, or the whole table. Later blocks that touch any of it are in conflict with the transaction.
-use Rattle.std.specs.Prelude.{ℕ, ◌+◌, ◌==◌, ◌&&◌, Bool, true, false, List, [], ◌∷◌, ◌++◌, codes, map, slice_get, Option, Some, None, option_map, option_and_then, if◌then◌else◌}
-use Rattle.std.specs.List.{filter_map, flat_map}
+-- What a statement reads (the ledger's own rule): names of tables, and of each table that it selects from documents,
+-- keys of an index, or the whole table. Later blocks that touch any of it are in conflict with the transaction. The
+-- sources are gone through from the left, since what is read of one may depend on the rows that are read of another
+-- before it.
+use Rattle.std.specs.Prelude.{ℕ, ◌==◌, ◌&&◌, not, Bool, true, false, nat_le, List, [], ◌∷◌, ◌++◌, codes, length, map, slice_get, Option, Some, None, option_map, option_and_then, if◌then◌else◌}
+use Rattle.std.specs.List.{filter, filter_map, flat_map, list_any}
 use Rattle.std.specs.Option.{option_map_or}
 use Rattle.std.specs.Str.{bytes_eq}
 use Rattle.ion_order.specs.Key.{key_of}
-use Rattle.ion_values.specs.declared.value.Key.{Key}
 use Rattle.ion_values.specs.declared.value.Value.{Value}
+use Rattle.ion_values.specs.Keys.{is_same_key}
 use Rattle.ql_types.specs.Ids.{id_in}
 use Rattle.ql_types.specs.declared.DocId.{DocId}
 use Rattle.ql_types.specs.declared.TableId.{TableId}
-use Rattle.pql_model.specs.declared.expr.Expr.{Expr}
-use Rattle.pql_model.specs.declared.expr.Expr.TheFolds.{fold-Expr}
-use Rattle.pql_model.specs.declared.expr.Expr.TheOpen.{Expr-F, Member-F, Path-F, PathStep-F}
-use Rattle.pql_model.specs.declared.expr.Operator.{Operator}
-use Rattle.pql_model.specs.declared.expr.Operator.TheVariants as op
-use Rattle.pql_model.specs.declared.names.Resolved.{Resolved}
-use Rattle.pql_model.specs.declared.names.Resolved.TheVariants as resolved
 use Rattle.pql_model.specs.declared.statement.FromClause.{FromClause}
 use Rattle.pql_model.specs.declared.statement.Source.{Source}
 use Rattle.pql_model.specs.declared.statement.SourceKind.{SourceKind}
 use Rattle.pql_model.specs.declared.statement.SourceKind.TheVariants as source
 use Rattle.pql_model.specs.declared.statement.Statement.{Statement}
 use Rattle.pql_model.specs.declared.statement.Statement.TheVariants as statement
-use Rattle.pql_model.specs.Names.{called, resolve}
-use Rattle.pql_model.specs.Rules.{is_single}
+use Rattle.pql_model.specs.declared.tables.Row.{Row}
+use Rattle.pql_model.specs.Comparisons.{is_container}
+use Rattle.pql_model.specs.From.{Viewed, rows_given}
+use Rattle.pql_model.specs.Steps.{field_of}
 use Rattle.pql_model.specs.Tables.{is_committed}
 use Rattle.pql_model.specs.Texts.{text_of}
 use Rattle.ledger_model.specs.declared.outcome.Item.{Item}
 use Rattle.ledger_model.specs.declared.outcome.Item.TheVariants as item
+use Rattle.ledger_model.specs.Conditions.{Asked, Meant, Wanted, all_asked, at_names, equal_to, id_of, one_of, parts_of, same_as, unknown}
 use Rattle.ledger_model.specs.Follows.{has_index}
+use Rattle.ledger_model.specs.Meets.{content_shown, shows_metadata, shows_one}
 use Rattle.ledger_model.specs.State.{Indexed, Table, active_table}
 use Rattle.ledger_model.specs.Statements.{table_in}
-
--- ---- the parts of a condition: the operands of its topmost ANDs
-
--- a side of an equation: a constant, a path of names, or anything else
-pub data Side : Type 0 where
-  constant : (value : Value) → Side
-  names : (first : List ℕ) (fields : List (List ℕ)) → Side
-  other : Side
-
-pub record Equation : Type 0 where
-  pub left : Side
-  pub right : Side
-
--- what an expression is as a side, and the equations among its parts
-pub record Condition : Type 0 where
-  pub side : Side
-  pub equations : List Equation
-
-abbrev pub alone : Side → Condition
-alone side = record { side = side; equations = [] }
-
-abbrev pub given : Option Value → Side
-given None = other
-given (Some v) = constant v
-
-abbrev pub operated : Operator → Condition → Condition → Condition
-operated op.And left right = record { side = other; equations = left.equations ++ right.equations }
-operated op.Equal left right = record { side = other; equations = record { left = left.side; right = right.side } ∷ [] }
-operated _ left right = alone other
-
--- a step by an index gives no name
-abbrev pub step_name : PathStep-F Condition (Option (List ℕ)) (Unit {0}) Side → Option (List ℕ)
-step_name (PathStep-F.Field name) = Some name
-step_name (PathStep-F.Index i) = None
-
-abbrev pub all_names : List (Option (List ℕ)) → Option (List (List ℕ))
-all_names [] = Some []
-all_names (None ∷ more) = None
-all_names (Some name ∷ more) = option_map (λ fields. name ∷ fields) (all_names more)
-
-abbrev pub named : List ℕ → Option (List (List ℕ)) → Side
-named first None = other
-named first (Some fields) = names first fields
-
-abbrev pub path_side : Path-F Condition (Option (List ℕ)) (Unit {0}) Side → Side
-path_side p = named p.first (all_names p.steps)
-
-abbrev pub no_side : Member-F Condition (Option (List ℕ)) (Unit {0}) Side → Unit {0}
-no_side m = tt
-
--- the question marks stand for the parameters
-abbrev pub one_level : List Value → Expr-F Condition (Option (List ℕ)) (Unit {0}) Side → Condition
-one_level params (Expr-F.Value v) = alone (constant v)
-one_level params (Expr-F.Parameter n) = alone (given (slice_get params n))
-one_level params (Expr-F.Path side) = alone side
-one_level params (Expr-F.Binary o left right) = operated o left right
-one_level params _ = alone other
-
-abbrev pub condition_of : List Value → Expr → Condition
-condition_of params =
-    fold-Expr Condition (Option (List ℕ)) (Unit {0}) Side (one_level params) step_name no_side path_side
-
-abbrev pub equations_in : List Value → Option Expr → List Equation
-equations_in params None = []
-equations_in params (Some e) = (condition_of params e).equations
-
--- of the ON conditions from the left, and then of the WHERE
-abbrev pub equations_of : List Value → FromClause → List Equation
-equations_of params from =
-    flat_map (λ (s : Source). equations_in params s.on) from.sources ++ equations_in params from.filter
-
--- ---- what an equation asks for
-
--- what a path of names means: the id of the document of a source, or what stands at these names in the source's rows
-pub data Meant : Type 0 where
-  id_of : (place : ℕ) → Meant
-  at_names : (place : ℕ) (fields : List (List ℕ)) → Meant
-  unknown : Meant
-
--- it begins at the only source where its first name means none
-abbrev pub meant_as : List Source → List ℕ → List (List ℕ) → Option Resolved → Meant
-meant_as sources first fields (Some (resolved.Variable place)) = at_names place fields
-meant_as sources first [] (Some (resolved.Id place)) = id_of place
-meant_as sources first (field ∷ fields) (Some (resolved.Id place)) = unknown
-meant_as sources first fields None = if is_single sources then at_names 0 (first ∷ fields) else unknown
-
-abbrev pub meant : List Source → List ℕ → List (List ℕ) → Meant
-meant sources first fields = meant_as sources first fields (resolve first (map called sources))
-
--- a value that a row must have
-pub record Asked : Type 0 where
-  pub of : Meant
-  pub value : Value
-
--- a path equated with a constant, in either order
-abbrev pub asked_at : List Source → Side → Side → Option Asked
-asked_at sources (names first fields) (constant v) = Some (record { of = meant sources first fields; value = v })
-asked_at sources (constant v) (names first fields) = Some (record { of = meant sources first fields; value = v })
-asked_at sources _ _ = None
-
-abbrev pub all_asked : List Source → List Equation → List Asked
-all_asked sources equations = filter_map (λ (e : Equation). asked_at sources e.left e.right) equations
-
--- ---- what of a table is read
 
 -- the tables and the fields with an index, the transaction's own changes counted
 pub record Schemas : Type 0 where
   pub tables : List Table
   pub indexes : List Indexed
 
--- the committed view and history show each revision's metadata
-abbrev pub shows_metadata : SourceKind → Bool
-shows_metadata (source.Table name) = is_committed name
-shows_metadata (source.History table _ _) = true
-shows_metadata (source.Path path) = false
+-- ---- what a path means of a source
 
 abbrev pub is_metadata_id : List (List ℕ) → Bool
 is_metadata_id (a ∷ b ∷ []) = bytes_eq a (codes "metadata") && bytes_eq b (codes "id")
@@ -176,67 +67,186 @@ abbrev pub field_at : ℕ → SourceKind → Meant → Option (List ℕ)
 field_at n kind (at_names place fields) = if place == n then field_reached kind fields else None
 field_at n kind _ = None
 
+-- ---- what is read of a source
+
+-- the items that are read of a source, and its rows that meet one of them
+pub record Read : Type 0 where
+  pub kind : SourceKind
+  pub items : List Item
+  pub rows : List Row
+
+-- the values of a field of its documents
+abbrev pub values_in : Read → List ℕ → List Value
+values_in u field = filter_map (λ (row : Row). field_of field (content_shown u.kind row.value)) u.rows
+
+abbrev pub values_reached : List (List ℕ) → Read → Option (List Value)
+values_reached fields u = option_map (values_in u) (field_reached u.kind fields)
+
+-- the values that a path means over the rows of an earlier source, where it is a field of a user or committed view
+abbrev pub values_meant : List Read → Meant → Option (List Value)
+values_meant earlier (at_names place fields) = option_and_then (values_reached fields) (slice_get earlier place)
+values_meant earlier _ = None
+
+-- ---- items, each once
+
+abbrev pub with_one : {A : Type 0} → (A → A → Bool) → List A → A → List A
+with_one same all x = if list_any (same x) all then all else all ++ x ∷ []
+
+abbrev pub each_once_behind : {A : Type 0} → (A → A → Bool) → List A → List A → List A
+each_once_behind same all [] = all
+each_once_behind same all (x ∷ xs) = each_once_behind same (with_one same all x) xs
+
+abbrev pub each_once : {A : Type 0} → (A → A → Bool) → List A → List A
+each_once same xs = each_once_behind same [] xs
+
 -- a text that reads as an id
 abbrev pub document_in : Value → Option DocId
 document_in v = option_map (λ raw. record { raw = raw }) (option_and_then id_in (text_of v))
 
-abbrev pub asked_document : ℕ → SourceKind → Asked → Option DocId
-asked_document n kind a = if is_id n kind a.of then document_in a.value else None
+abbrev pub same_document : DocId → DocId → Bool
+same_document a b = a.raw == b.raw
 
-abbrev pub with_index : Schemas → TableId → List ℕ → Option Key → Option Item
-with_index now table field None = None
-with_index now table field (Some key) =
-    if has_index now.indexes table field then Some (item.IndexValue table field key) else None
+abbrev pub documents_of : TableId → List Value → List Item
+documents_of table values = map (item.Doc table) (each_once same_document (filter_map document_in values))
 
-abbrev pub key_of_field : Schemas → TableId → Value → Option (List ℕ) → Option Item
-key_of_field now table v None = None
-key_of_field now table v (Some field) = with_index now table field (key_of v)
+abbrev pub keys_of : TableId → List ℕ → List Value → List Item
+keys_of table field values = map (item.IndexValue table field) (each_once is_same_key (filter_map key_of values))
 
-abbrev pub asked_key : Schemas → TableId → ℕ → SourceKind → Asked → Option Item
-asked_key now table n kind a = key_of_field now table a.value (field_at n kind a.of)
+-- ---- the rules, each of what is asked of a source's id or of a field with an index
+
+abbrev pub are_few : {A : Type 0} → List A → Bool
+are_few xs = nat_le (length xs) 100
+
+abbrev pub if_few : List Item → Option (List Item)
+if_few items = if are_few items then Some items else None
+
+-- containers may be equal, and have no key
+abbrev pub are_plain : List Value → Bool
+are_plain values = not (list_any is_container values)
+
+abbrev pub document_equal : TableId → Wanted → Option (List Item)
+document_equal table (equal_to v) = option_map (λ id. item.Doc table id ∷ []) (document_in v)
+document_equal table _ = None
+
+abbrev pub document_one_of : TableId → Wanted → Option (List Item)
+document_one_of table (one_of values) = if are_few values then Some (documents_of table values) else None
+document_one_of table _ = None
+
+abbrev pub document_same : TableId → List Read → Wanted → Option (List Item)
+document_same table earlier (same_as m) =
+    option_and_then (λ values. if_few (documents_of table values)) (values_meant earlier m)
+document_same table earlier _ = None
+
+abbrev pub key_equal : TableId → List ℕ → Wanted → Option (List Item)
+key_equal table field (equal_to v) = option_map (λ k. item.IndexValue table field k ∷ []) (key_of v)
+key_equal table field _ = None
+
+abbrev pub key_one_of : TableId → List ℕ → Wanted → Option (List Item)
+key_one_of table field (one_of values) =
+    if are_few values && are_plain values then Some (keys_of table field values) else None
+key_one_of table field _ = None
+
+abbrev pub plain_keys : TableId → List ℕ → List Value → Option (List Item)
+plain_keys table field values = if are_plain values then if_few (keys_of table field values) else None
+
+abbrev pub key_same : TableId → List ℕ → List Read → Wanted → Option (List Item)
+key_same table field earlier (same_as m) = option_and_then (plain_keys table field) (values_meant earlier m)
+key_same table field earlier _ = None
+
+-- a source by its place, with its table and what is read of the sources before it
+pub record Spot : Type 0 where
+  pub place : ℕ
+  pub kind : SourceKind
+  pub table : TableId
+  pub earlier : List Read
+
+-- asked of the source's id
+abbrev pub by_id : (Wanted → Option (List Item)) → Spot → Asked → Option (List Item)
+by_id rule at a = if is_id at.place at.kind a.of then rule a.wanted else None
+
+abbrev pub if_indexed : (List ℕ → Wanted → Option (List Item)) → Schemas → TableId → Wanted → Option (List ℕ) →
+    Option (List Item)
+if_indexed rule now table wanted None = None
+if_indexed rule now table wanted (Some field) = if has_index now.indexes table field then rule field wanted else None
+
+-- asked of a field of the source that has an index
+abbrev pub by_key : (List ℕ → Wanted → Option (List Item)) → Schemas → Spot → Asked → Option (List Item)
+by_key rule now at a = if_indexed rule now at.table a.wanted (field_at at.place at.kind a.of)
 
 -- the first that there is
 abbrev pub first_of : {A : Type 0} → List A → Option A
 first_of [] = None
 first_of (a ∷ rest) = Some a
 
-abbrev pub or_table : TableId → Option Item → Item
-or_table table None = item.Table table
-or_table table (Some read) = read
+-- what the parts that count ask for, rule by rule
+abbrev pub choices : Schemas → Spot → List Asked → List (List Item)
+choices now at asked =
+    filter_map (by_id (document_equal at.table) at) asked
+    ++ filter_map (by_id (document_one_of at.table) at) asked
+    ++ filter_map (by_id (document_same at.table at.earlier) at) asked
+    ++ filter_map (by_key (key_equal at.table) now at) asked
+    ++ filter_map (by_key (key_one_of at.table) now at) asked
+    ++ filter_map (by_key (λ field. key_same at.table field at.earlier) now at) asked
 
-abbrev pub or_key : Schemas → TableId → ℕ → SourceKind → List Asked → Option DocId → Item
-or_key now table n kind asked (Some id) = item.Doc table id
-or_key now table n kind asked None = or_table table (first_of (filter_map (asked_key now table n kind) asked))
+-- the first of them, or else the whole table
+abbrev pub items_of : Schemas → Spot → List Asked → List Item
+items_of now at asked = option_map_or (λ items. items) (first_of (choices now at asked)) (item.Table at.table ∷ [])
 
--- the first document that is asked for; else the first key of an index; else the table
-abbrev pub read_of_table : Schemas → TableId → ℕ → SourceKind → List Asked → Item
-read_of_table now table n kind asked =
-    or_key now table n kind asked (first_of (filter_map (asked_document n kind) asked))
+-- ---- source by source
 
--- of a source that names an active table
-abbrev pub read_of_source : Schemas → ℕ → SourceKind → List Asked → Option (List ℕ) → List Item
-read_of_source now n kind asked None = []
-read_of_source now n kind asked (Some name) =
-    option_map_or (λ table. read_of_table now table n kind asked ∷ []) (active_table now.tables name) []
+-- the active table that a source names
+abbrev pub table_of : Schemas → SourceKind → Option TableId
+table_of now kind = option_and_then (active_table now.tables) (table_in kind)
 
-abbrev pub read_from : Schemas → List Asked → ℕ → List Source → List Item
-read_from now asked n [] = []
-read_from now asked n (s ∷ ss) = read_of_source now n s.from asked (table_in s.from) ++ read_from now asked (n + 1) ss
+-- of a source that names no active table nothing is kept away
+abbrev pub is_read : Option TableId → SourceKind → List Item → Row → Bool
+is_read None kind items row = true
+is_read (Some table) kind items row = shows_one kind table items row
 
--- the names of the tables in order, and then of each table what is read of it
-abbrev pub read_by_sources : Schemas → List Equation → List Source → List Item
-read_by_sources now equations sources =
-    filter_map (λ (s : Source). option_map item.TableName (table_in s.from)) sources
-    ++ read_from now (all_asked sources equations) 0 sources
+abbrev pub read_with : Viewed → List Value → SourceKind → Option TableId → List Item → Read
+read_with views params kind table items = record {
+  kind = kind;
+  items = items;
+  rows = filter (is_read table kind items) (rows_given views params kind);
+}
 
--- ---- the footprint of a statement, with these parameters
+abbrev pub items_at : Schemas → List Asked → List Read → SourceKind → Option TableId → List Item
+items_at now asked earlier kind None = []
+items_at now asked earlier kind (Some table) =
+    items_of now (record { place = length earlier; kind = kind; table = table; earlier = earlier }) asked
 
-abbrev pub footprint_of : Schemas → List Value → Statement → List Item
-footprint_of now params (statement.Create name) = item.TableName name ∷ item.TableList ∷ []
-footprint_of now params (statement.Index name field) = item.TableName name ∷ []
-footprint_of now params (statement.Drop name) = item.TableName name ∷ []
-footprint_of now params (statement.Insert name e) = item.TableName name ∷ []
-footprint_of now params (statement.Select select from) = read_by_sources now (equations_of params from) from.sources
-footprint_of now params (statement.Update from change) = read_by_sources now (equations_of params from) from.sources
-footprint_of now params (statement.From from change) = read_by_sources now (equations_of params from) from.sources
-footprint_of now params (statement.Delete from) = read_by_sources now (equations_of params from) from.sources
+abbrev pub read_of : Schemas → Viewed → List Value → List Asked → List Read → SourceKind → Read
+read_of now views params asked earlier kind =
+    read_with views params kind (table_of now kind) (items_at now asked earlier kind (table_of now kind))
+
+-- source by source, behind what is read of those before
+abbrev pub all_read : (List Read → SourceKind → Read) → List Read → List Source → List Read
+all_read read earlier [] = []
+all_read read earlier (s ∷ ss) = read earlier s.from ∷ all_read read (earlier ++ read earlier s.from ∷ []) ss
+
+abbrev pub sources_read : Schemas → Viewed → List Value → FromClause → List Read
+sources_read now views params from =
+    all_read (read_of now views params (all_asked from.sources (parts_of params from))) [] from.sources
+
+-- the names of the tables in order
+abbrev pub names_read : List Source → List Item
+names_read sources = filter_map (λ (s : Source). option_map item.TableName (table_in s.from)) sources
+
+-- and then what is read of each source
+abbrev pub items_read : List Source → List Read → List Item
+items_read sources reads = names_read sources ++ flat_map (λ (r : Read). r.items) reads
+
+abbrev pub read_by_sources : Schemas → Viewed → List Value → FromClause → List Item
+read_by_sources now views params from = items_read from.sources (sources_read now views params from)
+
+-- ---- the footprint of a statement, over the views of the tables and with these parameters
+
+abbrev pub footprint_of : Schemas → Viewed → List Value → Statement → List Item
+footprint_of now views params (statement.Create name) = item.TableName name ∷ item.TableList ∷ []
+footprint_of now views params (statement.Index name field) = item.TableName name ∷ []
+footprint_of now views params (statement.Drop name) = item.TableName name ∷ []
+footprint_of now views params (statement.Insert name e) = item.TableName name ∷ []
+footprint_of now views params (statement.Select select from) = read_by_sources now views params from
+footprint_of now views params (statement.Update from change) = read_by_sources now views params from
+footprint_of now views params (statement.From from change) = read_by_sources now views params from
+footprint_of now views params (statement.Delete from) = read_by_sources now views params from

@@ -3,6 +3,8 @@ pub mod Rooms
 pub mod State
 pub mod Views
 pub mod Statements
+pub mod Conditions
+pub mod Meets
 pub mod Footprints
 pub mod Journal
 pub mod Progress

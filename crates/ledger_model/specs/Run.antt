@@ -44,7 +44,8 @@ reading items (Err cause) = Err cause
 reading items (Ok e) = Ok (record e { footprint = items })
 
 abbrev pub effect_of : Begun → State → Progress → List Value → Statement → Result Effect Refusal
-effect_of b s p params st = reading (footprint_of (schemas_now s p) params st) (done_by_statement b s p params st)
+effect_of b s p params st =
+    reading (footprint_of (schemas_now s p) (views_of s p) params st) (done_by_statement b s p params st)
 
 abbrev pub if_read : (Statement → Result Effect Refusal) → Result Statement Refusal → Result Effect Refusal
 if_read f (Ok st) = f st

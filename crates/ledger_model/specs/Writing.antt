@@ -1,23 +1,19 @@
 -- What UPDATE, FROM with a change, and DELETE do to a transaction (Amazon QLDB's PartiQL; which refusals there are, and
 -- their order, is the ledger's own). The rows stand as they were before the statement; each document that they name is
 -- touched once.
-use Rattle.std.specs.Prelude.{ℕ, ◌+◌, ◌==◌, ◌||◌, Bool, true, false, List, [], ◌∷◌, map, codes, Option, Some, None, is_some, Result, Ok, if◌then◌else◌}
-use Rattle.std.specs.List.{find, list_any}
+use Rattle.std.specs.Prelude.{ℕ, ◌+◌, ◌==◌, ◌||◌, Bool, true, List, [], ◌∷◌, codes, Option, Some, None, is_some, Result, Ok, if◌then◌else◌}
+use Rattle.std.specs.List.{find}
 use Rattle.ion_values.specs.declared.value.Value.{Value}
 use Rattle.ql_types.specs.declared.DocId.{DocId}
-use Rattle.pql_model.specs.declared.expr.Path.{Path}
-use Rattle.pql_model.specs.declared.names.Resolved.{Resolved}
 use Rattle.pql_model.specs.declared.statement.Change.{Change}
-use Rattle.pql_model.specs.declared.statement.Change.TheVariants as change
 use Rattle.pql_model.specs.declared.statement.FromClause.{FromClause}
-use Rattle.pql_model.specs.declared.statement.Setting.{Setting}
 use Rattle.pql_model.specs.declared.statement.Source.{Source}
 use Rattle.pql_model.specs.declared.statement.SourceKind.{SourceKind}
 use Rattle.pql_model.specs.declared.statement.SourceKind.TheVariants as source
 use Rattle.pql_model.specs.declared.tables.Row.{Row}
 use Rattle.pql_model.specs.Effects.{changed_documents, deleted_documents}
 use Rattle.pql_model.specs.From.{Combined, rows_of}
-use Rattle.pql_model.specs.Names.{called, resolve, root_by}
+pub use Rattle.pql_model.specs.Roots.{is_at, is_root, place_by, root_place, targets}
 use Rattle.ledger_model.specs.declared.block.Content.{Content}
 use Rattle.ledger_model.specs.declared.block.Content.TheVariants.{Deleted, Kept}
 use Rattle.ledger_model.specs.declared.block.Draft.{Draft}
@@ -31,26 +27,6 @@ use Rattle.ledger_model.specs.Progress.{Effect, Progress, and_then, changed_by, 
 use Rattle.ledger_model.specs.Selecting.{first_absent, views_of}
 
 -- ---- which tables are written
-
--- the source at which the path of a change begins, by its place
-abbrev pub place_by : List Source → Option Resolved → Option ℕ
-place_by sources meant = root_by (map called sources) meant
-
-abbrev pub root_place : List Source → Path → Option ℕ
-root_place sources p = place_by sources (resolve p.first (map called sources))
-
-abbrev pub targets : Change → List Path
-targets (change.Set settings) = map (λ (s : Setting). s.target) settings
-targets (change.Insert target value at) = target ∷ []
-targets (change.Remove target) = target ∷ []
-
-abbrev pub is_at : ℕ → Option ℕ → Bool
-is_at n None = false
-is_at n (Some place) = place == n
-
--- whether a path of the change begins at the source of this place
-abbrev pub is_root : List Source → Change → ℕ → Bool
-is_root sources c n = list_any (λ p. is_at n (root_place sources p)) (targets c)
 
 -- why a table isn't written: its name, as it stands in the text, is the ledger's own
 abbrev pub own_table : SourceKind → Option Refusal

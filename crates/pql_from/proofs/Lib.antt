@@ -1,1 +1,3 @@
 pub mod Filtered
+pub mod Joined
+pub mod Keyed

@@ -5,6 +5,9 @@ mod bounds;
 mod clause;
 mod combinations;
 mod conditions;
+mod joins;
 mod views;
 
-pub use clause::bindings;
+pub use clause::{Given, bindings, bindings_over};
+pub use joins::{Join, Side};
+pub use views::source_rows;

@@ -10,7 +10,7 @@ ghost use Rattle.pql_model.specs.Tables as spec;
 use containers::{OutOfMemory, Sequence, Text};
 use ion_values::{Body, Kind, Value};
 use pql_expr::eval;
-use pql_model::{Evaluated, Expr, Probe, Rows, Tables, View};
+use pql_model::{Evaluated, Expr, Probe, Rows, SourceKind, Tables, View};
 use std::alloc::Global;
 
 const COMMITTED: &str = "_ql_committed_";
@@ -22,7 +22,7 @@ fn is_committed(name: &str) -> bool
 }
 
 /// The name without the prefix of committed views.
-pub fn table_named(alloc: Global, name: &Text) -> Result<Text, OutOfMemory>
+fn table_named(alloc: Global, name: &Text) -> Result<Text, OutOfMemory>
     ensures { IfOk result (λ table. table ≡ spec.table_named name.now) }
 {
     match name.as_str().strip_prefix(COMMITTED) {
@@ -32,7 +32,7 @@ pub fn table_named(alloc: Global, name: &Text) -> Result<Text, OutOfMemory>
 }
 
 /// The view that the name asks for.
-pub fn view_named(name: &Text) -> View
+fn view_named(name: &Text) -> View
     ensures { result ≡ spec.view_named name.now }
 {
     if is_committed(name.as_str()) {
@@ -52,7 +52,7 @@ fn null(alloc: Global) -> Value
 }
 
 /// The bound of a history: NULL for MISSING, and None where none is written.
-pub fn bound_of(
+fn bound_of(
     alloc: Global,
     bound: &Option<Expr>,
     params: &[Value],
@@ -68,48 +68,83 @@ pub fn bound_of(
     }
 }
 
-fn view_rows<T: Tables>(
-    alloc: Global,
-    tables: &T,
-    table: &Text,
-    view: &View,
-) -> Result<Rows, OutOfMemory>
-    ensures { IfOk result (λ rows. rows ≡ T.view_rows tables.now table.now view.now) }
-{
-    tables.rows(alloc, table, view, &Probe::All)
+/// A table's view, as a source names it.
+#[derive(Drop)]
+struct Viewed {
+    table: Text,
+    view: View,
 }
 
-/// The rows that the name asks for: those of the table, or, behind the prefix, of its committed view.
-pub fn table_rows<T: Tables>(alloc: Global, tables: &T, name: &Text) -> Result<Rows, OutOfMemory>
-    ensures { IfOk result (λ rows. rows ≡ T.view_rows tables.now (spec.table_named name.now)
-        (spec.view_named name.now)) }
+/// The view that the name asks for: that of the table, or, behind the prefix, its committed view.
+fn table_view(alloc: Global, name: &Text) -> Result<Viewed, OutOfMemory>
+    ensures table { IfOk result (λ v. v.table ≡ spec.table_named name.now) }
+    ensures view { IfOk result (λ v. v.view ≡ spec.view_named name.now) }
 {
-    let table = table_named(alloc, name)?;
-    view_rows(alloc, tables, &table, &view_named(name))
+    Ok(Viewed {
+        table: table_named(alloc, name)?,
+        view: view_named(name),
+    })
 }
 
 /// The bounds of a history, as they are written.
 #[derive(Clone, Copy)]
-pub struct Bounds<'a> {
-    pub start: &'a Option<Expr>,
-    pub end: &'a Option<Expr>,
+struct Bounds<'a> {
+    start: &'a Option<Expr>,
+    end: &'a Option<Expr>,
 }
 
-/// The rows of the table's history between the two moments.
-pub fn history_rows<T: Tables>(
+/// The history of the table between the two moments.
+fn history_view(
     alloc: Global,
-    tables: &T,
     table: &Text,
     bounds: Bounds<'_>,
     params: &[Value],
-) -> Result<Rows, OutOfMemory>
-    ensures { IfOk result (λ rows. rows ≡ T.view_rows tables.now table.now
-        (view.History (from.bound_of params.now bounds.entry.start.now)
-        (from.bound_of params.now bounds.entry.end.now))) }
+) -> Result<Viewed, OutOfMemory>
+    ensures table { IfOk result (λ v. v.table ≡ table.now) }
+    ensures view { IfOk result (λ v. v.view ≡ view.History (from.bound_of params.now bounds.entry.start.now)
+        (from.bound_of params.now bounds.entry.end.now)) }
 {
-    let view = View::History {
-        start: bound_of(alloc, bounds.start, params)?,
-        end: bound_of(alloc, bounds.end, params)?,
-    };
-    view_rows(alloc, tables, table, &view)
+    Ok(Viewed {
+        table: table.copy(alloc)?,
+        view: View::History {
+            start: bound_of(alloc, bounds.start, params)?,
+            end: bound_of(alloc, bounds.end, params)?,
+        },
+    })
+}
+
+fn rows_in<T: Tables>(
+    alloc: Global,
+    tables: &T,
+    viewed: &Viewed,
+    probe: &Probe,
+) -> Result<Rows, OutOfMemory>
+    ensures { IfOk result (λ rows.
+        rows ≡ spec.meeting probe.now (T.view_rows tables.now viewed.now.table viewed.now.view)) }
+{
+    tables.rows(alloc, &viewed.table, &viewed.view, probe)
+}
+
+/// The rows of a source's table or history that meet the probe. A path has none.
+pub fn source_rows<T: Tables>(
+    alloc: Global,
+    tables: &T,
+    kind: &SourceKind,
+    params: &[Value],
+    probe: &Probe,
+) -> Result<Rows, OutOfMemory>
+    ensures { IfOk result (λ rows.
+        rows ≡ spec.meeting probe.now (from.rows_given (T.view_rows tables.now) params.now kind.now)) }
+{
+    match kind {
+        SourceKind::Table { name } => {
+            let viewed = table_view(alloc, name)?;
+            rows_in(alloc, tables, &viewed, probe)
+        }
+        SourceKind::History { table, start, end } => {
+            let viewed = history_view(alloc, table, Bounds { start, end }, params)?;
+            rows_in(alloc, tables, &viewed, probe)
+        }
+        SourceKind::Path(_) => Ok(Sequence::new(alloc)),
+    }
 }

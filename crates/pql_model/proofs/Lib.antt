@@ -19,3 +19,9 @@ pub mod ParsedDepths
 mod ShallowRows
 mod ChangeRows
 mod EffectRows
+pub mod Equality
+pub mod Combinations
+mod MarksKept
+mod ExpressionMarks
+mod Targets
+pub mod ParsedTargets

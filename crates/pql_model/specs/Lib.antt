@@ -22,3 +22,4 @@ pub mod Answers
 pub mod Shallow
 pub mod Changes
 pub mod Effects
+pub mod Roots

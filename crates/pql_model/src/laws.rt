@@ -1,4 +1,5 @@
 ghost use Rattle.pql_model.specs.MeaningDepth.{DepthIsBounded};
+ghost use Rattle.pql_model.specs.Roots.{TablesAreChanged};
 ghost use Rattle.pql_model.specs.Shallow.{AnswersAreShallow, ParsedIsShallow};
 
 /// The value of an expression is at most as much deeper than the deepest of its row, its parameters
@@ -18,4 +19,9 @@ pub fn answers_are_shallow()
 /// nest at most 64 deep.
 pub fn parsed_is_shallow()
     ensures { ParsedIsShallow }
+{}
+
+/// A statement that is read changes no documents but those of tables.
+pub fn tables_are_changed()
+    ensures { TablesAreChanged }
 {}

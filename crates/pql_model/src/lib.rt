@@ -19,7 +19,7 @@ pub use counts::parameters;
 pub use expr::{Expr, Exprs, Member, Members, Operator, Path, PathStep, PathSteps};
 pub use fields::{field_of, has_key, key_in};
 pub use ids::id_text;
-pub use laws::{answers_are_shallow, depth_is_bounded, parsed_is_shallow};
+pub use laws::{answers_are_shallow, depth_is_bounded, parsed_is_shallow, tables_are_changed};
 pub use mark::{Mark, Marks, Place, Role};
 pub use names::{Resolved, last_name, resolve, root_at};
 pub use scope::{Bindings, Bound, Evaluated, Scope};
@@ -28,7 +28,7 @@ pub use statement::{
     Change, FromClause, Select, SelectItem, SelectItems, Setting, Settings, Source, SourceKind,
     Sources, Statement,
 };
-pub use tables::{Answer, DocIds, Probe, Row, Rows, Tables, View};
+pub use tables::{Answer, DocIds, Keys, Probe, Row, Rows, Tables, View};
 pub use token::{Lexed, Located, Symbol, Token, Tokens};
 
 /// Why a text is no statement.

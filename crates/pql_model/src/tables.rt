@@ -21,12 +21,18 @@ pub enum View {
     },
 }
 
-/// Which rows of a view are asked for: all, those of one document, or those whose field of that name has that key.
+/// Keys in order.
+pub type Keys = Sequence<Key>;
+
+/// Which rows of a view are asked for: all, those of one document or of several, or those whose field of that name has
+/// that key or one of several.
 #[derive(Drop)]
 pub enum Probe {
     All,
     Id(DocId),
     Key { field: Text, key: Key },
+    Ids { ids: DocIds },
+    Keys { field: Text, keys: Keys },
 }
 
 /// A row of a view, and whose document it is.

@@ -74,7 +74,17 @@ SELECT * FROM t WHERE a = 5 > INSERT INTO t ?|{a:5} > since 4 block 4 all
 CREATE TABLE t;CREATE INDEX ON t (a);INSERT INTO t ?|{a:5};SELECT * FROM t > \
 SELECT * FROM t WHERE a = 5 > UPDATE t SET a = 6 WHERE a = 5 > since 4 block 4 a 5
 CREATE TABLE t;CREATE INDEX ON t (a);INSERT INTO t ?|{a:5};SELECT * FROM t > \
-SELECT * FROM t WHERE a = 6 > UPDATE t SET a = 6 WHERE a = 5 > since 4 block 4 a 6";
+SELECT * FROM t WHERE a = 6 > UPDATE t SET a = 6 WHERE a = 5 > since 4 block 4 a 6
+CREATE TABLE t;CREATE INDEX ON t (a);SELECT * FROM t;SELECT * FROM t > \
+SELECT * FROM t WHERE a IN [5, 6] > INSERT INTO t ?|{a:7} > sealed 5
+CREATE TABLE t;CREATE INDEX ON t (a);SELECT * FROM t;SELECT * FROM t > \
+SELECT * FROM t WHERE a IN [5, 6] > INSERT INTO t ?|{a:6} > since 4 block 4 a 6
+CREATE TABLE t;CREATE INDEX ON t (a);CREATE TABLE u;INSERT INTO u ?|{g:5} > \
+SELECT * FROM u AS u, t AS x WHERE x.a = u.g > INSERT INTO t ?|{a:7} > sealed 5
+CREATE TABLE t;CREATE INDEX ON t (a);CREATE TABLE u;INSERT INTO u ?|{g:5} > \
+SELECT * FROM u AS u, t AS x WHERE x.a = u.g > INSERT INTO t ?|{a:5} > since 4 block 4 a 5
+CREATE TABLE t;CREATE INDEX ON t (a);CREATE TABLE u;INSERT INTO u ?|{g:[5]} > \
+SELECT * FROM u AS u, t AS x WHERE x.a = u.g > INSERT INTO t ?|{a:7} > since 4 block 4 all";
 
 fn holds(alloc: Global, row: &str) -> Option<bool> {
     let (before, row) = row.split_once(" > ")?;

@@ -3,14 +3,13 @@ use crate::blocks::value_in;
 use crate::journals::Version;
 use crate::lookups::view_of;
 use crate::transactions::Work;
-use containers::Text;
+use containers::{Sequence, Text};
 use ion_order::key;
 use ion_values::Value;
 use pql_model::{Probe, Row, Tables, View};
 use ql_types::DocId;
 use std::alloc::Global;
 use txn_core::TableViews;
-use versions::copy_tables;
 
 /// A view, a table and a probe, and behind ` = ` the ids of the rows.
 ///
@@ -26,11 +25,17 @@ sees user t1 a:x = 3
 sees user t1 b:true = 3
 sees user t1 b:x = none
 sees user t1 c:1 = none
+sees user t1 2+4+3 = 3 4
+sees user t1 a:1+x = 3 4 16777217
+sees user t1 a:7+1 = 4 16777217
+sees user t1 b:1+x = none
 sees user t0 all = none
 sees user t0 3 = none
 sees user t2 all = none
 sees committed t1 all = 2 3 4 5
 sees committed t1 3 = 3
+sees committed t1 4+3 = 3 4
+sees committed t1 a:1+x = none
 sees committed t2 all = none"#;
 
 fn key_probe(alloc: Global, field: &str, value: &Value) -> Option<Probe> {
@@ -44,11 +49,35 @@ fn field_probe(alloc: Global, field: &str, value: &str) -> Option<Probe> {
     key_probe(alloc, field, &value)
 }
 
-/// A probe for all rows, for a document, or for a field and a value.
+/// A probe for the keys of values with `+` between them.
+fn keys_probe(alloc: Global, field: &str, values: &str) -> Option<Probe> {
+    let mut keys = Sequence::new(alloc);
+    for value in values.split('+') {
+        let value = value_in(alloc, value)?;
+        let key = key(alloc, &value).ok()??;
+        keys.push(key).ok()?;
+    }
+    let field = Text::from_text(alloc, field).ok()?;
+    Some(Probe::Keys { field, keys })
+}
+
+/// A probe for documents with `+` between them.
+fn ids_probe(alloc: Global, told: &str) -> Option<Probe> {
+    let mut ids = Sequence::new(alloc);
+    for id in told.split('+') {
+        let raw = id.parse::<u128>().ok()?;
+        ids.push(DocId { raw }).ok()?;
+    }
+    Some(Probe::Ids { ids })
+}
+
+/// A probe for all rows, for documents, or for a field and values.
 pub(crate) fn probe_of(alloc: Global, told: &str) -> Option<Probe> {
     match told.split_once(':') {
+        Some((field, values)) if values.contains('+') => keys_probe(alloc, field, values),
         Some((field, value)) => field_probe(alloc, field, value),
         None if told == "all" => Some(Probe::All),
+        None if told.contains('+') => ids_probe(alloc, told),
         None => Some(Probe::Id(DocId {
             raw: told.parse::<u128>().ok()?,
         })),
@@ -113,7 +142,6 @@ pub(crate) fn are_seen(
     ids: &str,
 ) -> Option<bool> {
     let version = version.get();
-    let tables = copy_tables(alloc, version.tables()).ok()?;
-    let views = TableViews::new(alloc, tables, version, work.drafts()).ok()?;
+    let views = TableViews::new(version.tables(), version, work.drafts());
     holds(alloc, &views, told, ids)
 }

@@ -1,10 +1,12 @@
 pub mod Effects
 pub mod InRange
 pub mod Inserted
-pub mod Needed
+pub mod Joined
 pub mod Narrowing
+pub mod ReadSources
 pub mod Running
 pub mod Overlaid
+pub mod Planned
 pub mod Selects
 pub mod Resolving
 pub mod Schemas

@@ -8,7 +8,9 @@ use Rattle.pql_model.specs.declared.statement.Source.{Source}
 use Rattle.pql_model.specs.declared.tables.View.{View}
 use Rattle.pql_model.specs.declared.tables.View.TheVariants as view
 use Rattle.pql_model.specs.Answers.{answered}
-use Rattle.pql_model.specs.From.{Combined, Viewed, rows_of}
+use Rattle.pql_model.specs.From.{Combined, Viewed, rows_of, rows_over}
+use Rattle.pql_from.specs.declared.clause.Given.{Given}
+use Rattle.pql_from.specs.Held.{rows_held}
 use Rattle.pql_model.specs.Tables.{is_committed, table_named}
 use Rattle.ledger_model.specs.declared.block.Draft.{Draft}
 use Rattle.ledger_model.specs.declared.outcome.Refusal.{Refusal}
@@ -19,9 +21,12 @@ use Rattle.ledger_model.specs.Run.{Progress, Effect, absent_table, first_absent,
 use Rattle.txn_core.specs.declared.stopped.ExecuteFault.{ExecuteFault}
 use Rattle.txn_core.specs.declared.stopped.ExecuteFault.TheVariants as stopped
 use Rattle.txn_core.specs.Inserts.{without}
+use Rattle.txn_core.specs.Opened.{Opened}
+use Rattle.txn_core.specs.Reading.{AreGiven}
 use Rattle.txn_core.specs.Selects.{absent_in, answer_in, first_absent_in}
 use Rattle.txn_core.specs.Stops.{StopsFor}
 use Rattle.txn_core.specs.TableViews.{rows_of_active, views_among}
+use Rattle.txn_core.specs.Writes.{rows_seen}
 
 -- the documents that a transaction sees, each with its latest revision
 abbrev pub documents_now : state.State → Progress → List Draft
@@ -35,7 +40,7 @@ rows-are s p view.User (Some table) = refl
 rows-are s p view.Committed (Some table) = refl
 rows-are s p (view.History start end) (Some table) = refl
 
-views-are : (s : state.State) (p : Progress) → views_of s p ≡ views_among (tables_now s p) s (documents_now s p)
+pub views-are : (s : state.State) (p : Progress) → views_of s p ≡ views_among (tables_now s p) s (documents_now s p)
 views-are s p = λ i name v. rows-are s p v (table_now s p name) i
 
 -- the rows of a FROM
@@ -56,6 +61,15 @@ absent-is s p (Some name) = refl
 pub first-absent-is : (s : state.State) (p : Progress) (sources : List Source) → first_absent_in (tables_now s p) sources ≡ first_absent s p sources
 first-absent-is s p [] = refl
 first-absent-is s p (x ∷ xs) = ap₂ or_else (absent-is s p (table_in x.from)) (first-absent-is s p xs)
+
+-- the rows that are seen where those of the sources are at hand
+pub seen_rows : (t : Opened) (params : List Value) (from : FromClause) (given : List Given) (rows : List Combined) (cause : Option Refusal)
+    → AreGiven t params from given → rows ≡ rows_over params from (rows_held given)
+    → cause ≡ first_absent_in (tables_now t.base t.done) from.sources → cause ≡ None
+    → rows_seen (tables_now t.base t.done) t.base (documents_now t.base t.done) params from ≡ Ok rows
+seen_rows t params from given rows cause are is cause_is none =
+    ap₂ (λ (why : Option Refusal) (seen : List Combined). without why (Ok seen)) (sym cause_is ∙ none)
+    (sym (is ∙ are.rows ∙ from-is t.base t.done params from))
 
 -- ---- the statement
 

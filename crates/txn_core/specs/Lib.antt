@@ -2,6 +2,8 @@ pub mod Effects
 pub mod Inserts
 pub mod Narrow
 pub mod Opened
+pub mod Reader
+pub mod Reading
 pub mod Runs
 pub mod Seen
 pub mod Selects

@@ -1,33 +1,30 @@
--- Which documents a FROM needs: those that may meet one of the items that it reads, where these name documents or keys.
-use Rattle.std.specs.Prelude.{◌≡◌, ◌^◌, ◌<◌, true, List, [], map, Option, Some, None}
+-- Which documents a probe needs: those that may meet it, where it names documents or keys of an index.
+use Rattle.std.specs.Prelude.{◌≡◌, ◌^◌, ◌<◌, ℕ, true, List, map, Option, Some, None}
 use Rattle.std.specs.List.{AllByRecursion, filter_map}
-use Rattle.ion_values.specs.declared.value.Value.{Value}
+use Rattle.ion_values.specs.declared.value.Key.{Key}
 use Rattle.ql_types.specs.declared.DocId.{DocId}
 use Rattle.ql_types.specs.declared.TableId.{TableId}
-use Rattle.pql_model.specs.declared.statement.FromClause.{FromClause}
+use Rattle.pql_model.specs.declared.tables.Probe.{Probe}
+use Rattle.pql_model.specs.declared.tables.Probe.TheVariants as probe
 use Rattle.pql_model.specs.declared.tables.Row.{Row}
+use Rattle.pql_model.specs.Tables.{meets}
 use Rattle.ledger_model.specs.declared.block.Draft.{Draft}
-use Rattle.ledger_model.specs.declared.outcome.Item.{Item}
-use Rattle.ledger_model.specs.State as state
 use Rattle.ledger_model.specs.State.{State, draft_of}
 use Rattle.ledger_model.specs.Views.{latest, row_of}
-use Rattle.laws_footprint.specs.Covered.{known_of, reads_of}
-use Rattle.laws_footprint.specs.Meets.{meets, meets_one}
-use Rattle.laws_footprint.specs.Restriction.{Covers}
 use Rattle.versions.specs.Lookups.{is_among, those_among}
-use Rattle.view_rows.specs.Named.{AreNamed, rows_among}
+use Rattle.view_rows.specs.Named.{AreNamed}
 
 -- the rows of a table where nothing pends
 abbrev pub rows_standing : State → TableId → List Row
 rows_standing base table = filter_map (row_of table) (latest (map draft_of base.revisions))
 
--- no other document meets the item
-abbrev pub MeetAlone : State → Item → List DocId → Type 0
-MeetAlone base i ids = (table : TableId) → AreNamed ids (meets table i) (rows_standing base table)
+-- no other document of the table meets the probe where nothing pends
+abbrev pub MeetAlone : State → TableId → Probe → List DocId → Type 0
+MeetAlone base table asked ids = AreNamed ids (meets asked) (rows_standing base table)
 
--- no other document meets one of the items
-abbrev pub AreEnough : State → List Item → List DocId → Type 0
-AreEnough base items ids = (table : TableId) → AreNamed ids (meets_one table items) (rows_standing base table)
+-- none has one of the keys
+abbrev pub HaveKeys : State → TableId → List ℕ → List Key → List DocId → Type 0
+HaveKeys base table field keys ids = MeetAlone base table (probe.Keys field keys) ids
 
 -- the documents that pend are among these
 abbrev pub AllAmong : List DocId → List Draft → Type 0
@@ -43,23 +40,14 @@ abbrev pub documents_read : Option (List DocId) → List Draft → List Draft
 documents_read None documents = documents
 documents_read (Some ids) documents = those_among ids documents
 
-abbrev pub rows_read : Option (List DocId) → List Row → List Row
-rows_read None rows = rows
-rows_read (Some ids) rows = rows_among ids rows
-
 abbrev pub PendAmong : Option (List DocId) → List Draft → Type 0
 PendAmong None log = Unit {0}
 PendAmong (Some ids) log = AllAmong ids log
 
-abbrev pub EnoughRead : State → List Item → Option (List DocId) → Type 0
-EnoughRead base items None = Unit {0}
-EnoughRead base items (Some ids) = AreEnough base items ids
+abbrev pub EnoughRead : State → TableId → Probe → Option (List DocId) → Type 0
+EnoughRead base table asked None = Unit {0}
+EnoughRead base table asked (Some ids) = MeetAlone base table asked ids
 
--- what is left out doesn't pend and meets none of the items
-abbrev pub IsNarrow : State → List Draft → List Item → Option (List DocId) → Type 0
-IsNarrow base log items read = PendAmong read log × EnoughRead base items read
-
--- what meets none of the items stands in no row that the conditions keep
-abbrev pub AreRead : List state.Table → List Item → List Value → FromClause → Type 0
-AreRead tables items params from =
-    Covers params from (known_of from.sources) (reads_of (record { tables = tables; indexes = [] }) items from.sources)
+-- what is left out doesn't pend and doesn't meet the probe
+abbrev pub IsNarrow : State → List Draft → TableId → Probe → Option (List DocId) → Type 0
+IsNarrow base log table asked read = PendAmong read log × EnoughRead base table asked read

@@ -4,11 +4,13 @@ ghost use Rattle.ledger_model.specs.Run.{tables_now};
 ghost use Rattle.ledger_model.specs.State.{draft_of};
 ghost use Rattle.ledger_model.specs.Views.{latest};
 ghost use Rattle.ledger_model.specs.Writing.{changed, stored_changes};
+ghost use Rattle.txn_core.specs.Reading.{AreGiven};
 ghost use Rattle.txn_core.specs.Stops.{Comes, Does};
 ghost use Rattle.txn_core.specs.Writes.{Changes, Stands, rows_seen};
 
 use crate::effect::Effect;
 use crate::limits::not_kept;
+use crate::reading::Over;
 use crate::roots::{first_own, written_by};
 use crate::sources::first_absent;
 use crate::stopped::ExecuteFault;
@@ -17,7 +19,7 @@ use crate::transaction::Txn;
 use ion_values::Value;
 use ledger_model::{Content, Row};
 use pql_change::changed_documents;
-use pql_model::{Bindings, Change, FromClause, Rows};
+use pql_model::{Bindings, Change, Rows};
 use std::alloc::Global;
 
 impl Txn {
@@ -27,18 +29,19 @@ impl Txn {
     pub(crate) fn change(
         &self,
         alloc: Global,
-        from: &FromClause,
+        over: Over<'_>,
         change: &Change,
         params: &[Value],
     ) -> Result<Effect, ExecuteFault>
-        ensures { Does result (changed self.now.base self.now.done params.now from.now change.now) }
+        requires { AreGiven self.now params.now over.from.now over.given.items }
+        ensures { Does result (changed self.now.base self.now.done params.now over.entry.from.now change.now) }
     {
-        let sources = from.sources.as_slice();
+        let sources = over.from.sources.as_slice();
         let written = written_by(alloc, sources, change)?;
         if let Some(cause) = first_own(alloc, sources, &written)? {
             return Err(ExecuteFault::Refused(cause));
         }
-        let rows = self.rows_now(alloc, from, params)?;
+        let rows = self.rows_now(alloc, over, params)?;
         let documents = changed_documents(alloc, change, &rows, params)?;
         self.keep_all(alloc, documents)
     }
@@ -47,17 +50,19 @@ impl Txn {
     pub(crate) fn rows_now(
         &self,
         alloc: Global,
-        from: &FromClause,
+        over: Over<'_>,
         params: &[Value],
     ) -> Result<Bindings, ExecuteFault>
+        requires { AreGiven self.now params.now over.from.now over.given.items }
         ensures { Comes result (rows_seen (tables_now self.now.base self.now.done) self.now.base
-            (latest (map draft_of self.now.base.revisions ++ self.now.done.log)) params.now from.now) }
+            (latest (map draft_of self.now.base.revisions ++ self.now.done.log)) params.now over.entry.from.now) }
     {
         let tables = self.tables_now(alloc)?;
-        if let Some(cause) = first_absent(alloc, tables.as_slice(), from.sources.as_slice())? {
+        let sources = over.from.sources.as_slice();
+        if let Some(cause) = first_absent(alloc, tables.as_slice(), sources)? {
             return Err(ExecuteFault::Refused(cause));
         }
-        let rows = self.rows_over(alloc, tables, from, params)?;
+        let rows = over.bindings(alloc, params)?;
         Ok(rows)
     }
 

@@ -1,9 +1,11 @@
 //! DELETE.
 ghost use Rattle.ledger_model.specs.Writing.{deleted, stored_deletes};
+ghost use Rattle.txn_core.specs.Reading.{AreGiven};
 ghost use Rattle.txn_core.specs.Stops.{Does};
 ghost use Rattle.txn_core.specs.Writes.{Deletes, Stands};
 
 use crate::effect::Effect;
+use crate::reading::Over;
 use crate::roots::{Written, first_own};
 use crate::stopped::ExecuteFault;
 use crate::touching::Touching;
@@ -11,7 +13,7 @@ use crate::transaction::Txn;
 use ion_values::Value;
 use ledger_model::{Content, Refusal};
 use pql_change::deleted_documents;
-use pql_model::{DocIds, FromClause};
+use pql_model::DocIds;
 use ql_types::DocId;
 use std::alloc::Global;
 
@@ -22,16 +24,17 @@ impl Txn {
     pub(crate) fn delete(
         &self,
         alloc: Global,
-        from: &FromClause,
+        over: Over<'_>,
         params: &[Value],
     ) -> Result<Effect, ExecuteFault>
-        ensures { Does result (deleted self.now.base self.now.done params.now from.now) }
+        requires { AreGiven self.now params.now over.from.now over.given.items }
+        ensures { Does result (deleted self.now.base self.now.done params.now over.entry.from.now) }
     {
-        let sources = from.sources.as_slice();
+        let sources = over.from.sources.as_slice();
         if let Some(cause) = first_own(alloc, sources, &Written::All)? {
             return Err(ExecuteFault::Refused(cause));
         }
-        let rows = self.rows_now(alloc, from, params)?;
+        let rows = self.rows_now(alloc, over, params)?;
         let documents = deleted_documents(alloc, &rows)?;
         self.end_all(alloc, documents)
     }

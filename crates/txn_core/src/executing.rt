@@ -3,15 +3,18 @@ ghost use Rattle.ledger_model.specs.Run as run;
 ghost use Rattle.ledger_model.specs.Run.{done_by_statement};
 ghost use Rattle.txn_core.specs.Effects.{asked_effect, done_as};
 ghost use Rattle.txn_core.specs.Opened.{Executed, Performed, Told, asked};
+ghost use Rattle.txn_core.specs.Reading.{IfFrom, from_of};
 ghost use Rattle.txn_core.specs.Stops.{Does};
 
 use crate::effect::Effect;
 use crate::limits::first_deep;
+use crate::reading::{Over, Reading};
 use crate::statements::{miscounted, read_statement};
 use crate::stopped::ExecuteFault;
 use crate::transaction::Txn;
 use ion_values::{Value, Values, copy_values};
 use ledger_model::{Answer, Refusal};
+use pql_from::Given;
 use pql_model::Statement;
 use std::alloc::Global;
 
@@ -118,21 +121,24 @@ impl Txn {
     ) -> Result<Effect, ExecuteFault>
         ensures { Does result (run.effect_of self.now.begun self.now.base self.now.done params.now statement.now) }
     {
-        let mut effect = match self.done_by(alloc, statement, params) {
+        let Reading { items, given } = self.read_by(alloc, statement, params)?;
+        let mut effect = match self.done_by(alloc, statement, params, given) {
             Ok(effect) => effect,
             Err(stopped) => return Err(stopped),
         };
-        effect.footprint = self.read_by(alloc, statement, params)?;
+        effect.footprint = items;
         Ok(effect)
     }
 
-    /// The same but for what it reads.
-    fn done_by(
+    /// What it does over these rows of its sources.
+    fn done_by<'a>(
         &self,
         alloc: Global,
-        statement: &Statement,
-        params: &[Value],
+        statement: &'a Statement,
+        params: &'a [Value],
+        given: Vec<Given<'a>>,
     ) -> Result<Effect, ExecuteFault>
+        requires { IfFrom self.now params.now (from_of statement.now) given.items }
         ensures { Does result (done_by_statement self.now.begun self.now.base self.now.done params.now statement.now) }
     {
         match statement {
@@ -140,10 +146,16 @@ impl Txn {
             Statement::Index { table, field } => self.create_index(alloc, table, field),
             Statement::Drop { table } => self.drop_table(alloc, table),
             Statement::Insert { table, value } => self.insert(alloc, table, value, params),
-            Statement::Select { select, from } => self.select(alloc, select, from, params),
-            Statement::Update { from, change } => self.change(alloc, from, change, params),
-            Statement::From { from, change } => self.change(alloc, from, change, params),
-            Statement::Delete { from } => self.delete(alloc, from, params),
+            Statement::Select { select, from } => {
+                self.select(alloc, select, Over { from, given }, params)
+            }
+            Statement::Update { from, change } => {
+                self.change(alloc, Over { from, given }, change, params)
+            }
+            Statement::From { from, change } => {
+                self.change(alloc, Over { from, given }, change, params)
+            }
+            Statement::Delete { from } => self.delete(alloc, Over { from, given }, params),
         }
     }
 }

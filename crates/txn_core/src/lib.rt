@@ -2,6 +2,7 @@
 #![tactic(auto)]
 
 mod answers;
+mod candidates;
 mod changing;
 mod creating;
 mod deleting;

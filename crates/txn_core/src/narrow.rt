@@ -1,74 +1,76 @@
-//! The documents that a FROM needs.
+//! The documents that a probe needs of a table.
 ghost use Rattle.std.specs.Prelude.{◌≡◌, ◌<◌, ◌^◌, [], ◌∷◌, ◌++◌, map, IfOk, OnOk};
 ghost use Rattle.std.specs.Option.{IfSome};
-ghost use Rattle.txn_core.specs.Narrow.{AreEnough, DraftsFit, IsNarrow, MeetAlone};
+ghost use Rattle.txn_core.specs.Narrow.{DraftsFit, HaveKeys, IsNarrow, MeetAlone};
 
-use containers::Sequence;
-use ion_values::OutOfMemory;
-use ledger_model::{Draft, Item};
-use pql_model::DocIds;
-use ql_types::DocId;
+use containers::{Sequence, Text};
+use ion_values::{Key, OutOfMemory};
+use ledger_model::Draft;
+use pql_model::{DocIds, Probe};
+use ql_types::{DocId, TableId};
 use std::alloc::Global;
+use std::slice;
 use versions::Versions;
+use view_rows::with_keys;
 
-/// The documents that may meet the item, or None if all may.
+/// The documents of the table that may meet the probe where nothing pends, or None if all may.
 ///
-/// All may if it asks for a whole table or for a key of a field without an index.
-fn meeting(alloc: Global, base: &Versions, item: &Item) -> Result<Option<DocIds>, OutOfMemory>
-    ensures { IfOk result (λ found. IfSome found (MeetAlone base.now item.now)) }
-{
-    match item {
-        Item::TableName { .. } => Ok(Some(Sequence::new(alloc))),
-        Item::TableList => Ok(Some(Sequence::new(alloc))),
-        Item::Table { .. } => Ok(None),
-        Item::Doc { id, .. } => {
-            let ids = alone(alloc, *id)?;
-            Ok(Some(ids))
-        }
-        Item::IndexValue { table, field, key } => {
-            if !base.has_index(*table, field) {
-                return Ok(None);
-            }
-            let ids = base.with_key(*table, field, key)?;
-            Ok(Some(ids))
-        }
-    }
-}
-
-fn alone(alloc: Global, id: DocId) -> Result<DocIds, OutOfMemory>
-    ensures { IfOk result (λ ids. ids ≡ id ∷ []) }
-{
-    let mut ids = Sequence::new(alloc);
-    ids.push(id)?;
-    Ok(ids)
-}
-
-/// The documents that may meet one of the items, or None where one asks for a whole table.
-fn meeting_any(
+/// All may if it asks for all, or for keys of a field without an index.
+fn meeting(
     alloc: Global,
     base: &Versions,
-    items: &[Item],
+    table: TableId,
+    probe: &Probe,
 ) -> Result<Option<DocIds>, OutOfMemory>
-    ensures { IfOk result (λ found. IfSome found (AreEnough base.now items.now)) }
+    ensures { IfOk result (λ found. IfSome found (MeetAlone base.now table probe.now)) }
 {
-    let mut ids = Sequence::new(alloc);
-    'items: for item in items {
-        let Some(more) = meeting(alloc, base, item)? else {
-            return Ok(None);
-        };
-        append(&mut ids, more.as_slice())?;
+    match probe {
+        Probe::All => Ok(None),
+        Probe::Id(id) => {
+            let ids = copied(alloc, slice::from_ref(id))?;
+            Ok(Some(ids))
+        }
+        Probe::Ids { ids } => {
+            let ids = copied(alloc, ids.as_slice())?;
+            Ok(Some(ids))
+        }
+        Probe::Key { field, key } => {
+            let ids = by_keys(alloc, base, table, field, slice::from_ref(key))?;
+            Ok(ids)
+        }
+        Probe::Keys { field, keys } => {
+            let ids = by_keys(alloc, base, table, field, keys.as_slice())?;
+            Ok(ids)
+        }
     }
+}
+
+/// The documents of the table whose field has one of the keys, or None if the field has no index.
+pub(crate) fn by_keys(
+    alloc: Global,
+    base: &Versions,
+    table: TableId,
+    field: &Text,
+    keys: &[Key],
+) -> Result<Option<DocIds>, OutOfMemory>
+    ensures { IfOk result (λ found. IfSome found (HaveKeys base.now table field.now keys.now)) }
+{
+    if !base.has_index(table, field) {
+        return Ok(None);
+    }
+    let ids = with_keys(alloc, base, table, field, keys)?;
     Ok(Some(ids))
 }
 
-/// Puts the ids behind the others.
-fn append(ids: &mut DocIds, more: &[DocId]) -> Result<(), OutOfMemory>
-    ensures { OnOk result (ids.new ≡ ids.old ++ more.now) }
+/// The ids once more.
+fn copied(alloc: Global, ids: &[DocId]) -> Result<DocIds, OutOfMemory>
+    ensures { IfOk result (λ new. new ≡ ids.now) }
 {
-    'more: for id in more {
-        ids.push(*id)?;
+    let mut new = Sequence::new(alloc);
+    'ids: for id in ids {
+        new.push(*id)?;
     }
-    Ok(())
+    Ok(new)
 }
 
 /// The ids, and those of the documents that pend.
@@ -82,16 +84,17 @@ fn with_pending(ids: DocIds, log: &[Draft]) -> Result<DocIds, OutOfMemory>
     Ok(all)
 }
 
-/// The documents that pend or may meet one of the items, or None where all documents are to be read.
+/// The documents that pend or may meet the probe, or None if all documents are to be read.
 pub(crate) fn narrowed(
     alloc: Global,
     base: &Versions,
     log: &[Draft],
-    items: &[Item],
+    table: TableId,
+    probe: &Probe,
 ) -> Result<Option<DocIds>, OutOfMemory>
-    ensures { IfOk result (IsNarrow base.now log.now items.now) }
+    ensures { IfOk result (IsNarrow base.now log.now table probe.now) }
 {
-    match meeting_any(alloc, base, items)? {
+    match meeting(alloc, base, table, probe)? {
         None => Ok(None),
         Some(ids) => {
             let all = with_pending(ids, log)?;

@@ -3,16 +3,17 @@ ghost use Rattle.std.specs.Prelude.{◌++◌, map};
 ghost use Rattle.ledger_model.specs.State.{draft_of};
 ghost use Rattle.ledger_model.specs.Run.{selected, tables_now};
 ghost use Rattle.ledger_model.specs.Views.{latest};
+ghost use Rattle.txn_core.specs.Reading.{AreGiven};
 ghost use Rattle.txn_core.specs.Selects.{answer_in};
 ghost use Rattle.txn_core.specs.Stops.{Comes, Does};
 
 use crate::effect::Effect;
-use crate::sources::first_absent;
+use crate::reading::Over;
 use crate::stopped::ExecuteFault;
 use crate::transaction::Txn;
 use ion_values::{Value, Values};
 use ledger_model::Answer;
-use pql_model::{FromClause, Select};
+use pql_model::Select;
 use pql_select::answer;
 use std::alloc::Global;
 
@@ -22,12 +23,13 @@ impl Txn {
         &self,
         alloc: Global,
         select: &Select,
-        from: &FromClause,
+        over: Over<'_>,
         params: &[Value],
     ) -> Result<Effect, ExecuteFault>
-        ensures { Does result (selected self.now.base self.now.done params.now select.now from.now) }
+        requires { AreGiven self.now params.now over.from.now over.given.items }
+        ensures { Does result (selected self.now.base self.now.done params.now select.now over.entry.from.now) }
     {
-        let rows = self.rows_selected(alloc, select, from, params)?;
+        let rows = self.rows_selected(alloc, select, over, params)?;
         let mut effect = Effect::new(alloc);
         effect.rows = rows;
         Ok(effect)
@@ -38,17 +40,15 @@ impl Txn {
         &self,
         alloc: Global,
         select: &Select,
-        from: &FromClause,
+        over: Over<'_>,
         params: &[Value],
     ) -> Result<Values, ExecuteFault>
+        requires { AreGiven self.now params.now over.from.now over.given.items }
         ensures { Comes result (answer_in (tables_now self.now.base self.now.done) self.now.base
-            (latest (map draft_of self.now.base.revisions ++ self.now.done.log)) params.now select.now from.now) }
+            (latest (map draft_of self.now.base.revisions ++ self.now.done.log)) params.now select.now
+            over.entry.from.now) }
     {
-        let tables = self.tables_now(alloc)?;
-        if let Some(cause) = first_absent(alloc, tables.as_slice(), from.sources.as_slice())? {
-            return Err(ExecuteFault::Refused(cause));
-        }
-        let rows = self.rows_over(alloc, tables, from, params)?;
+        let rows = self.rows_now(alloc, over, params)?;
         let Answer { rows } = answer(alloc, select, rows, params)?;
         Ok(rows)
     }

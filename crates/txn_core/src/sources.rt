@@ -1,19 +1,28 @@
 //! The tables that the sources of a FROM name.
-ghost use Rattle.std.specs.Prelude.{◌≡◌, map, IfOk};
+ghost use Rattle.std.specs.Prelude.{◌≡◌, map, option_and_then, IfOk};
 ghost use Rattle.std.specs.Option.{option_copied};
 ghost use Rattle.pql_model.specs.Tables as spec;
 ghost use Rattle.ledger_model.specs.Run.{table_in};
+ghost use Rattle.ledger_model.specs.State.{active_table};
 ghost use Rattle.versions.specs.Held.{table_of};
 ghost use Rattle.txn_core.specs.Selects.{absent_in, absent_name, first_absent_in};
 
 use ion_values::{OutOfMemory, Text};
 use ledger_model::Refusal;
 use pql_model::{Source, SourceKind};
+use ql_types::TableId;
 use std::alloc::Global;
 use versions::{Table, active_table};
 
 /// What the name of a committed view begins with.
 const COMMITTED: &str = "_ql_committed_";
+
+/// Whether it is the name of a committed view.
+pub(crate) fn is_committed(name: &str) -> bool
+    ensures { result ≡ spec.is_committed name.now }
+{
+    name.as_bytes().starts_with(COMMITTED.as_bytes())
+}
 
 /// The name without the prefix of committed views.
 fn table_named(name: &str) -> &str
@@ -26,7 +35,7 @@ fn table_named(name: &str) -> &str
 }
 
 /// The table that a source names, its views' prefix left out.
-fn table_in(from: &SourceKind) -> Option<&str>
+pub(crate) fn table_in(from: &SourceKind) -> Option<&str>
     ensures { option_copied result ≡ table_in from.now }
 {
     match from {
@@ -34,6 +43,14 @@ fn table_in(from: &SourceKind) -> Option<&str>
         SourceKind::History { table, .. } => Some(table.as_str()),
         SourceKind::Path(_) => None,
     }
+}
+
+/// The active table that the source names.
+pub(crate) fn active_in(tables: &[Table], from: &SourceKind) -> Option<TableId>
+    ensures { result ≡ option_and_then (active_table (map table_of tables.now)) (table_in from.now) }
+{
+    let name = table_in(from)?;
+    active_table(tables, name)
 }
 
 /// `NoSuchTable` where no active table has the name.

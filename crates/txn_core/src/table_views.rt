@@ -1,80 +1,44 @@
 //! The views of tables, as a transaction has them.
 ghost use Rattle.std.specs.Prelude.{◌≡◌, ◌++◌, map, IfOk};
 ghost use Rattle.pql_model.specs.Tables.{meeting};
-ghost use Rattle.ledger_model.specs.CommittedViews.{committed_view};
 ghost use Rattle.ledger_model.specs.State.{draft_of};
-ghost use Rattle.ledger_model.specs.Views.{latest};
-ghost use Rattle.txn_core.specs.Narrow.{IsNarrow, documents_read, rows_read};
-ghost use Rattle.view_rows.specs.Seen.{drafts_seen};
+ghost use Rattle.ledger_model.specs.Views.{user_view};
 
 use crate::narrow::narrowed;
-use crate::views::{latest_over, latest_read};
-use containers::Sequence;
-use ion_values::{OutOfMemory, Text};
-use ledger_model::{Draft, Item};
-use pql_model::{DocIds, Probe, Rows, Tables, View};
+use crate::views::latest_read;
+use containers::{Sequence, Text};
+use ion_values::OutOfMemory;
+use ledger_model::Draft;
+use pql_model::{Probe, Rows, Tables, View};
 use ql_types::TableId;
 use std::alloc::Global;
 use versions::{Table, Versions, active_table};
-use view_rows::{Seen, committed_among, user_rows, view_rows};
+use view_rows::{user_rows, view_rows};
 
-/// The tables and documents as a transaction has them, and the version that it stands on.
-///
-/// Each document is lent with its latest revision: all, or only those that are read.
-#[derive(Drop)]
+/// The tables and documents as a transaction has them: all tables, the version that it stands on, and its pending
+/// revisions. Documents that a probe names are looked up.
+#[derive(Clone, Copy)]
 pub struct TableViews<'a> {
-    tables: Vec<Table>,
+    tables: &'a [Table],
     base: &'a Versions,
-    documents: Sequence<Seen<'a>>,
-    read: Option<DocIds>,
+    log: &'a [Draft],
 }
 
 impl<'a> TableViews<'a> {
-    /// The views of these tables, over the version and the pending revisions.
-    pub fn new(
-        alloc: Global,
-        tables: Vec<Table>,
-        base: &'a Versions,
-        log: &'a [Draft],
-    ) -> Result<TableViews<'a>, OutOfMemory>
-        ensures tables { IfOk result (λ views. views.tables.items ≡ tables.items) }
-        ensures base { IfOk result (λ views. views.base.now ≡ base.now) }
-        ensures documents { IfOk result (λ views. drafts_seen views.documents ≡
-            latest (map draft_of base.now.revisions ++ log.now)) }
+    /// The views of these tables, over the version and the pending revisions. It takes no memory.
+    pub fn new(tables: &'a [Table], base: &'a Versions, log: &'a [Draft]) -> TableViews<'a>
+        ensures tables { result.tables.now ≡ tables.now }
+        ensures base { result.base.now ≡ base.now }
+        ensures log { result.log.now ≡ log.now }
     {
-        let documents = latest_over(alloc, base, log)?;
-        Ok(TableViews {
-            tables,
-            base,
-            documents,
-            read: None,
-        })
+        TableViews { tables, base, log }
     }
 
-    /// The views of the documents alone that pend or may meet one of the items.
-    ///
-    /// The items name documents or keys of indexes; else all documents are seen.
-    pub(crate) fn read_by(
-        alloc: Global,
-        tables: Vec<Table>,
-        base: &'a Versions,
-        log: &'a [Draft],
-        items: &[Item],
-    ) -> Result<TableViews<'a>, OutOfMemory>
-        ensures tables { IfOk result (λ views. views.tables.items ≡ tables.items) }
-        ensures base { IfOk result (λ views. views.base.now ≡ base.now) }
-        ensures documents { IfOk result (λ views. drafts_seen views.documents ≡
-            documents_read views.read (latest (map draft_of base.now.revisions ++ log.now))) }
-        ensures narrow { IfOk result (λ views. IsNarrow base.now log.now items.now views.read) }
+    /// The version.
+    pub(crate) fn base(&self) -> &'a Versions
+        ensures { result.now ≡ self.now.base.now }
     {
-        let read = narrowed(alloc, base, log, items)?;
-        let documents = latest_read(alloc, base, &read, log)?;
-        Ok(TableViews {
-            tables,
-            base,
-            documents,
-            read,
-        })
+        self.base
     }
 }
 
@@ -90,30 +54,31 @@ impl Tables for TableViews<'_> {
         view: &View,
         probe: &Probe,
     ) -> Result<Rows, OutOfMemory> {
-        let Some(table) = active_table(self.tables.as_slice(), table.as_str()) else {
+        let Some(table) = active_table(self.tables, table.as_str()) else {
             return Ok(Sequence::new(alloc));
         };
         match view {
-            View::User => user_rows(alloc, self.documents.as_slice(), table, probe),
-            View::Committed => committed_rows(alloc, self.base, &self.read, table, probe),
-            View::History { .. } => view_rows(alloc, self.base, table, view, probe),
+            View::User => rows_pending(alloc, self.base, self.log, table, probe),
+            View::Committed | View::History { .. } => {
+                view_rows(alloc, self.base, table, view, probe)
+            }
         }
     }
 }
 
-/// The rows of the table's committed view that meet the probe, of the documents that are read.
-fn committed_rows(
+/// The rows of the table's user view that meet the probe, the pending revisions counted.
+fn rows_pending(
     alloc: Global,
     base: &Versions,
-    read: &Option<DocIds>,
+    log: &[Draft],
     table: TableId,
     probe: &Probe,
 ) -> Result<Rows, OutOfMemory>
     ensures { IfOk result (λ rows.
-        rows ≡ meeting probe.now (rows_read read.now (committed_view table base.now.revisions))) }
+        rows ≡ meeting probe.now (user_view table (map draft_of base.now.revisions) log.now)) }
 {
-    match read {
-        None => view_rows(alloc, base, table, &View::Committed, probe),
-        Some(ids) => committed_among(alloc, base, ids.as_slice(), table, probe),
-    }
+    let read = narrowed(alloc, base, log, table, probe)?;
+    let documents = latest_read(alloc, base, &read, log)?;
+    let rows = user_rows(alloc, documents.as_slice(), table, probe)?;
+    Ok(rows)
 }

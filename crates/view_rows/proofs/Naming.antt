@@ -1,16 +1,17 @@
 -- Rows of documents that are named by their ids.
-use Rattle.std.proofs.Common.{◌≡◌, ℕ, ◌==◌, Bool, true, false, List, [], ◌∷◌, map, Option, Some, None, refl, sym, ◌∙◌, ap, subst, eq-eqb}
+use Rattle.std.proofs.Common.{◌≡◌, ℕ, ◌==◌, Bool, true, false, List, [], ◌∷◌, ◌++◌, map, Option, Some, None, refl, sym, ◌∙◌, ap, subst, eq-eqb}
 use Rattle.std.specs.Prelude.{◌||◌, option_and_then, option_map, if◌then◌else◌}
-use Rattle.std.specs.List.{cons_option, filter, filter_map}
+use Rattle.std.specs.List.{cons_option, filter, filter_map, flat_map}
 use Rattle.std.proofs.lemmas.Bool.{eqb-true}
 use Rattle.std.proofs.lemmas.List.{append-nil}
+use Rattle.std.proofs.lemmas.List.Folds.{list_any-append}
 use Rattle.ql_types.specs.declared.DocId.{DocId}
 use Rattle.ql_types.specs.declared.TableId.{TableId}
 use Rattle.ion_values.specs.declared.value.Key.{Key}
 use Rattle.pql_model.specs.declared.tables.Probe.{Probe}
 use Rattle.pql_model.specs.declared.tables.Probe.TheVariants as probe
 use Rattle.pql_model.specs.declared.tables.Row.{Row}
-use Rattle.pql_model.specs.Tables.{meeting, meets}
+use Rattle.pql_model.specs.Tables.{has_one, meeting, meets}
 use Rattle.ledger_model.specs.declared.block.Content.{Content}
 use Rattle.ledger_model.specs.declared.block.Content.TheVariants.{Deleted, Kept, Redacted}
 use Rattle.ledger_model.specs.declared.block.Draft.{Draft}
@@ -143,6 +144,52 @@ pub passing_named : (test : Row → Bool) (rows : List Row) → AreNamed (ids_of
 passing_named test [] = tt
 passing_named test (row ∷ rows) = passing-by (test row) row test rows refl (passing_named test rows)
 
+-- the documents of several ids, and those whose rows have one of several keys
+pub ids_named : (ids : List DocId) (rows : List Row) → AreNamed ids (meets (probe.Ids ids)) rows
+ids_named ids rows = all_named ids (meets (probe.Ids ids)) rows (λ row met. met)
+
+one_among : (ids more : List DocId) (id : ℕ) (a b : Bool) → (a ≡ true → is_among ids id ≡ true)
+    → (b ≡ true → is_among more id ≡ true) → (a || b) ≡ true → is_among (ids ++ more) id ≡ true
+one_among ids more id true b h k met =
+    list_any-append (λ (i : DocId). id == i.raw) ids more ∙ or-left (is_among ids id) (is_among more id) (h refl)
+one_among ids more id false b h k met =
+    list_any-append (λ (i : DocId). id == i.raw) ids more ∙ or-right (is_among ids id) (is_among more id) (k met)
+
+either_named : (ids more : List DocId) (test other : Row → Bool) (rows : List Row) → AreNamed ids test rows
+    → AreNamed more other rows → AreNamed (ids ++ more) (λ row. test row || other row) rows
+either_named ids more test other [] h k = tt
+either_named ids more test other (row ∷ rows) h k =
+    (one_among ids more row.id.raw (test row) (other row) h.0 k.0, either_named ids more test other rows h.1 k.1)
+
+none_met : (test : Row → Bool) (rows : List Row) → ((row : Row) → test row ≡ false) → AreNamed [] test rows
+none_met test rows none = all_named [] test rows (λ row met. let bad : false ≡ true = sym (none row) ∙ met in cc)
+
+pub keys_named : (field : List ℕ) (keys : List Key) (rows : List Row)
+    → AreNamed (flat_map (λ k. ids_of (meeting (probe.Key field k) rows)) keys) (meets (probe.Keys field keys)) rows
+keys_named field [] rows = none_met (meets (probe.Keys field [])) rows (λ row. refl)
+keys_named field (k ∷ keys) rows =
+    either_named (ids_of (meeting (probe.Key field k) rows)) _ (meets (probe.Key field k))
+    (meets (probe.Keys field keys)) rows (passing_named (meets (probe.Key field k)) rows) (keys_named field keys rows)
+
+-- without a key in the field there is none of several
+pub none_found : (keys : List Key) → has_one keys None ≡ false
+none_found [] = refl
+none_found (k ∷ keys) = none_found keys
+
+pub ids_asked : (ids : List DocId) (p : Probe) (some : List DocId) (rows : List Row) → p ≡ probe.Ids ids → some ≡ ids
+    → AreNamed some (meets p) rows
+ids_asked ids p some rows is those =
+    subst (λ (q : Probe). AreNamed some (meets q) rows) (sym is)
+    (subst (λ (xs : List DocId). AreNamed xs (meets (probe.Ids ids)) rows) (sym those) (ids_named ids rows))
+
+pub keys_asked : (field : List ℕ) (keys : List Key) (p : Probe) (ids : List DocId) (rows : List Row)
+    → p ≡ probe.Keys field keys → ids ≡ flat_map (λ k. ids_of (meeting (probe.Key field k) rows)) keys
+    → AreNamed ids (meets p) rows
+keys_asked field keys p ids rows is those =
+    subst (λ (q : Probe). AreNamed ids (meets q) rows) (sym is)
+    (subst (λ (some : List DocId). AreNamed some (meets (probe.Keys field keys)) rows) (sym those)
+    (keys_named field keys rows))
+
 -- the same of a probe at hand
 pub id_asked : (id : DocId) (p : Probe) (ids : List DocId) (rows : List Row) → p ≡ probe.Id id → ids ≡ id ∷ [] → AreNamed ids (meets p) rows
 id_asked id p ids rows is alone =
@@ -175,3 +222,10 @@ committed_alone id p rows some is some_is =
 pub committed_among : (table : TableId) (revisions : List Recorded) (ids : List DocId)
     → filter_map (committed_row table revisions) (those_among ids (latest (map draft_of revisions))) ≡ rows_among ids (committed_view table revisions)
 committed_among table revisions ids = among_those (committed_row table revisions) (committed_id table revisions) ids (latest (map draft_of revisions))
+
+-- the rows of several documents in a committed view
+pub committed_some : (ids : List DocId) (p : Probe) (rows some : List Row) → p ≡ probe.Ids ids
+    → some ≡ meeting p (rows_among ids rows) → some ≡ meeting p rows
+committed_some ids p rows some is some_is =
+    some_is ∙ ap (λ (q : Probe). meeting q (rows_among ids rows)) is
+    ∙ named_alone ids (meets (probe.Ids ids)) rows (ids_named ids rows) ∙ ap (λ (q : Probe). meeting q rows) (sym is)

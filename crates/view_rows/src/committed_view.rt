@@ -78,7 +78,7 @@ pub(crate) fn committed_rows(
 /// The rows of these documents in the table's committed view that meet the probe, in order of first insertion. It looks
 /// each document up.
 #[tactic(auto, using(crate::proofs::Latest::rows_committed_among))]
-pub fn committed_among(
+pub(crate) fn committed_among(
     alloc: Global,
     version: &Versions,
     ids: &[DocId],

@@ -11,7 +11,7 @@ mod seen;
 mod user;
 mod views;
 
-pub use committed_view::committed_among;
+pub use named::with_keys;
 pub use seen::{Seen, all_committed, committed, pending};
 pub use user::user_rows;
 pub use views::view_rows;

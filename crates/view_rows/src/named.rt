@@ -1,17 +1,20 @@
 //! The rows of documents that a probe names.
-ghost use Rattle.std.specs.Prelude.{◌≡◌, [], map, IfOk};
-ghost use Rattle.std.specs.List.{filter_map};
+ghost use Rattle.std.specs.Prelude.{◌≡◌, ◌++◌, true, [], map, IfOk, OnOk};
+ghost use Rattle.std.specs.List.{filter_map, flat_map};
+ghost use Rattle.ledger_model.specs.Follows.{has_index};
 ghost use Rattle.pql_model.specs.Tables.{meeting, meets};
 ghost use Rattle.ledger_model.specs.CommittedViews.{committed_view};
 ghost use Rattle.ledger_model.specs.State.{draft_of};
 ghost use Rattle.ledger_model.specs.Views.{latest, row_of, user_view};
+ghost use Rattle.versions.specs.Indexes.{documents_with};
 ghost use Rattle.view_rows.specs.Named.{AreNamed};
 
 use crate::committed_view::{committed_among, committed_rows};
 use crate::seen::all_committed;
 use crate::user::user_rows;
-use ion_values::OutOfMemory;
-use pql_model::{Probe, Rows};
+use containers::Sequence;
+use ion_values::{Key, OutOfMemory, Text};
+use pql_model::{DocIds, Probe, Rows};
 use ql_types::{DocId, TableId};
 use std::alloc::Global;
 use std::slice;
@@ -51,8 +54,8 @@ fn rows_of(
     Ok(rows)
 }
 
-/// The same by what the probe names: a document, or a key of a field with an index.
-#[tactic(auto, using(crate::proofs::Naming::id_asked, crate::proofs::Naming::key_asked))]
+/// The same by what the probe names: documents, or keys of a field with an index.
+#[tactic(auto, using(crate::proofs::Naming::id_asked, crate::proofs::Naming::key_asked, crate::proofs::Naming::ids_asked, crate::proofs::Naming::keys_asked))]
 pub(crate) fn latest_named(
     alloc: Global,
     version: &Versions,
@@ -71,12 +74,49 @@ pub(crate) fn latest_named(
             let ids = version.with_key(table, field, key)?;
             rows_of(alloc, version, ids.as_slice(), table, probe)
         }
+        Probe::Ids { ids } => rows_of(alloc, version, ids.as_slice(), table, probe),
+        Probe::Keys { field, keys } => {
+            if !version.has_index(table, field) {
+                return latest_rows(alloc, version, table, probe);
+            }
+            let ids = with_keys(alloc, version, table, field, keys.as_slice())?;
+            rows_of(alloc, version, ids.as_slice(), table, probe)
+        }
     }
+}
+
+/// The documents of the table whose field has one of the keys, key by key.
+pub fn with_keys(
+    alloc: Global,
+    version: &Versions,
+    table: TableId,
+    field: &Text,
+    keys: &[Key],
+) -> Result<DocIds, OutOfMemory>
+    requires { has_index version.now.indexes table field.now ≡ true }
+    ensures { IfOk result (λ ids. ids ≡ flat_map (documents_with version.now.revisions table field.now) keys.now) }
+{
+    let mut ids = Sequence::new(alloc);
+    'keys: for key in keys {
+        let found = version.with_key(table, field, key)?;
+        append(&mut ids, found.as_slice())?;
+    }
+    Ok(ids)
+}
+
+/// Puts the ids behind the others.
+fn append(ids: &mut DocIds, more: &[DocId]) -> Result<(), OutOfMemory>
+    ensures { OnOk result (ids.new ≡ ids.old ++ more.now) }
+{
+    'more: for id in more {
+        ids.push(*id)?;
+    }
+    Ok(())
 }
 
 /// The rows of the table's committed view that meet the probe. It looks a document up that the probe names, and goes
 /// over all documents otherwise.
-#[tactic(auto, using(crate::proofs::Naming::committed_alone))]
+#[tactic(auto, using(crate::proofs::Naming::committed_alone, crate::proofs::Naming::committed_some))]
 pub(crate) fn committed_named(
     alloc: Global,
     version: &Versions,
@@ -86,9 +126,15 @@ pub(crate) fn committed_named(
     ensures { IfOk result (λ rows. rows ≡ meeting probe.now (committed_view table version.now.revisions)) }
 {
     match probe {
-        Probe::All | Probe::Key { .. } => committed_rows(alloc, version, table, probe),
+        Probe::All | Probe::Key { .. } | Probe::Keys { .. } => {
+            committed_rows(alloc, version, table, probe)
+        }
         Probe::Id(id) => {
             let rows = committed_among(alloc, version, slice::from_ref(id), table, probe)?;
+            Ok(rows)
+        }
+        Probe::Ids { ids } => {
+            let rows = committed_among(alloc, version, ids.as_slice(), table, probe)?;
             Ok(rows)
         }
     }

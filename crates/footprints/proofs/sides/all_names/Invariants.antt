@@ -1,7 +1,7 @@
 use Rattle.std.proofs.Common.{◌≡◌, List, ◌++◌, drop, map}
 use Rattle.std.specs.Prelude.{option_map}
 use Rattle.ion_values.specs.declared.value.Value.{Value}
-use Rattle.ledger_model.specs.Footprints.{all_names}
+use Rattle.ledger_model.specs.Conditions.{all_names}
 use Rattle.footprints.specs.Lent.{texts}
 use Rattle.footprints.specs.Sides.{step_of}
 use Rattle.footprints.proofs.sides.all_names.Given as goal

@@ -1,6 +1,6 @@
 use Rattle.std.proofs.Common.{map, sym, ◌∙◌, ap}
 use Rattle.std.specs.Prelude.{option_map}
-use Rattle.ledger_model.specs.Footprints.{all_names, named}
+use Rattle.ledger_model.specs.Conditions.{all_names, named}
 use Rattle.footprints.specs.Lent.{texts}
 use Rattle.footprints.specs.Sides.{step_of}
 use Rattle.footprints.proofs.Naming.{path_is}

@@ -1,6 +1,6 @@
 use Rattle.std.proofs.Common.{sym, ◌∙◌, ap, subst}
 use Rattle.std.specs.Prelude.{◌≡◌, IfOk}
-use Rattle.ledger_model.specs.Footprints as spec
+use Rattle.ledger_model.specs.Conditions as spec
 use Rattle.footprints.specs.Lent.{side_of}
 use Rattle.footprints.proofs.Naming.{by_path}
 use Rattle.footprints.proofs.sides.side_of.Goals as goal

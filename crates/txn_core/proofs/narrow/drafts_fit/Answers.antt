@@ -1,7 +1,7 @@
 use Rattle.std.proofs.Common.{◌≤◌, length, sym, subst, arith}
 use Rattle.std.proofs.lemmas.List.{drop_all}
 use Rattle.txn_core.specs.Narrow.{DraftsFit}
-use Rattle.txn_core.proofs.Needed.{fits_next}
+use Rattle.txn_core.proofs.Narrowing.{fits_next}
 use Rattle.txn_core.proofs.narrow.drafts_fit.Goals as goal
 
 pub log-init : goal.log-init

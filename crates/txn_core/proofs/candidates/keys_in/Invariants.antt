@@ -1,0 +1,7 @@
+use Rattle.std.proofs.Common.{◌≡◌, map, take}
+use Rattle.ledger_model.specs.declared.outcome.Item.TheVariants as item
+use Rattle.txn_core.proofs.candidates.keys_in.Given as goal
+
+-- the items so far name these keys
+abbrev pub invariant-items : goal.invariant-items
+invariant-items l = take l.item-index l.items ≡ map (item.IndexValue l.table l.field) l.keys
