@@ -111,7 +111,9 @@ fn document_items(alloc: Global, table: TableId, ids: DocIds) -> Result<Sequence
     Ok(items)
 }
 
-/// The items of the documents whose ids the elements of a list read as, each once, or None if the list is long.
+/// The items of the documents that the elements of a list name, each once.
+///
+/// An element names a document if it reads as an id. None says that the list is long.
 pub(crate) fn documents_listed(
     alloc: Global,
     table: TableId,
@@ -192,7 +194,9 @@ fn key_items(
     Ok(items)
 }
 
-/// The items of the keys of the values, each once, or None if a value is a container or they are too many.
+/// The items of the keys of the values, each once.
+///
+/// None says that a value is a container or that they are too many.
 pub(crate) fn plain_keys(
     alloc: Global,
     table: TableId,
@@ -209,7 +213,9 @@ pub(crate) fn plain_keys(
     Ok(items)
 }
 
-/// The items of the keys of the elements of a list, each once, or None if one is a container or the list is long.
+/// The items of the keys of a list's elements, each once.
+///
+/// None says that an element is a container or that the list is long.
 pub(crate) fn keys_listed(
     alloc: Global,
     table: TableId,

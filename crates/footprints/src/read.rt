@@ -107,7 +107,9 @@ fn read_at<'a, 'b>(earlier: &'a [Read<'b>], place: usize) -> Option<&'a Read<'b>
     earlier.get(place)
 }
 
-/// The values that a path means over the rows of an earlier source, if it is a field of a user or committed view.
+/// The values that a path means over the rows of an earlier source.
+///
+/// There are some only if it is a field of a user or committed view.
 pub(crate) fn values_meant<'a>(
     alloc: Global,
     earlier: &'a [Read<'_>],

@@ -280,7 +280,9 @@ fn keys_by(
     Ok(None)
 }
 
-/// The keys that are asked for, if it is asked of a field with an index and the rule takes what is wanted.
+/// The keys that are asked for, if the rule takes what is wanted.
+///
+/// They are asked of a field with an index.
 fn keys_of(
     alloc: Global,
     rule: Rule,
