@@ -1,4 +1,4 @@
-//! Tests of the hashes of values, pairs, trees and blocks, over their crates.
+//! Tests of ids, and of the hashes of pairs, trees and blocks, over their crates.
 #![tactic(auto)]
 
 #[cfg(test)]
@@ -9,5 +9,3 @@ mod ids;
 mod pairs;
 #[cfg(test)]
 mod trees;
-#[cfg(test)]
-mod values;

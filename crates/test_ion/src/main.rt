@@ -1,4 +1,4 @@
-//! Rows of Ion texts, and of values, their order and their times.
+//! Rows of Ion texts, and of values, their order, their times and their hashes.
 //!
 //! A row's first field says what is asked of what it holds:
 //!
@@ -15,11 +15,13 @@
 //! - `add`, `subtract` and `multiply`: what two decimals come to,
 //! - `equivalent`: whether two values are equivalent,
 //! - `depth`: how deep a value nests,
-//! - `copy`: copies of values.
+//! - `copy`: copies of values,
+//! - `bytes`: the bytes of a value that are hashed, and `hash`: its hash, in hexadecimal.
 //!
 //! A text that isn't in UTF-8 is a clob.
 #![tactic(auto)]
 
+mod hashes;
 mod order;
 mod texts;
 mod times;
@@ -50,6 +52,8 @@ impl Asked for Ion {
             "instant" => times::put_instant(alloc, given, out),
             "millis" => times::put_nearest(alloc, given, out),
             "depth" => values::put_depth(alloc, given, out),
+            "bytes" => hashes::put_bytes(alloc, given, out),
+            "hash" => hashes::put_hash(alloc, given, out),
             "copy" => values::put_copies(alloc, list_in(given)?, out),
             "key" => order::put_key(alloc, given, out),
             word => put_of_two(alloc, word, list_in(given)?, out),

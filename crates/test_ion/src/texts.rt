@@ -86,17 +86,22 @@ pub fn put_lexed(given: &Value, out: &mut Text) -> Option<()> {
 /// Puts the bytes of the one blob of a text.
 pub fn put_blob(alloc: Global, given: &Value, out: &mut Text) -> Option<()> {
     let values = read(alloc, given, 0)?.ok()?;
-    put_hex(alloc, values.as_slice(), out)
+    put_of_blob(alloc, values.as_slice(), out)
 }
 
-fn put_hex(alloc: Global, values: &[Value], out: &mut Text) -> Option<()> {
+fn put_of_blob(alloc: Global, values: &[Value], out: &mut Text) -> Option<()> {
     let [value] = values else {
         return None;
     };
-    let Body::Blob(bytes) = &value.body else {
-        return None;
-    };
-    let digits = hex::encode(alloc, bytes.as_slice()).ok()?;
+    match &value.body {
+        Body::Blob(bytes) => put_digits(alloc, bytes.as_slice(), out),
+        _ => None,
+    }
+}
+
+/// Puts bytes in hexadecimal.
+pub fn put_digits(alloc: Global, bytes: &[u8], out: &mut Text) -> Option<()> {
+    let digits = hex::encode(alloc, bytes).ok()?;
     out.push_str("\"").ok()?;
     out.push_str(digits.as_str()).ok()?;
     out.push_str("\"").ok()
