@@ -1,6 +1,6 @@
 -- What a statement demands of the tables that it names, in order (the actions are those of Amazon QLDB's permissions;
 -- which of them a join with a change demands, and the order, are the ledger's own).
-use Rattle.std.specs.Prelude.{ℕ, ◌+◌, ◌==◌, Bool, List, [], ◌∷◌, ◌++◌, length, map, Option, Some, None, Result, Ok, Err, if◌then◌else◌}
+use Rattle.std.specs.Prelude.{ℕ, ◌+◌, ◌==◌, Bool, List, [], ◌∷◌, ◌++◌, length, map, Option, Some, None, Result, Ok, Err, unwrap_or, if◌then◌else◌}
 use Rattle.std.specs.List.{flat_map, list_any}
 use Rattle.ion_values.specs.declared.value.Value.{Value}
 use Rattle.pql_model.specs.declared.statement.Change.{Change}
@@ -9,9 +9,13 @@ use Rattle.pql_model.specs.declared.statement.SourceKind.{SourceKind}
 use Rattle.pql_model.specs.declared.statement.SourceKind.TheVariants as source
 use Rattle.pql_model.specs.declared.statement.Statement.{Statement}
 use Rattle.pql_model.specs.declared.statement.Statement.TheVariants as statement
+use Rattle.pql_model.specs.declared.scope.Evaluated.{Evaluated}
+use Rattle.pql_model.specs.declared.scope.Evaluated.TheVariants.{Missing, Found}
+use Rattle.pql_model.specs.Meaning.{meaning, under}
 use Rattle.pql_model.specs.Parse.{parsed}
 use Rattle.pql_model.specs.Productions.{Fault}
 use Rattle.pql_model.specs.Tables.{table_named}
+use Rattle.pql_model.specs.Texts.{text_of}
 use Rattle.ledger_model.specs.declared.script.Request.{Request}
 use Rattle.ledger_model.specs.Statements.{wanted}
 use Rattle.ledger_model.specs.Writing.{is_at, root_place, targets}
@@ -61,7 +65,12 @@ changing sources c = changing_from (roots sources c) 0 sources
 
 -- ---- statements
 
--- the parameters are at hand for a statement that names its table by one; none of these does
+-- the text that a value is, or the empty one
+abbrev pub text_or_empty : Evaluated → List ℕ
+text_or_empty Missing = []
+text_or_empty (Found v) = unwrap_or (text_of v) []
+
+-- a redaction names its table by an argument, which may be a parameter
 abbrev pub demanded : Statement → List Value → List Demand
 demanded (statement.Select select from) params = flat_map (λ s. reading s.from) from.sources
 demanded (statement.Insert table value) params = demand action.PartiQLInsert table ∷ []
@@ -71,6 +80,8 @@ demanded (statement.Delete from) params = on_sources action.PartiQLDelete from.s
 demanded (statement.Create table) params = demand action.PartiQLCreateTable table ∷ []
 demanded (statement.Index table field) params = demand action.PartiQLCreateIndex table ∷ []
 demanded (statement.Drop table) params = demand action.PartiQLDropTable table ∷ []
+demanded (statement.Redact address table document) params =
+    demand action.PartiQLRedact (text_or_empty (meaning table (under [] params))) ∷ []
 
 -- ---- requests
 

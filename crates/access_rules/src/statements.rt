@@ -1,6 +1,7 @@
 //! What statements demand.
 ghost use Rattle.std.specs.Prelude.{◌≡◌, [], ◌∷◌, ◌++◌, length, IfOk, OnOk, if◌then◌else◌};
 ghost use Rattle.std.specs.List.{flat_map};
+ghost use Rattle.pql_model.specs.Meaning.{meaning, under};
 ghost use Rattle.pql_model.specs.Tables as tables;
 ghost use Rattle.ledger_model.specs.Statements.{wanted};
 ghost use Rattle.access_rules.specs.Demands as spec;
@@ -11,8 +12,9 @@ use crate::demand::{Demand, Demands};
 use crate::roots::{is_changed, roots_of};
 use crate::rule::Action;
 use containers::Sequence;
-use ion_values::{OutOfMemory, Text, Value};
-use pql_model::{Change, Source, SourceKind, Statement};
+use ion_values::{Body, OutOfMemory, Text, Value};
+use pql_expr::eval;
+use pql_model::{Change, Evaluated, Expr, Source, SourceKind, Statement};
 use std::alloc::Global;
 
 /// What a committed view's name begins with.
@@ -23,8 +25,8 @@ const COMMITTED: &str = "_ql_committed_";
 /// A source demands `PartiQLSelect` and a history `PartiQLHistoryFunction`, each on its table, which for
 /// a committed view is the table that it shows; a source that is a path demands nothing. UPDATE, DELETE
 /// and the sources that a FROM changes demand `PartiQLUpdate` or `PartiQLDelete` in place of that, and
-/// INSERT, CREATE and DROP demand their own action on the name as it is written. No statement demands
-/// `PartiQLRedact`, because the grammar has no statement that redacts; so the parameters say nothing yet.
+/// INSERT, CREATE and DROP demand their own action on the name as it is written. EXEC REDACT_REVISION
+/// demands `PartiQLRedact` on the text of its table's argument, the empty one where it is no text.
 pub fn demands(alloc: Global, s: &Statement, params: &[Value]) -> Result<Demands, OutOfMemory>
     requires { wanted s.now ≡ length params.now }
     ensures { IfOk result (λ all. all ≡ spec.demanded s.now params.now) }
@@ -42,6 +44,7 @@ pub fn demands(alloc: Global, s: &Statement, params: &[Value]) -> Result<Demands
         Statement::Create { table } => on_name(alloc, Action::PartiQLCreateTable, table),
         Statement::Index { table, field: _ } => on_name(alloc, Action::PartiQLCreateIndex, table),
         Statement::Drop { table } => on_name(alloc, Action::PartiQLDropTable, table),
+        Statement::Redact { table, .. } => of_redaction(alloc, table, params),
     }
 }
 
@@ -59,6 +62,35 @@ fn on_name(alloc: Global, action: Action, table: &Text) -> Result<Demands, OutOf
 {
     let mut all = Sequence::new(alloc);
     put(alloc, &mut all, action, table.as_str())?;
+    Ok(all)
+}
+
+/// The text that a symbol or a string is, or the empty one.
+fn text_or_empty(found: &Evaluated) -> &str
+    ensures { result.now ≡ spec.text_or_empty found.now }
+{
+    match found {
+        Evaluated::Missing => "",
+        Evaluated::Found(value) => match &value.body {
+            Body::Symbol(text) | Body::String(text) => text.as_str(),
+            _ => "",
+        },
+    }
+}
+
+/// The only demand is on the text of the argument that names the table.
+fn of_redaction(alloc: Global, table: &Expr, params: &[Value]) -> Result<Demands, OutOfMemory>
+    ensures { IfOk result (λ all. all
+        ≡ spec.demand Action.PartiQLRedact (spec.text_or_empty (meaning table.now (under [] params.now))) ∷ []) }
+{
+    let found = eval(alloc, table, &Sequence::new(alloc), params)?;
+    let mut all = Sequence::new(alloc);
+    put(
+        alloc,
+        &mut all,
+        Action::PartiQLRedact,
+        text_or_empty(&found),
+    )?;
     Ok(all)
 }
 

@@ -1,5 +1,5 @@
 -- Readings of what a transaction said and did are inverse to their writings.
-use Rattle.std.proofs.Common.{◌≡◌, ◌∙◌, ◌&&◌, ◌==◌, not, ℕ, suc, ◌^◌, Bool, true, false, List, [], ◌∷◌, map, length, Option, Some, None, refl, ap, subst, codes, bytes_eq, if◌then◌else◌, arith}
+use Rattle.std.proofs.Common.{◌≡◌, ◌∙◌, ◌&&◌, ◌==◌, ℕ, suc, ◌^◌, Bool, true, false, List, [], ◌∷◌, map, length, Option, Some, None, refl, ap, subst, codes, bytes_eq, if◌then◌else◌, arith}
 use Rattle.std.specs.Prelude.{option_map}
 use Rattle.std.specs.List.{list_all}
 use Rattle.std.specs.Cmp.Derive.{both_true}
@@ -18,14 +18,14 @@ use Rattle.ledger_model.specs.declared.block.Told.{Told}
 use Rattle.ledger_model.specs.declared.block.Told.TheVariants as told
 use Rattle.ledger_model.specs.declared.block.Info.{Info}
 use Rattle.ledger_model.specs.Values.{field, fields_in, list_in, string_in}
-use Rattle.ledger_model.specs.Journal.{structure, list, string, number, id_value, place_value, said_value, change_value, schema_value, document_value, document_values, info_value}
+use Rattle.ledger_model.specs.Journal.{structure, list, string, number, id_value, address_value, place_value, said_value, change_value, schema_value, document_value, document_values, info_value}
 use Rattle.ledger_model.specs.Script.{and_then}
-use Rattle.ledger_model.specs.Whole.{id_fits, table_fits, place_fits, schema_fits, info_fits, revision_fits, is_plain_change, is_redact, is_said}
-use Rattle.value_codec.specs.ReadParts.{named, number_in, id_in}
-use Rattle.block_form.specs.ReadBack.{place_of, place_in, said_of, said_in, change_of, schema_of, schema_in, table_of, table_in, tables_of, info_of, info_in}
+use Rattle.ledger_model.specs.Whole.{id_fits, table_fits, place_fits, schema_fits, info_fits, revision_fits, address_fits, is_said}
+use Rattle.value_codec.specs.ReadParts.{address_in, named, number_in, id_in}
+use Rattle.block_form.specs.ReadBack.{place_of, place_in, said_of, said_in, change_of, redaction_of, schema_of, schema_in, table_of, table_in, tables_of, info_of, info_in}
 use Rattle.value_codec.proofs.Inverse.{Gets, Puts, took, fields-gets, left, right, cons}
 use Rattle.value_codec.proofs.SmallParts.{fields-puts, list-gets, list-puts, string-gets, string-puts, below, number-gets, number-puts, id-gets, id-puts}
-use Rattle.value_codec.proofs.Fields.{named-is, taken, taken_all, always, each-puts, both_of, all_of}
+use Rattle.value_codec.proofs.Fields.{named-is, taken, taken_all, always, each-puts, address-gets, address-puts}
 
 -- ---- places
 
@@ -80,7 +80,7 @@ said-puts s fits = rw (fields-puts _, string-puts s.text, list-puts s.params, li
 
 -- the change is of this kind and fits where its table does
 abbrev IsChange : List ℕ → List ℕ → TableId → Schema → Type 0
-IsChange kind name table s = (change_value kind name table ≡ schema_value s) × (schema_fits s ≡ table_fits table) × (not (is_redact s) ≡ true)
+IsChange kind name table s = (change_value kind name table ≡ schema_value s) × (schema_fits s ≡ table_fits table)
 
 change_of-is : (kind name : List ℕ) (table : TableId) (s : Schema) → change_of kind name table ≡ Some s
     → IsChange kind name table s
@@ -90,46 +90,65 @@ change_of-is kind name table s e = go (bytes_eq kind (codes "create")) refl e wh
   at c made t e is =
       let same : made ≡ s = cc in
       let k : kind ≡ c = (bytes_eq-Decides kind c).0 t in
-      subst (λ x. IsChange kind name table x) same (ap (λ k. change_value k name table) k ∙ e.0, e.1, e.2)
+      subst (λ x. IsChange kind name table x) same (ap (λ k. change_value k name table) k ∙ e.0, e.1)
 
   third : (b : Bool) → bytes_eq kind (codes "drop") ≡ b → (if b then Some (Drop name table) else None) ≡ Some s
       → IsChange kind name table s
-  third true t e = at (codes "drop") (Drop name table) t (refl, refl, refl) e
+  third true t e = at (codes "drop") (Drop name table) t (refl, refl) e
   third false t e = cc
 
   second : (b : Bool) → bytes_eq kind (codes "index") ≡ b
       → (if b then Some (Index name table) else if bytes_eq kind (codes "drop") then Some (Drop name table) else None) ≡ Some s
       → IsChange kind name table s
-  second true t e = at (codes "index") (Index name table) t (refl, refl, refl) e
+  second true t e = at (codes "index") (Index name table) t (refl, refl) e
   second false t e = third (bytes_eq kind (codes "drop")) refl e
 
   go : (b : Bool) → bytes_eq kind (codes "create") ≡ b
       → (if b then Some (Create name table) else if bytes_eq kind (codes "index") then Some (Index name table) else if bytes_eq kind (codes "drop") then Some (Drop name table) else None) ≡ Some s
       → IsChange kind name table s
-  go true t e = at (codes "create") (Create name table) t (refl, refl, refl) e
+  go true t e = at (codes "create") (Create name table) t (refl, refl) e
   go false t e = second (bytes_eq kind (codes "index")) refl e
 
-schema_of-is : (fs : List Field) (s : Schema) → schema_of fs ≡ Some s → (structure fs ≡ schema_value s) × (is_plain_change s ≡ true)
+redaction_of-is : (fs : List Field) (s : Schema) → redaction_of fs ≡ Some s → (structure fs ≡ schema_value s) × (schema_fits s ≡ true)
+redaction_of-is (f ∷ g ∷ h ∷ []) s e =
+    let a = taken address_in address_value address_fits address-gets (codes "redact") f _ s e in
+    let b = taken id_in id_value id_fits id-gets (codes "tableId") g _ s a.3 in
+    let c = taken id_in id_value id_fits id-gets (codes "documentId") h _ s b.3 in
+    let made : Schema = Redact a.0 (record { raw = b.0 }) (record { raw = c.0 }) in
+    let same : made ≡ s = cc in
+    subst (λ (x : Schema). (structure (f ∷ g ∷ h ∷ []) ≡ schema_value x) × (schema_fits x ≡ true)) same
+    (ap structure (cons a.1 (cons b.1 (cons c.1 refl))), both_true (both_true a.2 b.2) c.2)
+redaction_of-is [] s e = cc
+redaction_of-is (f ∷ []) s e = cc
+redaction_of-is (f ∷ g ∷ []) s e = cc
+redaction_of-is (f ∷ g ∷ h ∷ i ∷ fs) s e = cc
+
+schema_of-is : (fs : List Field) (s : Schema) → schema_of fs ≡ Some s → (structure fs ≡ schema_value s) × (schema_fits s ≡ true)
 schema_of-is (f ∷ g ∷ []) s e =
     let a = took (string_in f.value) _ s e in
     let b = taken id_in id_value id_fits id-gets (codes "tableId") g _ s a.2 in
     let c = change_of-is f.name a.0 (record { raw = b.0 }) s b.3 in
-    (ap structure (cons (ap (field f.name) (string-gets f.value a.0 a.1)) (cons b.1 refl)) ∙ c.0, both_true (c.1 ∙ b.2) c.2)
+    (ap structure (cons (ap (field f.name) (string-gets f.value a.0 a.1)) (cons b.1 refl)) ∙ c.0, c.1 ∙ b.2)
 schema_of-is [] s e = cc
 schema_of-is (f ∷ []) s e = cc
-schema_of-is (f ∷ g ∷ h ∷ fs) s e = cc
+schema_of-is (f ∷ g ∷ h ∷ fs) s e = redaction_of-is (f ∷ g ∷ h ∷ fs) s e
 
-schema-gets : Gets schema_in schema_value is_plain_change
+schema-gets : Gets schema_in schema_value schema_fits
 schema-gets v s e =
     let t = took (fields_in v) schema_of s e in
     let c = schema_of-is t.0 s t.2 in
     (fields-gets v t.0 t.1 ∙ c.0, c.1)
 
-schema-puts : Puts schema_in schema_value is_plain_change
-schema-puts (Create name table) fits = let a = id-puts table.raw (left (table_fits table) _ fits) in rw (fields-puts _, string-puts name, a) refl
-schema-puts (Index name table) fits = let a = id-puts table.raw (left (table_fits table) _ fits) in rw (fields-puts _, string-puts name, a) refl
-schema-puts (Drop name table) fits = let a = id-puts table.raw (left (table_fits table) _ fits) in rw (fields-puts _, string-puts name, a) refl
-schema-puts (Redact address table document) fits = let bad : false ≡ true = right (schema_fits (Redact address table document)) _ fits in cc
+schema-puts : Puts schema_in schema_value schema_fits
+schema-puts (Create name table) fits = let a = id-puts table.raw fits in rw (fields-puts _, string-puts name, a) refl
+schema-puts (Index name table) fits = let a = id-puts table.raw fits in rw (fields-puts _, string-puts name, a) refl
+schema-puts (Drop name table) fits = let a = id-puts table.raw fits in rw (fields-puts _, string-puts name, a) refl
+schema-puts (Redact address table document) fits =
+    let both = left (address_fits address && table_fits table) _ fits in
+    let a = address-puts address (left (address_fits address) _ both) in
+    let b = id-puts table.raw (right (address_fits address) _ both) in
+    let c = id-puts document.raw (right (address_fits address && table_fits table) _ fits) in
+    rw (fields-puts _, a, b, c) refl
 
 -- ---- documents
 
@@ -199,7 +218,7 @@ tables-puts (t ∷ ts) (r ∷ rs) long fits revisions =
 -- ---- the whole
 
 abbrev pub is_plain_info : Info → Bool
-is_plain_info i = is_said i.said && list_all (λ c. not (is_redact c)) i.schema
+is_plain_info i = is_said i.said
 
 -- the value holds what was said and done, which fits
 abbrev pub IsInfo : Value → List Revision → Info → Type 0
@@ -210,19 +229,18 @@ info_of-is : (rs : List Revision) (fs : List Field) (i : Info) → info_of rs fs
 info_of-is rs (f ∷ g ∷ h ∷ j ∷ []) i e =
     let a = taken place_in place_value place_fits place-gets (codes "place") f _ i e in
     let b = taken_all said_in said_value always said-gets (codes "statements") g _ i a.3 in
-    let c = taken_all schema_in schema_value is_plain_change schema-gets (codes "schema") h _ i b.3 in
+    let c = taken_all schema_in schema_value schema_fits schema-gets (codes "schema") h _ i b.3 in
     let d = took (and_then (and_then (named (codes "documents") j) list_in) (λ values. tables_of values rs)) _ i c.3 in
     let u = took (and_then (named (codes "documents") j) list_in) (λ values. tables_of values rs) d.0 d.1 in
     let w = took (named (codes "documents") j) list_in u.0 u.1 in
     let s = tables-gets u.0 rs d.0 u.2 in
-    let changes = both_of schema_fits (λ x. not (is_redact x)) c.0 c.2 in
     let made : Info = record { place = a.0; said = told.Said b.0; schema = c.0; tables = d.0 } in
     let same : made ≡ i = cc in
     subst (λ (x : Info). IsInfo (structure (f ∷ g ∷ h ∷ j ∷ [])) rs x) same (
       ap structure (cons a.1 (cons b.1 (cons c.1 (cons (named-is (codes "documents") j w.0 w.1 ∙ ap (field (codes "documents")) (list-gets w.0 u.0 w.2 ∙ ap list s.0)) refl)))),
-      both_true (both_true (both_true a.2 changes.0) s.1) refl,
+      both_true (both_true (both_true a.2 c.2) s.1) refl,
       s.2,
-      changes.1,
+      refl,
     )
 info_of-is rs [] i e = cc
 info_of-is rs (f ∷ []) i e = cc
@@ -250,10 +268,9 @@ put_info : (rs : List Revision) (place : Place) (t : Told) (schema : List Schema
 put_info rs place (told.Said said) schema tables fits plain long revisions =
     let three = left (place_fits place && list_all schema_fits schema && list_all table_fits tables) _ fits in
     let two = left (place_fits place && list_all schema_fits schema) _ three in
-    let changes = all_of schema_fits (λ x. not (is_redact x)) schema (right (place_fits place) _ two) plain in
     let a = place-puts place (left (place_fits place) _ two) in
     let b = each-puts said_in said_value always said-puts said (all_always said) in
-    let c = each-puts schema_in schema_value is_plain_change schema-puts schema changes in
+    let c = each-puts schema_in schema_value schema_fits schema-puts schema (right (place_fits place) _ two) in
     let d = tables-puts tables rs long (right (place_fits place && list_all schema_fits schema) _ three) revisions in
     rw (fields-puts _, a, list-puts (map said_value said), b, list-puts (map schema_value schema), c, list-puts (document_values tables rs), d) refl
 put_info rs place (told.Hashed hash) schema tables fits plain long revisions = cc

@@ -1,18 +1,24 @@
 -- The hashes of those parts of a block that stand in its value as they are hashed (Ion Hash 1.0): what it said and
 -- did, and each revision's metadata. And what is read of a value whose hashes are checked.
-use Rattle.std.specs.Prelude.{◌≡◌, ◌≢◌, List, [], ◌∷◌, map, slice_get, Option, Some, None, option_map}
-use Rattle.hash_model.specs.Serialize.{hash_of}
+use Rattle.std.specs.Prelude.{◌≡◌, ◌≢◌, ℕ, List, [], ◌∷◌, map, codes, slice_get, Option, Some, None, option_map, if◌then◌else◌}
+use Rattle.std.specs.Str.{bytes_eq}
+use Rattle.hash_model.specs.Serialize.{field_hash, hash_of, struct_hash}
 use Rattle.ion_values.specs.declared.value.Value.{Value}
 use Rattle.ion_values.specs.declared.value.Field.{Field}
 use Rattle.ql_types.specs.declared.Hash32.{Hash32}
 use Rattle.ledger_model.specs.declared.block.Revision.{Revision}
+use Rattle.ledger_model.specs.declared.block.Told.{Told}
+use Rattle.ledger_model.specs.declared.block.Told.TheVariants as told
 use Rattle.ledger_model.specs.declared.block.Block.{Block}
 use Rattle.ledger_model.specs.Values.{list_in, fields_in}
 use Rattle.ledger_model.specs.Script.{and_then, each}
-use Rattle.ledger_model.specs.Journal.{metadata_value, info_value, block_value}
+use Rattle.ledger_model.specs.Journal.{metadata_value, block_value}
+use Rattle.ledger_model.specs.Seals.{info_hash}
+use Rattle.ledger_model.specs.Whole.{IsWhole}
 use Rattle.ledger_model.specs.Damages as damages
 use Rattle.block_form.specs.declared.part_hashes.PartHashes.{PartHashes}
 use Rattle.block_form.specs.declared.checked.CheckedBlock.{CheckedBlock}
+use Rattle.value_codec.specs.ReadParts.{hash_in}
 use Rattle.block_form.specs.ReadBack.{IsReadAs}
 
 -- ---- of a block
@@ -21,9 +27,27 @@ abbrev pub metadata_hash : Revision → Hash32
 metadata_hash r = hash_of (metadata_value r.metadata)
 
 abbrev pub part_hashes : Block → PartHashes
-part_hashes b = record { said = hash_of (info_value b.info b.revisions); metadata = map metadata_hash b.revisions }
+part_hashes b = record { said = info_hash b.info b.revisions; metadata = map metadata_hash b.revisions }
+
+-- by the fields of what the block said and did, of which the second has the statements or their hash
+abbrev pub hash_told : Told → Field → List ℕ
+hash_told (told.Said said) f = field_hash f
+hash_told (told.Hashed hash) f = hash.bytes
+
+abbrev pub hashes_told : Told → List Field → List (List ℕ)
+hashes_told t (place ∷ said ∷ more) = field_hash place ∷ hash_told t said ∷ map field_hash more
+hashes_told t fields = map field_hash fields
 
 -- ---- of the block whose value this is
+
+-- of a field of what it said and did, or the hash that is stored for the statements
+abbrev pub hash_for : Field → Option (List ℕ)
+hash_for f =
+    if bytes_eq f.name (codes "statementsHash") then option_map (λ (h : Hash32). h.bytes) (hash_in f.value)
+    else Some (field_hash f)
+
+abbrev pub info_hash_in : Value → Option Hash32
+info_hash_in v = option_map struct_hash (and_then (fields_in v) (each hash_for))
 
 -- the last field of a revision has its metadata
 abbrev pub last_field : List Field → Option Field
@@ -40,15 +64,16 @@ part_hashes_of fields =
     and_then (slice_get fields 7) (λ (info : Field).
     and_then (slice_get fields 8) (λ (revisions : Field).
     and_then (and_then (list_in revisions.value) (each metadata_hash_in)) (λ (metadata : List Hash32).
-    Some (record { said = hash_of info.value; metadata = metadata }))))
+    and_then (info_hash_in info.value) (λ (said : Hash32).
+    Some (record { said = said; metadata = metadata })))))
 
 abbrev pub part_hashes_in : Value → Option PartHashes
 part_hashes_in v = and_then (fields_in v) part_hashes_of
 
--- these are the hashes of the parts of the block whose value this is, or it is the value of no block
+-- these are the hashes of the parts of the block whose value this is, or it is the value of no whole block
 abbrev pub TellParts : Value → Option PartHashes → Type 0
 TellParts v (Some p) = (b : Block) → v ≡ block_value b → p ≡ part_hashes b
-TellParts v None = (b : Block) → v ≢ block_value b
+TellParts v None = (b : Block) → IsWhole b → v ≢ block_value b
 
 -- ---- blocks whose hashes are checked
 

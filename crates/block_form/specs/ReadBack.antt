@@ -1,6 +1,6 @@
 -- The parts of blocks read back from values (Ion 1.0, "The Ion data model"): each reading gives the part whose value
 -- it is given, and None for a value of no part. Fields stand in the written order, with none beside them. Hashes in
--- place of data and of statements and entries of redactions are read as no part, since no block has them so far.
+-- place of data and of statements are read as no part, since no block has them so far.
 use Rattle.std.specs.Prelude.{◌≡◌, ◌≢◌, ◌&&◌, IsTrue, nat_le, ℕ, ◌^◌, ◌==◌, nat_lt, List, [], ◌∷◌, take, drop, length, codes, Option, Some, None, option_map, if◌then◌else◌}
 use Rattle.std.specs.List.{list_all}
 use Rattle.std.specs.Str.{bytes_eq}
@@ -13,7 +13,7 @@ use Rattle.ql_types.specs.declared.Place.{Place}
 use Rattle.ql_types.specs.declared.TableId.{TableId}
 use Rattle.ledger_model.specs.declared.block.Said.{Said}
 use Rattle.ledger_model.specs.declared.block.Schema.{Schema}
-use Rattle.ledger_model.specs.declared.block.Schema.TheVariants.{Create, Index, Drop}
+use Rattle.ledger_model.specs.declared.block.Schema.TheVariants.{Create, Index, Drop, Redact}
 use Rattle.ledger_model.specs.declared.block.Content.{Content}
 use Rattle.ledger_model.specs.declared.block.Content.TheVariants.{Deleted, Kept}
 use Rattle.ledger_model.specs.declared.block.Metadata.{Metadata}
@@ -94,11 +94,20 @@ change_of kind name table =
     else if bytes_eq kind (codes "drop") then Some (Drop name table)
     else None
 
+-- the revision of a document in the block at this address
+abbrev pub redaction_of : List Field → Option Schema
+redaction_of (f ∷ g ∷ h ∷ []) =
+    and_then (and_then (named (codes "redact") f) address_in) (λ address.
+    and_then (and_then (named (codes "tableId") g) id_in) (λ table.
+    and_then (and_then (named (codes "documentId") h) id_in) (λ document.
+    Some (Redact address (record { raw = table }) (record { raw = document })))))
+redaction_of _ = None
+
 abbrev pub schema_of : List Field → Option Schema
 schema_of (f ∷ g ∷ []) =
     and_then (string_in f.value) (λ name.
     and_then (and_then (named (codes "tableId") g) id_in) (λ table. change_of f.name name (record { raw = table })))
-schema_of _ = None
+schema_of fields = redaction_of fields
 
 abbrev pub schema_in : Value → Option Schema
 schema_in v = and_then (fields_in v) schema_of

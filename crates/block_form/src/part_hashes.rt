@@ -1,15 +1,17 @@
 //! The hashes of those parts of a block that stand in its value as they are hashed.
-ghost use Rattle.std.specs.Prelude.{◌≡◌, IfOk};
+ghost use Rattle.std.specs.Prelude.{◌≡◌, IfOk, option_map};
 ghost use Rattle.std.specs.Option.{option_copied};
+ghost use Rattle.ql_types.specs.declared.Hash32 as declared;
 ghost use Rattle.ledger_model.specs.Script.{each};
+ghost use Rattle.value_codec.specs.ReadParts.{hash_in};
 ghost use Rattle.block_form.specs.Hashed as spec;
 
 use containers::Sequence;
-use ion_hash::hash;
+use ion_hash::{field_hash, hash, struct_hash};
 use ion_values::{Field, Fields, OutOfMemory, Value};
 use ql_types::Hash32;
 use std::alloc::Global;
-use value_codec::read_parts::{fields_in, list_in};
+use value_codec::read_parts::{fields_in, hash_in, list_in};
 
 /// The hashes of what a block said and did, and of each revision's metadata.
 #[derive(Drop)]
@@ -58,6 +60,52 @@ fn metadata_hashes_in(
     Ok(Some(Sequence::from_vec(hashes)))
 }
 
+/// The hash of a field of what a block said and did, or the one that is stored for its statements.
+fn hash_for(alloc: Global, field: &Field) -> Result<Option<[u8; 32]>, OutOfMemory>
+    ensures { IfOk result (λ found. found ≡ spec.hash_for field.now) }
+{
+    if field.name.as_str() == "statementsHash" {
+        return Ok(stored_in(&field.value));
+    }
+    let hash = field_hash(alloc, field)?;
+    Ok(Some(hash))
+}
+
+/// The bytes of a hash that is stored.
+fn stored_in(v: &Value) -> Option<[u8; 32]>
+    ensures { result ≡ option_map (λ (h : declared.Hash32). h.bytes) (hash_in v.now) }
+{
+    let hash = hash_in(v)?;
+    Some(hash.bytes)
+}
+
+fn hashes_for(alloc: Global, fields: &[Field]) -> Result<Option<Sequence<[u8; 32]>>, OutOfMemory>
+    ensures { IfOk result (λ found. found ≡ each spec.hash_for fields.now) }
+{
+    let mut hashes = Vec::with_capacity(alloc, fields.len())?;
+    'fields: for field in fields {
+        match hash_for(alloc, field)? {
+            Some(computed) => hashes.push(computed)?,
+            None => return Ok(None),
+        }
+    }
+    Ok(Some(Sequence::from_vec(hashes)))
+}
+
+/// The hash of what a block said and did, by its value.
+fn info_hash_in(alloc: Global, v: &Value) -> Result<Option<Hash32>, OutOfMemory>
+    ensures { IfOk result (λ found. found ≡ spec.info_hash_in v.now) }
+{
+    let Some(fields) = fields_in(v) else {
+        return Ok(None);
+    };
+    let Some(hashes) = hashes_for(alloc, fields.as_slice())? else {
+        return Ok(None);
+    };
+    let computed = struct_hash(alloc, hashes.into_vec())?;
+    Ok(Some(computed))
+}
+
 fn part_hashes_of(alloc: Global, fields: &Fields) -> Result<Option<PartHashes>, OutOfMemory>
     ensures { IfOk result (λ found. found ≡ spec.part_hashes_of fields.now) }
 {
@@ -73,7 +121,9 @@ fn part_hashes_of(alloc: Global, fields: &Fields) -> Result<Option<PartHashes>, 
     let Some(metadata) = metadata_hashes_in(alloc, values.as_slice())? else {
         return Ok(None);
     };
-    let said = hash(alloc, &info.value)?;
+    let Some(said) = info_hash_in(alloc, &info.value)? else {
+        return Ok(None);
+    };
     Ok(Some(PartHashes { said, metadata }))
 }
 
@@ -87,7 +137,7 @@ fn computed_in(alloc: Global, v: &Value) -> Result<Option<PartHashes>, OutOfMemo
     Ok(found)
 }
 
-/// The hashes of the parts of the block whose value this is. None comes only where it is the value of no block.
+/// The hashes of the parts of the block whose value this is. None comes only where it is the value of no whole block.
 pub fn part_hashes_in(alloc: Global, v: &Value) -> Result<Option<PartHashes>, OutOfMemory>
     ensures { IfOk result (λ found. spec.TellParts v.now found) }
 {

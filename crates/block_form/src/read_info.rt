@@ -8,9 +8,9 @@ ghost use Rattle.block_form.specs.ReadBack as spec;
 use containers::Sequence;
 use ion_values::{Field, Fields, OutOfMemory, Text, Value, Values};
 use ledger_model::{Answer, Info, Revision, Said, SaidList, Schema, SchemaList, TableIds, Told};
-use ql_types::{Place, TableId};
+use ql_types::{DocId, Place, TableId};
 use std::alloc::Global;
-use value_codec::read_parts::{fields_in, id_in, list_in, named, small_number_in};
+use value_codec::read_parts::{address_in, fields_in, id_in, list_in, named, small_number_in};
 use value_codec::takes::{into_fields, into_members, into_string, into_text, with_room};
 
 fn place_in(v: &Value) -> Option<Place>
@@ -89,11 +89,28 @@ fn change_of(kind: &str, name: Text, table: TableId) -> Option<Schema>
     None
 }
 
+/// The redaction of the revision of a document in the block at an address.
+fn redaction_of(fields: &Fields) -> Option<Schema>
+    ensures { result ≡ spec.redaction_of fields.now }
+{
+    let [address, table, document] = fields.as_slice() else {
+        return None;
+    };
+    let address = address_in(named(address, "redact")?)?;
+    let table = raw_in(table, "tableId")?;
+    let document = raw_in(document, "documentId")?;
+    Some(Schema::Redact {
+        address,
+        table: TableId { raw: table },
+        document: DocId { raw: document },
+    })
+}
+
 fn schema_of(fields: Fields) -> Option<Schema>
     ensures { result ≡ spec.schema_of fields }
 {
     if fields.len() != 2 {
-        return None;
+        return redaction_of(&fields);
     }
     let mut fields = fields;
     let table = fields.pop()?;

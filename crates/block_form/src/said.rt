@@ -1,6 +1,6 @@
 //! What a transaction said and did, as a value.
 ghost use Rattle.std.specs.Prelude.{◌≡◌, ◌++◌, [], ◌∷◌, map, IfOk, OnOk};
-ghost use Rattle.ledger_model.specs.Journal.{list, place_value, said_value, told_field, change_value, redact_value, schema_value, document_value, document_values, info_value};
+ghost use Rattle.ledger_model.specs.Journal.{list, place_value, said_value, told_field, change_value, redact_value, schema_value, document_value, document_values, info_fields, info_value};
 
 use containers::Sequence;
 use ion_values::{Fields, OutOfMemory, Text, Value, Values, copy_values};
@@ -170,8 +170,13 @@ fn document_values(
     Ok(values)
 }
 
-pub fn info_value(alloc: Global, info: &Info, revisions: &[Revision]) -> Result<Value, OutOfMemory>
-    ensures { IfOk result (λ v. v ≡ info_value info.now revisions.now) }
+/// The fields of what a transaction said and did.
+pub fn info_fields(
+    alloc: Global,
+    info: &Info,
+    revisions: &[Revision],
+) -> Result<Fields, OutOfMemory>
+    ensures { IfOk result (λ fields. fields ≡ info_fields info.now revisions.now) }
 {
     let schema = schema_values(alloc, info.schema.as_slice())?;
     let documents = document_values(alloc, info.tables.as_slice(), revisions)?;
@@ -185,5 +190,13 @@ pub fn info_value(alloc: Global, info: &Info, revisions: &[Revision]) -> Result<
     put_told(alloc, &mut fields, &info.said)?;
     put(alloc, &mut fields, "schema", list(alloc, schema))?;
     put(alloc, &mut fields, "documents", list(alloc, documents))?;
+    Ok(fields)
+}
+
+/// What a transaction said and did, as a value.
+pub fn info_value(alloc: Global, info: &Info, revisions: &[Revision]) -> Result<Value, OutOfMemory>
+    ensures { IfOk result (λ v. v ≡ info_value info.now revisions.now) }
+{
+    let fields = info_fields(alloc, info, revisions)?;
     Ok(structure(alloc, fields))
 }

@@ -1,21 +1,22 @@
 //! The hashes of revisions and blocks.
-ghost use Rattle.std.specs.Prelude.{◌≡◌, map, IfOk};
-ghost use Rattle.hash_model.specs.Serialize.{hash_of};
-ghost use Rattle.ledger_model.specs.Journal.{block_value, header_value, info_value, metadata_value, revision_value};
-ghost use Rattle.ledger_model.specs.Seals.{revision_hash, entries_hash, revisions_root, sealed, strand_hash};
+ghost use Rattle.std.specs.Prelude.{◌≡◌, length, map, IfOk};
+ghost use Rattle.hash_model.specs.Serialize.{hash_of, struct_hash};
+ghost use Rattle.ledger_model.specs.Journal.{block_value, header_value, info_fields, info_value, metadata_value, revision_value};
+ghost use Rattle.ledger_model.specs.Seals.{revision_hash, entries_hash, info_hash, revisions_root, sealed, strand_hash};
+ghost use Rattle.block_form.specs.Hashed as spec;
 
 use crate::revisions::{metadata_value, revision_with};
-use crate::said::info_value;
+use crate::said::info_fields;
 use crate::values::{header_value, value_with};
 use containers::Sequence;
-use ion_hash::hash;
-use ion_values::{OutOfMemory, Value, Values};
-use ledger_model::{Block, Content, Header, Info, Metadata, Revision, Revisions};
+use ion_hash::{field_hash, hash, struct_hash};
+use ion_values::{Field, OutOfMemory, Value, Values};
+use ledger_model::{Block, Content, Header, Info, Metadata, Revision, Revisions, Told};
 use pad_tree::root;
 use pair_hash::dot_full;
 use ql_types::{BlockAddress, Hash, Hash32, StrandId};
 use std::alloc::Global;
-use value_codec::parts::id_value;
+use value_codec::parts::{id_value, structure};
 
 /// The hash of a revision: that of its metadata with that of its data, which may stand for the data, or of its metadata
 /// alone where it is a delete.
@@ -88,6 +89,47 @@ pub fn header_hash(alloc: Global, header: &Header) -> Result<Hash32, OutOfMemory
     hash(alloc, &header_value(alloc, header)?)
 }
 
+/// The hash of the statements' field, or the one that stands in its place.
+fn told_hash(alloc: Global, told: &Told, field: &Field) -> Result<[u8; 32], OutOfMemory>
+    ensures { IfOk result (λ hash. hash ≡ spec.hash_told told.now field.now) }
+{
+    match told {
+        Told::Said(_) => field_hash(alloc, field),
+        Told::Hashed(hash) => Ok(hash.bytes),
+    }
+}
+
+/// The hash of what a transaction said and did, by its four fields.
+fn hash_of_told(alloc: Global, told: &Told, fields: &[Field]) -> Result<Hash32, OutOfMemory>
+    requires { length fields.now ≡ 4 }
+    ensures { IfOk result (λ hash. hash ≡ struct_hash (spec.hashes_told told.now fields.now)) }
+{
+    let [place, said, schema, documents] = fields else {
+        unreachable!();
+    };
+    let mut hashes = Vec::with_capacity(alloc, 4)?;
+    hashes.push(field_hash(alloc, place)?)?;
+    hashes.push(told_hash(alloc, told, said)?)?;
+    hashes.push(field_hash(alloc, schema)?)?;
+    hashes.push(field_hash(alloc, documents)?)?;
+    struct_hash(alloc, hashes)
+}
+
+/// What a transaction said and did, as a value and its hash.
+#[tactic(auto, unfolding(ledger_model::specs::Seals::info_hash), using(crate::proofs::Hashing::told_same))]
+fn info_and_hash(
+    alloc: Global,
+    info: &Info,
+    revisions: &[Revision],
+) -> Result<(Value, Hash32), OutOfMemory>
+    ensures value { IfOk result (λ made. made.0 ≡ info_value info.now revisions.now) }
+    ensures hash { IfOk result (λ made. made.1 ≡ info_hash info.now revisions.now) }
+{
+    let fields = info_fields(alloc, info, revisions)?;
+    let hash = hash_of_told(alloc, &info.said, fields.as_slice())?;
+    Ok((structure(alloc, fields), hash))
+}
+
 /// The root of the tree over the revisions' hashes.
 pub fn revisions_root(alloc: Global, revisions: &[Revision]) -> Result<Hash, OutOfMemory>
     ensures { IfOk result (λ h. h ≡ revisions_root revisions.now) }
@@ -121,8 +163,8 @@ pub fn seal(
     ensures { IfOk result (λ block. block ≡ sealed previous header info revisions) }
 {
     let head = header_value(alloc, &header)?;
-    let told = info_value(alloc, &info, revisions.as_slice())?;
-    let list = hash_list(alloc, &told, revisions.as_slice(), &head)?;
+    let (_told, said) = info_and_hash(alloc, &info, revisions.as_slice())?;
+    let list = hash_list(alloc, said, revisions.as_slice(), &head)?;
     Ok(sealed(previous, header, info, revisions, &list))
 }
 
@@ -148,8 +190,8 @@ pub fn seal_with_value(
 {
     let Valued { revisions, values } = valued;
     let head = header_value(alloc, &header)?;
-    let told = info_value(alloc, &info, revisions.as_slice())?;
-    let list = hash_list(alloc, &told, revisions.as_slice(), &head)?;
+    let (told, said) = info_and_hash(alloc, &info, revisions.as_slice())?;
+    let list = hash_list(alloc, said, revisions.as_slice(), &head)?;
     let block = sealed(previous, header, info, revisions, &list);
     let value = value_with(alloc, &block, head, told, values)?;
     Ok((block, value))
@@ -163,20 +205,19 @@ struct HashList {
     header: Hash32,
 }
 
-/// The hashes of a block, by the value of what it says, its revisions and the value of its header.
+/// The hashes of a block, by the hash of what it says, its revisions and the value of its header.
 fn hash_list(
     alloc: Global,
-    told: &Value,
+    said: Hash32,
     revisions: &[Revision],
     head: &Value,
 ) -> Result<HashList, OutOfMemory>
     ensures { IfOk result (λ list. list ≡ record {
-      said = hash_of told.now;
+      said = said;
       revisions = revisions_root revisions.now;
       header = hash_of head.now;
     }) }
 {
-    let said = hash(alloc, told)?;
     let revisions = revisions_root(alloc, revisions)?;
     let header = hash(alloc, head)?;
     Ok(HashList {
@@ -194,7 +235,7 @@ fn sealed(
     revisions: Revisions,
     list: &HashList,
 ) -> Block
-    requires said { list.now.said ≡ hash_of (info_value info revisions) }
+    requires said { list.now.said ≡ info_hash info revisions }
     requires revisions { list.now.revisions ≡ revisions_root revisions }
     requires header { list.now.header ≡ hash_of (header_value header) }
     ensures { result ≡ sealed previous header info revisions }

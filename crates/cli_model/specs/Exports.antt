@@ -6,7 +6,7 @@ use Rattle.ion_values.specs.declared.value.Value.{Value}
 use Rattle.ledger_model.specs.declared.block.Block.{Block}
 use Rattle.ledger_model.specs.Journal.{block_value}
 
--- The blocks without what was redacted. No block redacts anything yet, so they stay as they are.
+-- The blocks that are exported: those of the journal, which keeps the data of redacted revisions.
 abbrev pub compacted : List Block → List Block
 compacted blocks = blocks
 

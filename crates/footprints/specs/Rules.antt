@@ -57,3 +57,4 @@ footprint_with (statement.Select select from) own = names_read from.sources ++ o
 footprint_with (statement.Update from change) own = names_read from.sources ++ own
 footprint_with (statement.From from change) own = names_read from.sources ++ own
 footprint_with (statement.Delete from) own = names_read from.sources ++ own
+footprint_with (statement.Redact address table document) own = own

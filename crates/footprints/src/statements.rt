@@ -28,6 +28,7 @@ pub fn footprint(
         | Statement::Update { from, .. }
         | Statement::From { from, .. }
         | Statement::Delete { from } => read_by_sources(alloc, from.sources.as_slice(), own),
+        Statement::Redact { .. } => Ok(Sequence::from_vec(own)),
     }
 }
 

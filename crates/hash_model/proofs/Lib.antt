@@ -1,3 +1,4 @@
 pub mod Digits
 mod SerializeRows
 pub mod UtcDates
+pub mod StructHash

@@ -130,3 +130,7 @@ field_hash = fold-Field (List ℕ) (List ℕ) (List ℕ) body_step field_step va
 -- the hash of a value
 unfoldable pub hash_of : Value → Hash32
 hash_of v = record { bytes = sha256 (serialize v) }
+
+-- the hash of a struct without annotations, from the hashes of its fields
+unfoldable pub struct_hash : List (List ℕ) → Hash32
+struct_hash hashes = record { bytes = sha256 (struct_bytes hashes) }

@@ -5,4 +5,4 @@ mod fields;
 mod scalars;
 mod values;
 
-pub use values::{hash, serialize};
+pub use values::{field_hash, hash, serialize, struct_hash};

@@ -2,7 +2,7 @@
 ghost use Rattle.std.specs.Prelude.{◌≡◌, ◌++◌, map, IfOk, OnOk};
 ghost use Rattle.std.specs.List.{flat_map};
 ghost use Rattle.sha2.specs.Sha256.{sha256};
-ghost use Rattle.hash_model.specs.Serialize.{annotated, field_digest, field_hash, hash_of, joined, serialize, serialize_body, symbol_bytes};
+ghost use Rattle.hash_model.specs.Serialize.{annotated, field_digest, field_hash, hash_of, joined, serialize, serialize_body, struct_bytes, struct_hash, symbol_bytes};
 
 use super::fields::{ordered, put_hashes};
 use super::scalars::{
@@ -33,6 +33,38 @@ pub fn hash(alloc: Global, v: &Value) -> Result<Hash32, OutOfMemory>
     Ok(Hash32 {
         bytes: Sha256::digest(bytes.as_slice()),
     })
+}
+
+/// The hash of a field: of its name as a symbol, and of its value.
+pub fn field_hash(alloc: Global, field: &Field) -> Result<[u8; 32], OutOfMemory>
+    ensures { IfOk result (λ hash. hash ≡ field_hash field.now) }
+{
+    let mut out = Buffer::new(alloc)?;
+    let hash = hash_field(alloc, &mut out, field)?;
+    Ok(hash)
+}
+
+/// The hash of a struct without annotations, from the hashes of its fields.
+#[tactic(auto, unfolding(hash_model::specs::Serialize::struct_hash))]
+pub fn struct_hash(alloc: Global, hashes: Vec<[u8; 32]>) -> Result<Hash32, OutOfMemory>
+    ensures { IfOk result (λ hash. hash ≡ struct_hash hashes.items) }
+{
+    let mut out = Buffer::new(alloc)?;
+    put_struct(&mut out, hashes)?;
+    Ok(Hash32 {
+        bytes: Sha256::digest(out.as_slice()),
+    })
+}
+
+/// Puts a struct whose fields have these hashes.
+fn put_struct(out: &mut Buffer, hashes: Vec<[u8; 32]>) -> Result<(), OutOfMemory>
+    ensures { OnOk result (out.new ≡ out.old ++ struct_bytes hashes.items) }
+{
+    let hashes = ordered(hashes)?;
+    out.push(BEGIN)?;
+    out.push(0xD0)?;
+    put_hashes(out, &hashes)?;
+    out.push(END)
 }
 
 #[cycle(serialize)]
@@ -85,11 +117,8 @@ fn put_body(alloc: Global, out: &mut Buffer, body: &Body) -> Result<(), OutOfMem
             out.push(END)
         }
         Body::Struct(fields) => {
-            let hashes = ordered(hashes_of(alloc, out, fields.as_slice())?)?;
-            out.push(BEGIN)?;
-            out.push(0xD0)?;
-            put_hashes(out, &hashes)?;
-            out.push(END)
+            let hashes = hashes_of(alloc, out, fields.as_slice())?;
+            put_struct(out, hashes)
         }
     }
 }

@@ -1,11 +1,8 @@
--- What the checks of a block come to, and a registry of no blocks.
+-- What the checks of a block come to.
 use Rattle.std.proofs.Common.{◌≡◌, ◌∙◌, ℕ, Bool, true, false, ◌&&◌, ◌||◌, ◌==◌, List, [], ◌∷◌, ◌++◌, ◌<◌, ◌^◌, not, nat_le, nat_lt, refl, sym, ap, subst}
 use Rattle.std.specs.List.{filter, list_all, list_any}
 use Rattle.std.specs.Ordering.{eq_by_cmp, nat_cmp}
 use Rattle.std.specs.Cmp.{nat_eq_equiv}
-use Rattle.std.specs.Map.{lookup}
-use Rattle.std.proofs.lemmas.Map.Text.{text_cmp}
-use Rattle.std.specs.BTreeMap.{is_at}
 use Rattle.std.specs.BTreeSet.{BTreeSet, IsFromIterResult}
 use Rattle.std.proofs.lemmas.Bool.{and_left, and_parts, ltb-true, or_left}
 use Rattle.ql_types.specs.declared.TableId.{TableId}
@@ -16,10 +13,8 @@ use Rattle.ledger_model.specs.declared.block.Schema.{Schema}
 use Rattle.ledger_model.specs.State.{State, Recorded, Table, recorded_in}
 use Rattle.ledger_model.specs.Damages.{has_id}
 use Rattle.ledger_model.specs.Follows.{all_differ, continues, created_ids, document_ids, follows, has_table, ids_follow, is_active, is_made_by, is_new, is_of, latest_of, made_ids, revision_follows, schema_follows}
-use Rattle.journal_text.specs.declared.registry.Registry.{Registry}
-use Rattle.journal_text.specs.declared.registry.tables.Tables.{Tables}
-use Rattle.journal_text.specs.Stands.{DocumentsStand, HasKeys, Stands, TablesStand, has_transaction}
-use Rattle.journal_text.proofs.Fields.{is_eq-nat_cmp, query}
+use Rattle.journal_text.specs.Stands.{HasKeys, has_transaction}
+use Rattle.journal_text.proofs.Fields.{is_eq-nat_cmp}
 
 -- ---- the parts of a check
 
@@ -173,22 +168,3 @@ pub created_keys : (b : Block) (set : BTreeSet ℕ) (slice ids : List ℕ) (sche
     → schema ≡ b.info.schema → HasKeys set (created_ids b.info.schema)
 created_keys b set slice ids schema h same spelled schemas =
     has_keys set (created_ids b.info.schema) (subst (λ (xs : List ℕ). IsFromIterResult nat_cmp xs set) (same ∙ spelled ∙ ap created_ids schemas) h)
-
--- ---- no blocks
-
-pub new_tables : (r : Tables) → r.names.entries ≡ [] → r.active.keys ≡ [] → r.indexes.keys ≡ [] → TablesStand [] [] r
-new_tables r names active indexes = record {
-  names = λ q. ap (λ es. lookup (is_at (text_cmp q)) es) names;
-  active = λ q. ap (λ ks. list_any (is_at (nat_cmp q)) ks) active;
-  fields = λ q f. ap (λ ks. list_any (is_at (query q f)) ks) indexes;
-  differ = refl;
-}
-
-pub new_registry : (strand : ℕ) (r : Registry) → r.transactions.keys ≡ [] → TablesStand [] [] r.tables → DocumentsStand [] r.documents → Stands strand [] r
-new_registry strand r transactions tables documents = record {
-  transactions = λ q. ap (λ ks. list_any (is_at (nat_cmp q)) ks) transactions;
-  tables = tables;
-  documents = documents;
-  ids = refl;
-  makers = refl;
-}

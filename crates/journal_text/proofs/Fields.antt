@@ -27,7 +27,7 @@ below_apart a b h = ne_eqb a b (λ e. absurd (omega arith))
 pub is_eq-nat_cmp : (a b : ℕ) → is_eq (nat_cmp a b) ≡ (a == b)
 is_eq-nat_cmp a b = compared (nat_lt a b) (a == b) (λ l. below_apart a b (ltb-true a b l))
 
-is_eq-both : (a b : Ordering) → is_eq (ordering_then a b) ≡ (is_eq a && is_eq b)
+pub is_eq-both : (a b : Ordering) → is_eq (ordering_then a b) ≡ (is_eq a && is_eq b)
 is_eq-both Less b = refl
 is_eq-both Equal b = refl
 is_eq-both Greater b = refl

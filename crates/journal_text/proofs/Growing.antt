@@ -7,8 +7,7 @@ use Rattle.ledger_model.specs.declared.damage.Damage.{Damage}
 use Rattle.ledger_model.specs.declared.damage.Damage.TheVariants as damage
 use Rattle.ledger_model.specs.Journal.{line, journal_bytes}
 use Rattle.ledger_model.specs.Whole.{IsWhole}
-use Rattle.ledger_model.specs.State.{state}
-use Rattle.ledger_model.specs.Follows.{follows}
+use Rattle.ledger_model.specs.Follows.{follows_blocks}
 use Rattle.ledger_model.specs.Damages.{damage_behind, has_address, has_hashes, has_id, has_previous, has_time, strand_of, UndamagedBehind, Undamaged}
 use Rattle.ledger_model.specs.Recovered.{Fails, IsLineOf, IsDamaged}
 use Rattle.journal_text.specs.declared.registry.Registry.{Registry}
@@ -101,7 +100,7 @@ not_unread : (before : List Block) (b : Block) → damage_behind before b ≡ So
 not_unread before b h =
     let strand = strand_of before b in
     never_unread (not (has_address strand before b)) (not (has_id strand before b)) (not (has_time before b)) (not (has_previous strand before b)) (not (has_hashes b))
-    (not (follows strand (state before) b)) h
+    (not (follows_blocks strand before b)) h
 
 pub fails : (before : List Block) (text : List ℕ) (kind : Damage) (b : Block) → IsLineOf text b → damage_behind before b ≡ Some kind → Fails before text kind
 fails before text damage.NotALine b is e = absurd (not_unread before b e)

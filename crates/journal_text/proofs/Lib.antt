@@ -8,6 +8,7 @@ pub mod Changed
 pub mod Distinct
 pub mod Fields
 pub mod Makers
+pub mod Named
 pub mod Passes
 pub mod Recorded
 pub mod Feeds
@@ -17,3 +18,4 @@ pub mod Growing
 pub mod Fed
 pub mod FirstFeed
 pub mod TableSteps
+pub mod Taken

@@ -1,6 +1,6 @@
 -- The latest revisions of documents after more revisions.
-use Rattle.std.proofs.Common.{◌≡◌, ◌∙◌, ℕ, zero, suc, ◌<◌, ◌≤◌, ◌==◌, min, Bool, true, false, ◌&&◌, cond, List, [], ◌∷◌, ◌++◌, length, drop, get_or, Option, Some, None, if◌then◌else◌, refl, sym, ap, arith}
-use Rattle.std.specs.List.{list_all}
+use Rattle.std.proofs.Common.{◌≡◌, ◌∙◌, ℕ, zero, suc, ◌<◌, ◌≤◌, ◌==◌, min, Bool, true, false, ◌&&◌, ◌||◌, cond, List, [], ◌∷◌, ◌++◌, length, drop, get_or, Option, Some, None, if◌then◌else◌, refl, sym, ap, arith}
+use Rattle.std.specs.List.{list_all, list_any}
 use Rattle.std.specs.Option.{option_map}
 use Rattle.ql_types.specs.declared.TableId.{TableId}
 use Rattle.ledger_model.specs.declared.block.Revision.{Revision}
@@ -18,7 +18,7 @@ or_assoc : {A : Type 0} (a b c : Option A) → or_else (or_else a b) c ≡ or_el
 or_assoc None b c = refl
 or_assoc (Some x) b c = refl
 
-latest_of-append : (rs xs : List Recorded) (id : ℕ) → latest_of (rs ++ xs) id ≡ or_else (latest_of xs id) (latest_of rs id)
+pub latest_of-append : (rs xs : List Recorded) (id : ℕ) → latest_of (rs ++ xs) id ≡ or_else (latest_of xs id) (latest_of rs id)
 latest_of-append [] xs id = sym (or_none (latest_of xs id))
 latest_of-append (r ∷ rs) xs id =
     ap (λ o. or_else o (if r.revision.metadata.id.raw == id then Some r else None)) (latest_of-append rs xs id)
@@ -90,3 +90,16 @@ pub pass_stops : (f : Recorded → Bool) (ts : List TableId) (rs : List Revision
     → t ≡ get_or ts n d → r ≡ get_or rs n r → list_all f (recorded_in (drop n ts) (drop n rs)) ≡ whole → f (record { table = t; revision = r }) ≡ false → false ≡ whole
 pass_stops f ts rs n d t r whole within e g before failed =
     first_stops (f (record { table = t; revision = r })) (list_all f (recorded_in (drop (suc n) ts) (drop (suc n) rs))) whole (sym (ap (list_all f) (next_recorded ts rs n d t r within e g)) ∙ before) failed
+
+-- ---- a revision that passes a test, place by place
+
+pub any_next : (f : Recorded → Bool) (ts : List TableId) (rs : List Revision) (n j : ℕ) (d t : TableId) (r : Revision) (whole : Bool) → j ≡ suc n → n < min (length ts) (length rs)
+    → t ≡ get_or ts n d → r ≡ get_or rs n r → list_any f (recorded_in (drop n ts) (drop n rs)) ≡ whole → f (record { table = t; revision = r }) ≡ false
+    → list_any f (recorded_in (drop j ts) (drop j rs)) ≡ whole
+any_next f ts rs n j d t r whole next within e g before failed =
+    rw next (sym (ap (λ b. b || list_any f (recorded_in (drop (suc n) ts) (drop (suc n) rs))) failed) ∙ sym (ap (list_any f) (next_recorded ts rs n d t r within e g)) ∙ before)
+
+pub any_stops : (f : Recorded → Bool) (ts : List TableId) (rs : List Revision) (n : ℕ) (d t : TableId) (r : Revision) (whole : Bool) → n < min (length ts) (length rs)
+    → t ≡ get_or ts n d → r ≡ get_or rs n r → list_any f (recorded_in (drop n ts) (drop n rs)) ≡ whole → f (record { table = t; revision = r }) ≡ true → true ≡ whole
+any_stops f ts rs n d t r whole within e g before passed =
+    sym (ap (λ b. b || list_any f (recorded_in (drop (suc n) ts) (drop (suc n) rs))) passed) ∙ sym (ap (list_any f) (next_recorded ts rs n d t r within e g)) ∙ before

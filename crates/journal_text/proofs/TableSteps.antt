@@ -14,9 +14,11 @@ use Rattle.std.specs.BTreeSet as sorted
 use Rattle.std.specs.BTreeMap.{get_by_text, is_at}
 use Rattle.std.specs.BTreeSet.{contains}
 use Rattle.std.proofs.lemmas.Bool.{eqb-true}
+use Rattle.ql_types.specs.declared.BlockAddress.{BlockAddress}
+use Rattle.ql_types.specs.declared.DocId.{DocId}
 use Rattle.ql_types.specs.declared.TableId.{TableId}
 use Rattle.ledger_model.specs.declared.block.Schema.{Schema}
-use Rattle.ledger_model.specs.declared.block.Schema.TheVariants.{Create, Index, Drop}
+use Rattle.ledger_model.specs.declared.block.Schema.TheVariants.{Create, Index, Drop, Redact}
 use Rattle.ledger_model.specs.State.{Table, Indexed, active_table, all_changed, all_indexed, changed, indexed}
 use Rattle.ledger_model.specs.Follows.{all_differ, change_follows, created_ids, has_index, is_active, is_named, schema_follows}
 use Rattle.journal_text.specs.declared.registry.tables.Tables.{Tables}
@@ -66,6 +68,11 @@ created_by tables indexes r n name id key text known h same is fails spelled nam
     (λ q. subst (λ (bs : List ℕ). get_by_text n.names q ≡ update bytes_eq (get_by_text r.names) bs (Some id) q) spelled
     (btree_map_updates_text (string_bytes key) r.names n.names (Some id) names q))
     active.0 fields
+
+-- a redaction changes no table
+pub redacted_by : (tables : List Table) (indexes : List Indexed) (a : BlockAddress) (t : TableId) (d : DocId) (r : Tables) → TablesStand tables indexes r
+    → Changes tables indexes (Redact a t d) true r
+redacted_by tables indexes a t d r h = record { tells = refl; made = λ _. h }
 
 pub indexed_stands : (tables : List Table) (indexes : List Indexed) (r n : Tables) (field : List ℕ) (id : TableId) (answer : Bool) → TablesStand tables indexes r
     → is_active tables id ≡ true → answer ≡ not (has_field r id.raw field)

@@ -129,7 +129,7 @@ pub(crate) fn damage_of(
     if !hashes_hold {
         return Ok(Some(Damage::WrongHash));
     }
-    if !registry.admit(alloc, strand, block)? {
+    if !registry.admit(alloc, strand, before, block)? {
         return Ok(Some(Damage::WrongState));
     }
     Ok(None)

@@ -3,15 +3,17 @@ ghost use Rattle.std.specs.Prelude.{◌≡◌, ℕ, ◌&&◌, List, [], ◌∷�
 ghost use Rattle.std.specs.List.{list_all};
 ghost use Rattle.ledger_model.specs.declared.block.Block.{Block};
 ghost use Rattle.ledger_model.specs.State.{state, recorded_in};
-ghost use Rattle.ledger_model.specs.Damages.{has_id};
-ghost use Rattle.ledger_model.specs.Follows.{all_differ, created_ids, document_ids, follows, has_table, ids_follow, is_of, made_ids, revision_follows};
+ghost use Rattle.ledger_model.specs.Damages.{has_address, has_id};
+ghost use Rattle.ledger_model.specs.Follows.{all_differ, created_ids, document_ids, follows_blocks, has_table, ids_follow, is_of, made_ids, revision_follows};
 ghost use Rattle.journal_text.specs.Stands.{HasKeys, Stands, has_transaction};
 
 mod documents;
 mod ids;
+mod redactions;
 mod tables;
 
 use crate::registry::documents::Documents;
+use crate::registry::redactions::Redactions;
 use crate::registry::tables::Tables;
 use ion_values::OutOfMemory;
 use ledger_model::{Block, Header, Revision};
@@ -19,12 +21,13 @@ use ql_types::{StrandId, TableId, TxId};
 use std::alloc::Global;
 use std::collections::BTreeSet;
 
-/// The transactions, the tables and the documents of the blocks so far, to be looked up.
+/// The transactions, the tables, the documents and the redactions of the blocks so far, to be looked up.
 #[derive(Drop)]
 pub(crate) struct Registry {
     transactions: BTreeSet<u128>,
     tables: Tables,
     documents: Documents,
+    redactions: Redactions,
 }
 
 impl Registry {
@@ -36,6 +39,7 @@ impl Registry {
             transactions: BTreeSet::new(alloc),
             tables: Tables::new(alloc),
             documents: Documents::new(alloc),
+            redactions: Redactions::new(alloc),
         }
     }
 
@@ -47,21 +51,21 @@ impl Registry {
         self.transactions.contains(&tx.raw)
     }
 
-    /// Takes in a block if it follows what the blocks so far left, and returns whether it does.
+    /// Takes in a block if it follows these blocks, of which the registry is, and returns whether it does.
     ///
     /// The block's id is in order. If it doesn't follow, or memory runs out, the registry is of no more use.
     pub(crate) fn admit(
         &mut self,
         alloc: Global,
         strand: StrandId,
+        before: &[Block],
         block: &Block,
     ) -> Result<bool, OutOfMemory>
-        ensures follows { (before : List Block) → Stands strand.raw before self.old
-            → has_id strand.raw before block.now ≡ true
-            → IfOk result (λ b. b ≡ follows strand.raw (state before) block.now) }
-        ensures stands { (before : List Block) → Stands strand.raw before self.old
-            → has_id strand.raw before block.now ≡ true
-            → IfOk result (λ b. b ≡ true → Stands strand.raw (before ++ block.now ∷ []) self.new) }
+        requires stands { Stands strand.raw before.now self.old }
+        requires address { has_address strand.raw before.now block.now ≡ true }
+        requires id { has_id strand.raw before.now block.now ≡ true }
+        ensures follows { IfOk result (λ b. b ≡ follows_blocks strand.raw before.now block.now) }
+        ensures stands { IfOk result (λ b. b ≡ true → Stands strand.raw (before.now ++ block.now ∷ []) self.new) }
     {
         if !self.has_ids(alloc, strand, block)? {
             return Ok(false);
@@ -69,7 +73,14 @@ impl Registry {
         if !self.has_revisions(alloc, block)? {
             return Ok(false);
         }
-        if !self.tables.change_all(alloc, block.info.schema.as_slice())? {
+        let changes = block.info.schema.as_slice();
+        if !self.tables.change_all(alloc, changes)? {
+            return Ok(false);
+        }
+        if !self
+            .redactions
+            .change_all(&self.documents, before, changes)?
+        {
             return Ok(false);
         }
         self.documents

@@ -1,7 +1,7 @@
 -- What the parts of a condition that is true tell of the values in a combination, and of the row at a place.
-use Rattle.std.proofs.Common.{◌≡◌, ◌∙◌, ◌⊎◌, inl, inr, ℕ, zero, suc, ◌^◌, ◌<◌, Bool, true, false, ◌==◌, ◌&&◌, nat_lt, codes, List, [], ◌∷◌, ◌++◌, length, map, refl, sym, ap, subst, rules, arith, slice_get, Option, Some, None, option_map}
+use Rattle.std.proofs.Common.{◌≡◌, ◌∙◌, inl, inr, ℕ, zero, ◌^◌, ◌<◌, Bool, true, false, ◌==◌, ◌&&◌, nat_lt, codes, List, [], ◌∷◌, length, map, refl, sym, ap, subst, rules, arith, slice_get, Option, Some, None, option_map}
 use Rattle.std.specs.Prelude.{option_and_then, if◌then◌else◌}
-use Rattle.std.specs.List.{AllByRecursion, flat_map, list_any}
+use Rattle.std.specs.List.{AllByRecursion, list_any}
 use Rattle.std.specs.Option.{option_map_or}
 use Rattle.std.specs.Str.{bytes_eq}
 use Rattle.std.proofs.lemmas.Bool.{and_parts, eqb-true, false≢true, ltb-true, or_cases}
@@ -9,12 +9,10 @@ use Rattle.std.proofs.lemmas.Slice.Eq.{bytes_eq-Decides}
 use Rattle.std.proofs.lemmas.List.{length-map}
 use Rattle.ion_values.specs.declared.value.Body.TheFolds as values
 use Rattle.ion_values.specs.declared.value.Body.TheVariants as body
-use Rattle.ion_values.specs.declared.value.Key.{Key}
 use Rattle.ion_values.specs.declared.value.Key.TheVariants as key
 use Rattle.ion_values.specs.declared.value.Value.{Value}
 use Rattle.ion_order.specs.Key.{key_of}
 use Rattle.ql_types.specs.Ids.{id_in, id_text}
-use Rattle.ql_types.specs.declared.DocId.{DocId}
 use Rattle.ql_types.proofs.Spelled.{id_in-text}
 use Rattle.pql_model.specs.declared.names.Resolved.{Resolved}
 use Rattle.pql_model.specs.declared.names.Resolved.TheVariants.{Variable, Id}
@@ -27,7 +25,7 @@ use Rattle.pql_model.specs.declared.statement.SourceKind.TheVariants as source
 use Rattle.pql_model.specs.declared.tables.Row.{Row}
 use Rattle.pql_model.specs.Comparisons.{equal}
 use Rattle.pql_model.specs.From.{bound_row}
-use Rattle.pql_model.specs.Lists.{any_of, is_among, is_equal_to, is_in, is_null_answer, list_seen}
+use Rattle.pql_model.specs.Lists.{is_among, is_equal_to, is_in, is_null_answer, list_seen}
 use Rattle.pql_model.specs.Logic.{is_true, truth_in}
 use Rattle.pql_model.specs.Made.{answer, found, made, null, onward, seen, truth}
 use Rattle.pql_model.specs.Names.{called, called_in_row, resolve}

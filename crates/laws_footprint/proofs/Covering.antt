@@ -1,7 +1,7 @@
 -- The footprint of a FROM covers what its conditions need.
-use Rattle.std.proofs.Common.{◌≡◌, ◌∙◌, inl, inr, ℕ, zero, suc, ◌+◌, Bool, true, false, List, [], ◌∷◌, ◌++◌, length, map, refl, sym, ap, subst, arith, slice_get, Option, Some, None, option_map}
+use Rattle.std.proofs.Common.{◌≡◌, ◌∙◌, inl, inr, ℕ, zero, suc, ◌+◌, true, false, List, [], ◌∷◌, ◌++◌, length, map, refl, sym, ap, subst, arith, slice_get, Option, Some, None, option_map}
 use Rattle.std.specs.Prelude.{option_and_then}
-use Rattle.std.specs.List.{AllByRecursion, filter, filter_map, flat_map, list_all}
+use Rattle.std.specs.List.{AllByRecursion, filter, flat_map, list_all}
 use Rattle.std.proofs.lemmas.Bool.{and_parts, both_ways, false_from_ne_true, false≢true}
 use Rattle.std.proofs.lemmas.List.{append_assoc, append-nil}
 use Rattle.std.proofs.lemmas.List.Elements.{filter_agree}
@@ -20,12 +20,12 @@ use Rattle.pql_model.specs.Names.{called, called_in_row}
 use Rattle.pql_model.specs.Steps.{field_of}
 use Rattle.ledger_model.specs.declared.outcome.Item.{Item}
 use Rattle.ledger_model.specs.Conditions.{Asked, Meant, Part, all_asked, at_names, id_of, parts_in, parts_of, unknown}
-use Rattle.ledger_model.specs.Footprints.{Read, Schemas, Spot, all_read, field_reached, is_read, items_at, read_of, read_with, sources_read, table_of, values_in, values_meant, values_reached}
+use Rattle.ledger_model.specs.Footprints.{Read, Schemas, all_read, field_reached, is_read, items_at, read_of, sources_read, table_of, values_in, values_meant, values_reached}
 use Rattle.ledger_model.specs.Meets.{content_shown}
 use Rattle.laws_footprint.specs.Covered.{FootprintCovers, FootprintRestricts, is_known, is_read_at, is_read_by, items_by_source, reads_by, rows_by_source}
 use Rattle.pql_model.specs.Rules.{is_path}
 use Rattle.laws_footprint.specs.Restriction.{AllRead, Among, Gives, IsKnown, IsRead, Knows, Reads, rows_read}
-use Rattle.laws_footprint.proofs.Asked.{MeantIs, Told, all_told, reached_shown}
+use Rattle.laws_footprint.proofs.Asked.{MeantIs, all_told, reached_shown}
 use Rattle.laws_footprint.proofs.Chosen.{items_shown}
 use Rattle.laws_footprint.proofs.Listed.{From, among_found, among_kept, at_left, at_length, here_of, next_of}
 use Rattle.laws_footprint.proofs.Parts.{Holds, parts_hold}

@@ -5,11 +5,14 @@ use Rattle.std.proofs.lemmas.Bool.{both_ways, eq-eqb, eqb-false, eqb-true, ne_eq
 use Rattle.std.proofs.lemmas.List.{append_assoc, append-nil}
 use Rattle.ql_types.specs.declared.TableId.{TableId}
 use Rattle.pql_model.specs.declared.tables.Row.{Row}
+use Rattle.ledger_model.specs.declared.block.Block.{Block}
 use Rattle.ledger_model.specs.declared.block.Draft.{Draft}
 use Rattle.ledger_model.specs.Follows.{latest_of}
 use Rattle.ledger_model.specs.Script.{or_else}
-use Rattle.ledger_model.specs.State.{Recorded, draft_of}
+use Rattle.ledger_model.specs.State.{Recorded, State, after, draft_of, revisions_after}
 use Rattle.ledger_model.specs.Views.{latest, latest_from, put, row_of}
+use Rattle.laws_footprint.specs.Touches.{revisions_in}
+use Rattle.ledger_model.proofs.Redactions.{latest_kept}
 
 abbrev pub meets_row : (Row → Bool) → Option Row → Bool
 meets_row test None = false
@@ -224,3 +227,10 @@ latest_all done (r ∷ rs) docs distinct h =
 
 pub all_latest : (rs : List Recorded) → AllByRecursion (IsLatest rs) (latest (map draft_of rs))
 all_latest rs = latest_all [] rs [] tt tt
+
+-- behind a block: the block's own, or else the one before
+pub latest_of_after : (s : State) (b : Block) (id : ℕ)
+    → latest_of (after s b).revisions id ≡ or_else (latest_of (revisions_in b) id) (latest_of s.revisions id)
+latest_of_after s b id =
+    latest_of-append (revisions_after b.info.schema s.revisions) (revisions_in b) id
+    ∙ ap (or_else (latest_of (revisions_in b) id)) (latest_kept b.info.schema s.revisions id)

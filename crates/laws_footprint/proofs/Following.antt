@@ -10,7 +10,7 @@ use Rattle.ledger_model.specs.declared.outcome.Item.TheVariants as item
 use Rattle.ledger_model.specs.Follows.{all_differ, continues, created_ids, document_ids, has_table, ids_follow, is_kept, is_of as is_of_header, latest_of, made_ids, revision_follows, schema_follows}
 use Rattle.ledger_model.specs.State.{Recorded, State, after}
 use Rattle.laws_footprint.specs.Following.{FollowingTouches, changes_key, is_of, is_of_document, touched_by_tables}
-use Rattle.laws_footprint.specs.Touches.{has_key_at, id_of, is_in, is_of_table, revisions_in, touched, touches_document, touches_key}
+use Rattle.laws_footprint.specs.Touches.{has_key_at, id_of, is_in, is_of_table, redacts_document, redacts_in, revisions_in, touched, touches_document, touches_key}
 
 twice : (b : Bool) → (b || b) ≡ b
 twice true = refl
@@ -53,10 +53,12 @@ by_item : (s : State) (b : Block) (i : Item) → AllByRecursion (SameTables s) (
 by_item s b (item.TableName name) h = refl
 by_item s b item.TableList h = refl
 by_item s b (item.Table table) h =
-    same_any s (is_of_table s table) (is_of table) (revisions_in b) h (λ r same. same table)
+    ap (λ v. v || list_any (redacts_in table) b.info.schema)
+    (same_any s (is_of_table s table) (is_of table) (revisions_in b) h (λ r same. same table))
 by_item s b (item.Doc table id) h =
-    same_any s (touches_document s table id.raw) (is_of_document table id.raw) (revisions_in b) h
-    (λ r same. ap (λ v. v && (id_of r == id.raw)) (same table))
+    ap (λ v. v || list_any (redacts_document table id.raw) b.info.schema)
+    (same_any s (touches_document s table id.raw) (is_of_document table id.raw) (revisions_in b) h
+    (λ r same. ap (λ v. v && (id_of r == id.raw)) (same table)))
 by_item s b (item.IndexValue table field k) h =
     same_any s (touches_key s (after s b) table field k) (changes_key s (after s b) table field k) (revisions_in b) h
     (λ r same. ap (λ v. v && (has_key_at s field k (id_of r) || has_key_at (after s b) field k (id_of r)))

@@ -20,19 +20,22 @@ use Rattle.ledger_model.specs.declared.block.Schema.TheVariants.{Create, Index, 
 use Rattle.ledger_model.specs.declared.outcome.Item.{Item}
 use Rattle.ledger_model.specs.declared.outcome.Item.TheVariants as item
 use Rattle.ledger_model.specs.Writing.{changed, deleted, first_own, is_root, rows_now, stored_changes, stored_deletes}
+use Rattle.ledger_model.specs.Redacting.{not_redacted, of_name, of_revision}
+use Rattle.ledger_model.specs.RedactionArguments.{RevisionName, items_named, named_revision, redaction_of}
 use Rattle.ledger_model.specs.Statements.{table_in}
 use Rattle.pql_model.specs.Effects.{changed_documents, deleted_documents}
 use Rattle.pql_model.specs.declared.statement.Change.{Change}
 use Rattle.pql_model.specs.declared.statement.Source.{Source}
 use Rattle.ledger_model.specs.Footprints.{footprint_of, items_read, names_read, read_by_sources, sources_read}
-use Rattle.ledger_model.specs.Follows.{has_index, is_active}
+use Rattle.ledger_model.specs.Follows.{has_index, named_by}
 use Rattle.ledger_model.specs.declared.outcome.Refusal.{Refusal}
 use Rattle.ledger_model.specs.declared.outcome.Refusal.TheVariants.{IndexExists, TooManyIndexes}
 use Rattle.ledger_model.specs.Run.{Begun, Effect, Progress, and_then, changed_by, created, documents_in, done_by_statement, effect_of, existing, first_absent, if_documents, inserted, new_document, new_table, next_id, not_stored, no_table_more, on_table, reading, reserved, schemas_now, selected, stored, table_now, tables_now, unless, views_of}
 use Rattle.ledger_model.specs.SchemaChanges.{dropped as table_dropped, existing_index, indexed as table_indexed, indexes_now, no_index_more, schema_change}
-use Rattle.ledger_model.specs.State.{Indexed, State, Table, active_table, after, all_changed, all_indexed, changed as tables_changed, draft_of, empty, indexed, state, state_from}
+use Rattle.ledger_model.specs.State.{Indexed, Recorded, State, Table, active_table, after, all_changed, all_indexed, changed as tables_changed, draft_of, empty, indexed, state, state_from}
 use Rattle.laws_footprint.specs.Framed.{Beside, CoveredRowsAreFramed, IsSettled, NameIsFramed, RowsAreFramed, SourceIsStill, StatementIsFramed, indexes_of, is_index_of}
 use Rattle.laws_footprint.specs.Covered.{is_known, is_read_by, reads_by}
+use Rattle.laws_footprint.proofs.Redacting.{named_same}
 use Rattle.laws_footprint.proofs.Written.{changes_no_history, no_history_of, read_changes_none, written_plain}
 use Rattle.laws_footprint.specs.Restriction.{Covers}
 use Rattle.laws_footprint.specs.Own.{AllCreated, AllFollow, IdsFit, StandsInNone, is_by}
@@ -316,6 +319,9 @@ module _ (b : Begun) (m : ℕ) (s : State) (later : List Block) (p : Progress)
   statement_same params (statement.Delete from) told un =
       effect_same params from (deleted now p params from) (deleted s p params from)
       (deleted_same params from told un) un
+  statement_same params (statement.Redact address table document) told un =
+      let o = named_revision params address table document in
+      ap (reading (items_named o)) (named_same s later p o known.steady un)
 
   -- ---- the tables of what a statement pends stand
 
@@ -344,6 +350,15 @@ module _ (b : Begun) (m : ℕ) (s : State) (later : List Block) (p : Progress)
       → ResultStands s later p.schema (on_table name o f)
   on_table_stands name None f is each = tt
   on_table_stands name (Some table) f is each = each table is
+
+  revision_stands : (n : RevisionName) (o : Option Recorded)
+      → ResultStands s later p.schema (of_revision s.revisions p.schema (redaction_of n) o)
+  revision_stands n None = tt
+  revision_stands n (Some r) = unless_stands s later p.schema (not_redacted s.revisions p.schema r) _ tt
+
+  redaction_stands : (o : Option RevisionName) → ResultStands s later p.schema (of_name s p o)
+  redaction_stands None = tt
+  redaction_stands (Some n) = revision_stands n (named_by s.revisions (redaction_of n))
 
   done_stands : (params : List Value) (st : Statement) → Pends s later p
       → AllByRecursion (Untouched s later) (footprint_of (schemas_now s p) (views_of s p) params st)
@@ -377,6 +392,8 @@ module _ (b : Begun) (m : ℕ) (s : State) (later : List Block) (p : Progress)
       unless_stands s later p.schema (first_own (λ n. true) 0 from.sources) _
       (unless_stands s later p.schema (first_absent s p from.sources) _
       (deletes_stand s later _ p (deletes_touchable params from un (inr pends))))
+  done_stands params (statement.Redact address table document) pends un =
+      redaction_stands (named_revision params address table document)
 
   reading_stands : (items : List Item) (x : Result Effect Refusal) → ResultStands s later p.schema x
       → ResultStands s later p.schema (reading items x)

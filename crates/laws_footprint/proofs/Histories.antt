@@ -1,6 +1,6 @@
 -- The rows of a history, and its stillness: what is shown of a revision depends on the document's next one.
 use Rattle.std.proofs.Common.{◌≡◌, ◌∙◌, inl, inr, ℕ, ◌+◌, Bool, true, false, not, cond, ◌==◌, ◌&&◌, ◌||◌, List, [], ◌∷◌, ◌++◌, refl, sym, ap, subst, Option, Some, None}
-use Rattle.std.specs.Prelude.{ℤ}
+use Rattle.std.specs.Prelude.{ℤ, if◌then◌else◌}
 use Rattle.std.specs.List.{AllByRecursion, filter, find, list_all, list_any}
 use Rattle.std.proofs.lemmas.Bool.{and_cases, and_left, and_parts, and_right, both_ways, eq-eqb, eqb-true, false_from_ne_true, false≢true, not-true, or_from, or_parts}
 use Rattle.std.proofs.lemmas.List.{append_assoc}
@@ -10,20 +10,25 @@ use Rattle.pql_model.specs.declared.expr.Expr.{Expr}
 use Rattle.pql_model.specs.declared.statement.SourceKind.{SourceKind}
 use Rattle.pql_model.specs.declared.statement.SourceKind.TheVariants as source
 use Rattle.pql_model.specs.declared.tables.Row.{Row}
-use Rattle.ledger_model.specs.CommittedViews.{began, ended_by, history_view, is_between, is_historic, next_began, row_showing}
+use Rattle.ledger_model.specs.CommittedViews.{began, ended, ended_by, history_view, is_between, is_historic, next_began, row_showing}
 use Rattle.ledger_model.specs.declared.block.Block.{Block}
+use Rattle.ledger_model.specs.declared.block.Content.{Content}
+use Rattle.ledger_model.specs.declared.block.Content.TheVariants.{Deleted, Kept, Redacted}
 use Rattle.ledger_model.specs.declared.block.Revision.{Revision}
+use Rattle.ledger_model.specs.declared.block.Schema.{Schema}
+use Rattle.ledger_model.specs.declared.block.Schema.TheVariants.{Create, Index, Drop, Redact}
 use Rattle.ledger_model.specs.declared.outcome.Item.{Item}
 use Rattle.ledger_model.specs.declared.outcome.Item.TheVariants as item
 use Rattle.ledger_model.specs.Follows.{all_differ, continues, created_ids, document_ids, follows, has_table, ids_follow, is_kept, is_of, latest_of, made_ids, revision_follows, schema_follows}
 use Rattle.ledger_model.specs.Script.{or_else}
-use Rattle.ledger_model.specs.State.{Recorded, State, after, recorded_in, state_from}
+use Rattle.ledger_model.specs.State.{Recorded, State, after, hashed, is_redacted_by, is_revised, recorded_in, redacts, revisions_after, same_address, state_from}
 use Rattle.laws_footprint.specs.Covered.{no_key}
 use Rattle.ledger_model.specs.Meets.{document_shown, meets, shows_one}
 use Rattle.laws_footprint.specs.Own.{AllFollow}
 use Rattle.laws_footprint.specs.Stillness.{block_revises, has_revision_of}
-use Rattle.laws_footprint.specs.Touches.{conflict_from, id_of, is_in, is_of_table, revisions_in, touched}
-use Rattle.laws_footprint.proofs.Documents.{latest_of-append}
+use Rattle.laws_footprint.specs.Touches.{conflict_from, id_of, is_in, is_of_table, redacts_document, redacts_in, revisions_in, touched, touches_document}
+use Rattle.ledger_model.proofs.Redactions.{each_after, hidden_if, is_hidden}
+use Rattle.laws_footprint.proofs.Documents.{latest_of-append, latest_of_after}
 use Rattle.pql_model.proofs.Equality.{inside}
 use Rattle.laws_footprint.proofs.Pending.{swapped}
 use Rattle.laws_footprint.proofs.Revised.{absent}
@@ -62,6 +67,65 @@ next_there id [] new h = absurd (false≢true h)
 next_there id (r ∷ rs) new h =
     next_by (began r) (next_began id (rs ++ new)) (next_began id rs) (id_of r == id)
     (list_any (has_revision_of id) rs) h (next_there id rs new)
+
+-- ---- redactions
+
+next_after : (changes : List Schema) (id : ℕ) (rs new : List Recorded)
+    → next_began id (revisions_after changes rs ++ new) ≡ next_began id (rs ++ new)
+next_after changes id [] new = refl
+next_after changes id (r ∷ rs) new = ap (λ o. cond (id_of r == id) (Some (began r)) o) (next_after changes id rs new)
+
+ended_hidden : (c : Bool) (content : Content) (at : ℤ) (next : Option ℤ)
+    → ended_by (if c then hashed content else content) at next ≡ ended_by content at next
+ended_hidden false content at next = refl
+ended_hidden true Deleted at next = refl
+ended_hidden true (Kept v) at next = refl
+ended_hidden true (Redacted hash) at next = refl
+
+historic_after : (table : TableId) (start end : Option Value) (changes : List Schema) (r : Recorded) (c : Bool)
+    (rs new : List Recorded)
+    → is_historic table start end (hidden_if c r) (revisions_after changes rs ++ new)
+    ≡ is_historic table start end r (rs ++ new)
+historic_after table start end changes r c rs new =
+    ap (λ o. (r.table.raw == table.raw) && is_between start end (began r) o)
+    (ended_hidden c r.revision.content (began r) (next_began (id_of r) (revisions_after changes rs ++ new))
+    ∙ ap (ended_by r.revision.content (began r)) (next_after changes (id_of r) rs new))
+
+-- one of the changes that redacts the revision
+abbrev OneRedacts : List Schema → Recorded → Type 0
+OneRedacts changes r =
+    (c : Schema) × (redacts r c ≡ true) × ((p : Schema → Bool) → list_any p changes ≡ false → p c ≡ false)
+
+redacting_by : (c : Schema) (cs : List Schema) (r : Recorded) (b : Bool) → redacts r c ≡ b
+    → (b || is_redacted_by cs r) ≡ true → (is_redacted_by cs r ≡ true → OneRedacts cs r) → OneRedacts (c ∷ cs) r
+redacting_by c cs r true e h rest = (c, e, λ p none. (or_parts (p c) (list_any p cs) none).0)
+redacting_by c cs r false e h rest =
+    let w = rest h in (w.0, w.1, λ p none. w.2 p (or_parts (p c) (list_any p cs) none).1)
+
+redacting : (changes : List Schema) (r : Recorded) → is_redacted_by changes r ≡ true → OneRedacts changes r
+redacting [] r h = absurd (false≢true h)
+redacting (c ∷ cs) r h = redacting_by c cs r (redacts r c) refl h (redacting cs r)
+
+other_table_named : (r : Recorded) (c : Schema) (read : TableId) → redacts r c ≡ true → redacts_in read c ≡ false
+    → (r.table.raw == read.raw) ≡ false
+other_table_named r (Create n id) read h not = absurd (false≢true h)
+other_table_named r (Index field id) read h not = absurd (false≢true h)
+other_table_named r (Drop n id) read h not = absurd (false≢true h)
+other_table_named r (Redact a t d) read h not =
+    let both = (and_parts (same_address r.revision.address a && (r.table.raw == t.raw)) (id_of r == d.raw) h).0 in
+    let same = (and_parts (same_address r.revision.address a) (r.table.raw == t.raw) both).1 in
+    ap (λ n. n == read.raw) (eqb-true r.table.raw t.raw same) ∙ not
+
+other_document_named : (r : Recorded) (c : Schema) (read : TableId) (id : ℕ) → redacts r c ≡ true
+    → redacts_document read id c ≡ false → ((r.table.raw == read.raw) && (id_of r == id)) ≡ false
+other_document_named r (Create n i) read id h not = absurd (false≢true h)
+other_document_named r (Index field i) read id h not = absurd (false≢true h)
+other_document_named r (Drop n i) read id h not = absurd (false≢true h)
+other_document_named r (Redact a t d) read id h not =
+    let parts = and_parts (same_address r.revision.address a && (r.table.raw == t.raw)) (id_of r == d.raw) h in
+    let same = (and_parts (same_address r.revision.address a) (r.table.raw == t.raw) parts.0).1 in
+    ap (λ n. (n == read.raw) && (id_of r == id)) (eqb-true r.table.raw t.raw same)
+    ∙ ap (λ n. (t.raw == read.raw) && (n == id)) (eqb-true (id_of r) d.raw parts.1) ∙ not
 
 module _ (name : List ℕ) (from to : Option Expr) (table : TableId) (items : List Item) where
   abbrev kind : SourceKind
@@ -208,16 +272,88 @@ module _ (name : List ℕ) (from to : Option Expr) (table : TableId) (items : Li
           one_row before rs r (test (row_showing r)) is refl
           (rows_before (before ++ r ∷ []) rs (is ∙ sym (append_assoc before (r ∷ []) rs)))
 
+      -- ---- those that it redacts
+
+      redacted_met : (r : Recorded) (c : Schema) → redacts r c ≡ true → (r.table.raw == table.raw) ≡ true → (i : Item)
+          → ((p : Schema → Bool) → list_any p b.info.schema ≡ false → p c ≡ false) → touched s b i ≡ false
+          → met_by (row_showing r) i ≡ false
+      redacted_met r c names here (item.TableName n) none not = refl
+      redacted_met r c names here item.TableList none not = refl
+      redacted_met r c names here (item.IndexValue read field k) none not = refl
+      redacted_met r c names here (item.Table read) none not =
+          let apart = (or_parts (list_any (is_of_table s read) new) (list_any (redacts_in read) b.info.schema) not).1 in
+          other_raw r.table.raw read.raw table.raw (eqb-true r.table.raw table.raw here)
+          (other_table_named r c read names (none (redacts_in read) apart))
+      redacted_met r c names here (item.Doc read id) none not =
+          let apart =
+          (or_parts (list_any (touches_document s read id.raw) new)
+          (list_any (redacts_document read id.raw) b.info.schema) not).1 in
+          elim (and_cases (r.table.raw == read.raw) (id_of r == id.raw)
+          (other_document_named r c read id.raw names (none (redacts_document read id.raw) apart))) as
+          (λ _. ((read.raw == table.raw) && (id_of r == id.raw)) ≡ false) [
+            | inl other ↦ and_left (read.raw == table.raw) _
+                (other_raw r.table.raw read.raw table.raw (eqb-true r.table.raw table.raw here) other)
+            | inr other ↦ and_right (read.raw == table.raw) _ other
+          ]
+
+      redacted_unmet : (r : Recorded) → (r.table.raw == table.raw) ≡ true → is_redacted_by b.info.schema r ≡ true
+          → test (row_showing r) ≡ false
+      redacted_unmet r here h =
+          let w = redacting b.info.schema r h in
+          all_unmet (row_showing r) items un (λ i not. redacted_met r w.0 w.1 here i w.2 not)
+
+      shown_same : (c : Bool) (r : Recorded) (i : Item)
+          → met_by (row_showing (hidden_if c r)) i ≡ met_by (row_showing r) i
+      shown_same c r (item.TableName n) = refl
+      shown_same c r item.TableList = refl
+      shown_same c r (item.Table read) = refl
+      shown_same c r (item.Doc read id) = refl
+      shown_same c r (item.IndexValue read field k) = refl
+
+      test_same : (c : Bool) (r : Recorded) (xs : List Item)
+          → list_any (met_by (row_showing (hidden_if c r))) xs ≡ list_any (met_by (row_showing r)) xs
+      test_same c r [] = refl
+      test_same c r (i ∷ xs) =
+          ap (λ v. v || list_any (met_by (row_showing (hidden_if c r))) xs) (shown_same c r i)
+          ∙ ap (λ v. met_by (row_showing r) i || v) (test_same c r xs)
+
+      redacted_row : (r : Recorded) (c met a x : Bool) (now rows : List Row) → test (row_showing r) ≡ met
+          → (r.table.raw == table.raw) ≡ a → (c ≡ true → is_redacted_by b.info.schema r ≡ true)
+          → filter test now ≡ filter test rows
+          → filter test (cond (a && x) (row_showing (hidden_if c r) ∷ now) now)
+          ≡ filter test (cond (a && x) (row_showing r ∷ rows) rows)
+      redacted_row r c false a x now rows e here h ih =
+          skipped (row_showing (hidden_if c r)) now (a && x) (test_same c r items ∙ e) ∙ ih
+          ∙ sym (skipped (row_showing r) rows (a && x) e)
+      redacted_row r false true a x now rows e here h ih = kept_row (row_showing r) now rows (a && x) ih
+      redacted_row r true true false x now rows e here h ih = ih
+      redacted_row r true true true x now rows e here h ih =
+          absurd (both_ways (test (row_showing r)) (redacted_unmet r here (h refl)) e)
+
+      redacted_rows : (rs : List Recorded)
+          → filter test (history_view table start end (revisions_after b.info.schema rs ++ new))
+          ≡ filter test (history_view table start end (rs ++ new))
+      redacted_rows [] = refl
+      redacted_rows (r ∷ rs) =
+          let c : Bool = is_hidden b.info.schema rs r in
+          let now : List Row = history_view table start end (revisions_after b.info.schema rs ++ new) in
+          ap (λ h. filter test (cond h (row_showing (hidden_if c r) ∷ now) now))
+          (historic_after table start end b.info.schema r c rs new)
+          ∙ redacted_row r c (test (row_showing r)) (r.table.raw == table.raw)
+          (is_between start end (began r) (ended r (rs ++ new)))
+          now (history_view table start end (rs ++ new)) refl refl
+          (λ h. (and_parts (is_redacted_by b.info.schema r) (is_revised rs r) h).0) (redacted_rows rs)
+
       pub one_block : filter test (history_view table start end (after s b).revisions)
           ≡ filter test (history_view table start end s.revisions)
-      one_block = rows_before [] s.revisions refl
+      one_block = redacted_rows s.revisions ∙ rows_before [] s.revisions refl
 
     -- the document stays in its table
     table_after : (row : Row) → HasTable s row.id.raw table → block_revises row.id.raw b ≡ false
         → HasTable (after s b) row.id.raw table
     table_after row at not = (
       at.0,
-      latest_of-append s.revisions new row.id.raw
+      latest_of_after s b row.id.raw
           ∙ ap (λ o. or_else o (latest_of s.revisions row.id.raw)) (absent row.id.raw new not) ∙ at.1,
       at.2,
     )
@@ -318,7 +454,7 @@ module _ (mask : ℕ) (s : State) (b : Block) (h : follows mask s b ≡ true) wh
       → HasTable (after s b) id table
   by_new id table None e at = (
     at.0,
-    latest_of-append s.revisions more id ∙ ap (λ o. or_else o (latest_of s.revisions id)) e ∙ at.1,
+    latest_of_after s b id ∙ ap (λ o. or_else o (latest_of s.revisions id)) e ∙ at.1,
     at.2,
   )
   by_new id table (Some x) e at =
@@ -332,7 +468,7 @@ module _ (mask : ℕ) (s : State) (b : Block) (h : follows mask s b ≡ true) wh
       let tables =
       (and_parts (x.table.raw == (at.0).table.raw) _ (and_parts _ (is_kept (at.0).revision.content) last).0).0 in (
         x,
-        latest_of-append s.revisions more id ∙ ap (λ o. or_else o (latest_of s.revisions id)) e,
+        latest_of_after s b id ∙ ap (λ o. or_else o (latest_of s.revisions id)) e,
         eqb-true x.table.raw (at.0).table.raw tables ∙ at.2,
       )
 
@@ -347,7 +483,7 @@ module _ (mask : ℕ) (s : State) (b : Block) (h : follows mask s b ≡ true) wh
   new_steady (r ∷ rs) all = (
     (
       r,
-      latest_of-append s.revisions more (id_of r)
+      latest_of_after s b (id_of r)
           ∙ ap (λ o. or_else o (latest_of s.revisions (id_of r))) all.0,
       refl,
     ),
@@ -356,8 +492,10 @@ module _ (mask : ℕ) (s : State) (b : Block) (h : follows mask s b ≡ true) wh
 
   steady_after : Steady s → Steady (after s b)
   steady_after steady =
-      all_joined (λ (r : Recorded). HasTable (after s b) (id_of r) r.table) s.revisions more
-      (old_steady s.revisions steady)
+      all_joined (λ (r : Recorded). HasTable (after s b) (id_of r) r.table)
+      (revisions_after b.info.schema s.revisions) more
+      (each_after b.info.schema (λ (r : Recorded). HasTable (after s b) (id_of r) r.table) (λ c r h. h) s.revisions
+      (old_steady s.revisions steady))
       (new_steady more (own_latest b.info.tables b.revisions differ))
 
 pub steady_behind : (mask : ℕ) (s : State) (blocks : List Block) → AllFollow mask s blocks → Steady s

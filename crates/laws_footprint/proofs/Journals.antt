@@ -9,13 +9,13 @@ use Rattle.ledger_model.specs.declared.block.Block.{Block}
 use Rattle.ledger_model.specs.declared.block.Revision.{Revision}
 use Rattle.ledger_model.specs.declared.damage.Damage.{Damage}
 use Rattle.ledger_model.specs.Damages.{UndamagedBehind, damage_behind, has_address, has_hashes, has_id, has_previous, has_time, strand_of}
-use Rattle.ledger_model.specs.Follows.{follows}
-use Rattle.ledger_model.specs.State.{State, after, draft_of, empty, recorded_in, state, state_from}
+use Rattle.ledger_model.specs.Follows.{follows, follows_blocks, redactions_follow}
+use Rattle.ledger_model.specs.State.{State, after, draft_of, empty, recorded_in, revisions_after, state, state_from}
 use Rattle.ledger_model.specs.Whole.{IsWhole, address_fits, content_fits, hash_fits, hashes_fit, header_fits, id_fits, info_fits, metadata_fits, revision_fits}
 use Rattle.laws_footprint.specs.Journalled.{HasStrand, UndamagedFollow}
 use Rattle.laws_footprint.specs.Own.{AllFollow, IdsFit}
 use Rattle.laws_footprint.specs.Touches.{revisions_in}
-use Rattle.laws_footprint.proofs.Rows.{all_joined}
+use Rattle.laws_footprint.proofs.Rows.{all_joined, fits_redacted}
 
 -- ---- the checks
 
@@ -32,8 +32,9 @@ follows_behind before b h =
     let time = passed (not (has_time before b)) _ _ id.1 in
     let previous = passed (not (has_previous strand before b)) _ _ time.1 in
     let hashes = passed (not (has_hashes b)) _ _ previous.1 in
-    let state_follows = passed (not (follows strand (state before) b)) _ _ hashes.1 in
-    not-false (follows strand (state before) b) state_follows.0
+    let state_follows = passed (not (follows_blocks strand before b)) _ _ hashes.1 in
+    (and_parts (follows strand (state before) b) (redactions_follow before (state before).revisions [] b.info.schema)
+    (not-false (follows_blocks strand before b) state_follows.0)).0
 
 state_more : (s : State) (before : List Block) (b : Block)
     → state_from s (before ++ b ∷ []) ≡ after (state_from s before) b
@@ -93,8 +94,9 @@ all_fit : (before blocks : List Block) (s : State) → UndamagedBehind before bl
 all_fit before [] s h fit = fit
 all_fit before (b ∷ bs) s h fit =
     all_fit (before ++ b ∷ []) bs (after s b) h.2
-    (subst IdsFit (sym (map-append draft_of s.revisions (revisions_in b)))
-    (all_joined _ (map draft_of s.revisions) (map draft_of (revisions_in b)) fit (block_ids_fit b h.0)))
+    (subst IdsFit (sym (map-append draft_of (revisions_after b.info.schema s.revisions) (revisions_in b)))
+    (all_joined _ (map draft_of (revisions_after b.info.schema s.revisions)) (map draft_of (revisions_in b))
+    (fits_redacted b.info.schema s.revisions fit) (block_ids_fit b h.0)))
 
 first_strand : (mask : ℕ) (blocks : List Block) → HasStrand mask blocks → NextStrand mask [] blocks
 first_strand mask [] h = tt

@@ -29,3 +29,4 @@ pub mod Journals
 pub mod StillDocuments
 pub mod Histories
 pub mod Sources
+pub mod Redacting

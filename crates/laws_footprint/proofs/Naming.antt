@@ -1,8 +1,7 @@
 -- The documents that rows name.
-use Rattle.std.proofs.Common.{◌≡◌, ◌∙◌, ◌⊎◌, inl, inr, ℕ, zero, suc, ◌+◌, ◌^◌, Bool, true, false, not, cond, ◌==◌, nat_lt, List, [], ◌∷◌, ◌++◌, map, take, drop, refl, sym, ap, subst, arith, slice_get, Option, Some, None, option_map}
+use Rattle.std.proofs.Common.{◌≡◌, ◌∙◌, ◌⊎◌, inl, inr, ℕ, zero, suc, ◌+◌, ◌^◌, Bool, true, false, not, cond, ◌==◌, nat_lt, List, [], ◌∷◌, ◌++◌, map, take, drop, refl, sym, ap, subst, slice_get, Option, Some, None, option_map}
 use Rattle.std.specs.Prelude.{option_and_then, if◌then◌else◌}
 use Rattle.std.specs.List.{AllByRecursion, cons_option, filter, filter_map, find, flat_map, list_all, list_any}
-use Rattle.std.specs.Option.{option_map_or}
 use Rattle.std.proofs.lemmas.Bool.{and_parts, both_ways, eq-eqb, eqb-true, false≢true, or_left, or_right}
 use Rattle.std.proofs.lemmas.List.{append_assoc, append-nil}
 use Rattle.ion_values.specs.declared.value.Value.{Value}
@@ -34,7 +33,7 @@ use Rattle.ledger_model.specs.Run.{Progress, rows_in, schemas_now, table_now, vi
 use Rattle.ledger_model.specs.State.{Recorded, State, active_table, draft_of, empty, state}
 use Rattle.ledger_model.specs.Statements.{table_in}
 use Rattle.ledger_model.specs.Views.{latest, latest_from, live, put, row_of}
-use Rattle.ledger_model.specs.Meets.{document_shown, meets_one, shows_one}
+use Rattle.ledger_model.specs.Meets.{meets_one, shows_one}
 use Rattle.laws_footprint.specs.Covered.{fits_kind, is_known, is_no_history, no_key, rows_by_source}
 use Rattle.laws_footprint.specs.Naming.{IsUnrevised, NamedAreUnrevised, is_pending}
 use Rattle.laws_footprint.specs.Own.{IdsFit}

@@ -16,12 +16,13 @@ use Rattle.ledger_model.specs.declared.block.Schema.TheVariants.{Create, Index, 
 use Rattle.ledger_model.specs.Follows.{all_differ, change_follows, created_ids, document_ids, follows, ids_follow, is_active, is_made_by, is_new, latest_of, made_ids, revision_follows, schema_follows}
 use Rattle.ledger_model.specs.Script.{or_else}
 use Rattle.ledger_model.specs.Footprints.{first_of}
-use Rattle.ledger_model.specs.State.{Indexed, Recorded, State, Table, active_table, after, all_changed, all_indexed, changed, dropped, empty, indexed, recorded_in, state, state_from}
+use Rattle.ledger_model.specs.State.{Indexed, Recorded, State, Table, active_table, after, all_changed, all_indexed, changed, dropped, empty, indexed, recorded_in, revisions_after, state, state_from}
 use Rattle.laws_footprint.specs.Framed.{indexes_of}
 use Rattle.laws_footprint.specs.Own.{AllCreated, AllFollow, AllOwn, OwnIsApart, StandsInNone, StillnessOfOwn, is_by}
 use Rattle.laws_footprint.specs.Stillness.{Apart, block_revises, has_revision_of}
 use Rattle.laws_footprint.specs.Touches.{has_name, id_of, revisions_in}
 use Rattle.pql_model.proofs.Equality.{inside}
+use Rattle.ledger_model.proofs.Redactions.{each_after}
 use Rattle.laws_footprint.proofs.Schemas.{active_is, called, called_dropped, has_id, has_name_is, is_called, keeps, no_index_more}
 use Rattle.laws_footprint.proofs.Still.{stillness_with_pending}
 
@@ -115,7 +116,8 @@ module _ (mask n : ℕ) where
       let here = block_by_others s b h.0 none.0 all in (
         here,
         all_by_others (after s b) bs h.1 none.1
-            (all_append (λ r. NotBy (id_of r)) s.revisions (revisions_in b) all here),
+            (all_append (λ r. NotBy (id_of r)) (revisions_after b.info.schema s.revisions) (revisions_in b)
+            (each_after b.info.schema (λ r. NotBy (id_of r)) (λ c r h. h) s.revisions all) here),
       )
 
   no_revision : (id : ℕ) (rs : List Recorded) → is_by mask n id ≡ true → NoneBy rs

@@ -13,7 +13,7 @@ use Rattle.ledger_model.specs.Views.{row_of}
 use Rattle.ledger_model.specs.Meets.{meets, meets_one}
 use Rattle.laws_footprint.specs.Stillness.{block_revises, has_revision_of}
 use Rattle.laws_footprint.specs.Touches.{conflict_from, id_of, revisions_in, touched}
-use Rattle.laws_footprint.proofs.Documents.{IsLatest, latest_of-append, meets_row}
+use Rattle.laws_footprint.proofs.Documents.{IsLatest, latest_of_after, meets_row}
 use Rattle.laws_footprint.proofs.Still.{all_items, each_unmet, none_found, none_named, unmet_before}
 
 -- ---- a document that meets an item
@@ -32,7 +32,7 @@ absent id (r ∷ rs) h =
 latest_past : (s : State) (b : Block) (d : Draft) → block_revises d.id.raw b ≡ false → IsLatest s.revisions d
     → IsLatest (after s b).revisions d
 latest_past s b d not is =
-    ap (option_map draft_of) (latest_of-append s.revisions (revisions_in b) d.id.raw
+    ap (option_map draft_of) (latest_of_after s b d.id.raw
     ∙ ap (λ o. or_else o (latest_of s.revisions d.id.raw)) (absent d.id.raw (revisions_in b) not)) ∙ is
 
 not_revised : (s : State) (b : Block) (table : TableId) (items : List Item) (d : Draft)
@@ -62,5 +62,5 @@ latest_behind s [] id h = refl
 latest_behind s (b ∷ bs) id h =
     let parts = or_parts (block_revises id b) (list_any (block_revises id) bs) h in
     latest_behind (after s b) bs id parts.1
-    ∙ latest_of-append s.revisions (revisions_in b) id
+    ∙ latest_of_after s b id
     ∙ ap (λ o. or_else o (latest_of s.revisions id)) (absent id (revisions_in b) parts.0)

@@ -15,12 +15,13 @@ use Rattle.ledger_model.specs.declared.block.Block.{Block}
 use Rattle.ledger_model.specs.declared.block.Content.{Content}
 use Rattle.ledger_model.specs.declared.block.Content.TheVariants.{Deleted, Kept, Redacted}
 use Rattle.ledger_model.specs.declared.block.Draft.{Draft}
+use Rattle.ledger_model.specs.declared.block.Schema.{Schema}
 use Rattle.ledger_model.specs.declared.outcome.Item.{Item}
 use Rattle.ledger_model.specs.declared.outcome.Item.TheVariants as item
 use Rattle.ledger_model.specs.Footprints.{first_of, names_read}
 use Rattle.ledger_model.specs.Meets.{data_in, document_shown, shows_metadata}
 use Rattle.ledger_model.specs.Run.{Progress, table_now, tables_now}
-use Rattle.ledger_model.specs.State.{State, Table, after, draft_of, state_from}
+use Rattle.ledger_model.specs.State.{Recorded, State, Table, after, draft_of, revisions_after, state_from}
 use Rattle.ledger_model.specs.Statements.{table_in}
 use Rattle.ledger_model.specs.Views.{latest_from, live, put, row_of}
 use Rattle.laws_footprint.specs.Covered.{is_known, shows_own_id}
@@ -140,12 +141,24 @@ pub next_at : (sources : List Source) (n : ℕ) (x : Source) (xs : List Source)
 next_at sources n x xs at k = let there : n + 1 + k ≡ n + suc k = omega arith in ap (slice_get sources) there
     ∙ at (suc k)
 
+fits_unredacted : (changes : List Schema) (rs : List Recorded) → IdsFit (map draft_of (revisions_after changes rs))
+    → IdsFit (map draft_of rs)
+fits_unredacted changes [] h = tt
+fits_unredacted changes (r ∷ rs) h = (h.0, fits_unredacted changes rs h.1)
+
+pub fits_redacted : (changes : List Schema) (rs : List Recorded) → IdsFit (map draft_of rs)
+    → IdsFit (map draft_of (revisions_after changes rs))
+fits_redacted changes [] h = tt
+fits_redacted changes (r ∷ rs) h = (h.0, fits_redacted changes rs h.1)
+
 pub fits_before : (s : State) (later : List Block) → IdsFit (map draft_of (state_from s later).revisions)
     → IdsFit (map draft_of s.revisions)
 fits_before s [] h = h
 fits_before s (b ∷ bs) h =
-    all_left _ (map draft_of s.revisions) (map draft_of (revisions_in b))
-    (subst IdsFit (map-append draft_of s.revisions (revisions_in b)) (fits_before (after s b) bs h))
+    let before = revisions_after b.info.schema s.revisions in
+    fits_unredacted b.info.schema s.revisions
+    (all_left _ (map draft_of before) (map draft_of (revisions_in b))
+    (subst IdsFit (map-append draft_of before (revisions_in b)) (fits_before (after s b) bs h)))
 
 -- ---- tables
 

@@ -21,11 +21,13 @@ use Rattle.ledger_model.specs.declared.block.Draft.{Draft}
 use Rattle.ledger_model.specs.declared.outcome.Item.{Item}
 use Rattle.ledger_model.specs.declared.outcome.Refusal.{Refusal}
 use Rattle.ledger_model.specs.declared.script.Request.{Request}
-use Rattle.ledger_model.specs.Follows.{created_ids, is_active, is_kept, latest_of}
+use Rattle.ledger_model.specs.Follows.{created_ids, is_active, is_kept, latest_of, named_by}
 use Rattle.ledger_model.specs.Footprints.{footprint_of}
 use Rattle.ledger_model.specs.Progress.{not_kept}
 use Rattle.ledger_model.specs.Run.{Begun, Effect, Progress, and_then, changed_by, created, documents_in, done_by_statement, existing, first_absent, if_documents, new_document, next_id, no_table_more, not_stored, on_table, ran, reading, recorded, reserved, run_from, schemas_now, stored, table_now, tables_now, unless, views_of}
 use Rattle.ledger_model.specs.SchemaChanges.{existing_index, indexes_now, no_index_more}
+use Rattle.ledger_model.specs.Redacting.{not_redacted, of_name, of_revision}
+use Rattle.ledger_model.specs.RedactionArguments.{RevisionName, named_revision, redaction_of}
 use Rattle.ledger_model.specs.State.{Recorded, State, Table}
 use Rattle.ledger_model.specs.Views.{latest}
 use Rattle.ledger_model.specs.Writing.{again_of, first_own, has_room_for, if_active, is_root, next_of, no_room, revised, revised_by, rows_now, stored_changes, stored_deletes, touched}
@@ -249,6 +251,15 @@ module _ (b : Begun) (s : State) (Old : ℕ → Type 0) where
   AreOld p params (statement.Delete from) = AllByRecursion (Found p.log) (deleted_documents (rows_now s p params from))
   AreOld p params _ = Unit {0}
 
+  revision_made : (p : Progress) (n : RevisionName) (o : Option Recorded)
+      → ResultMade p (of_revision s.revisions p.schema (redaction_of n) o)
+  revision_made p n None = tt
+  revision_made p n (Some r) = unless_made p (not_redacted s.revisions p.schema r) _ (tt, tt)
+
+  redaction_made : (p : Progress) (o : Option RevisionName) → ResultMade p (of_name s p o)
+  redaction_made p None = tt
+  redaction_made p (Some n) = revision_made p n (named_by s.revisions (redaction_of n))
+
   statement_made : (p : Progress) (params : List Value) (st : Statement) → DraftsMade p.made p.log → AreOld p params st
       → ResultMade p (done_by_statement b s p params st)
   statement_made p params (statement.Create name) made old = created_made p name
@@ -272,6 +283,8 @@ module _ (b : Begun) (s : State) (Old : ℕ → Type 0) where
   statement_made p params (statement.Delete from) made old =
       unless_made p (first_own (λ n. true) 0 from.sources)
       _ (unless_made p (first_absent s p from.sources) _ (deletes_made _ p made old))
+  statement_made p params (statement.Redact address table document) made old =
+      redaction_made p (named_revision params address table document)
 
   reading_made : (p : Progress) (items : List Item) (x : Result Effect Refusal) → ResultMade p x
       → ResultMade p (reading items x)

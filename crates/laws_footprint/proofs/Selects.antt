@@ -1,5 +1,5 @@
 -- The frame of what a FROM reads, and of SELECT.
-use Rattle.std.proofs.Common.{◌≡◌, ◌∙◌, ℕ, ◌+◌, Bool, true, false, not, List, [], ◌∷◌, ◌++◌, length, map, refl, sym, ap, Option, Some, None, Ok}
+use Rattle.std.proofs.Common.{◌≡◌, ◌∙◌, ℕ, ◌+◌, Bool, true, false, List, [], ◌∷◌, ◌++◌, length, map, refl, sym, ap, Option, Some, None, Ok}
 use Rattle.std.specs.Prelude.{◌==◌, is_some, option_and_then, option_map, if◌then◌else◌}
 use Rattle.std.specs.List.{AllByRecursion, cons_option, filter, filter_map, flat_map, list_all, list_any}
 use Rattle.std.specs.Option.{option_map_or}
@@ -21,7 +21,7 @@ use Rattle.ledger_model.specs.declared.outcome.Item.{Item}
 use Rattle.ledger_model.specs.declared.outcome.Item.TheVariants as item
 use Rattle.ledger_model.specs.declared.outcome.Refusal.TheVariants.{NoSuchTable}
 use Rattle.ledger_model.specs.Conditions.{Asked, Meant, Wanted, all_asked, at_names, equal_to, id_of, one_of, parts_of, same_as, unknown}
-use Rattle.ledger_model.specs.Footprints.{Read, Schemas, Spot, all_read, are_few, by_id, by_key, choices, document_equal, document_in, document_one_of, document_same, documents_of, each_once, field_at, first_of, if_few, if_indexed, items_at, items_of, items_read, key_equal, key_one_of, key_same, names_read, read_by_sources, read_of, read_with, same_document, sources_read, table_of, values_meant}
+use Rattle.ledger_model.specs.Footprints.{Read, Schemas, Spot, all_read, are_few, by_id, by_key, choices, document_equal, document_in, document_one_of, document_same, documents_of, each_once, field_at, first_of, if_few, if_indexed, items_at, key_equal, key_one_of, key_same, names_read, read_by_sources, read_of, read_with, same_document, sources_read, table_of, values_meant}
 use Rattle.ledger_model.specs.Run.{Progress, absent_table, first_absent, or_else, schemas_now, selected, table_now, unless, views_of}
 use Rattle.ledger_model.specs.State.{State, active_table, draft_of, state_from}
 use Rattle.ledger_model.specs.Statements.{table_in}

@@ -112,6 +112,7 @@ module _ (s : State) where
   are_old b p params (statement.Create name) = tt
   are_old b p params (statement.Index name field) = tt
   are_old b p params (statement.Drop name) = tt
+  are_old b p params (statement.Redact address table document) = tt
   are_old b p params (statement.Insert name e) = tt
   are_old b p params (statement.Select select from) = tt
 
@@ -173,6 +174,7 @@ module _ (b : Begun) (m : ℕ) (s : State) (later : List Block) (fit : IdsFit (m
     are_kept p params (statement.Create name) made fine read = tt
     are_kept p params (statement.Index name field) made fine read = tt
     are_kept p params (statement.Drop name) made fine read = tt
+    are_kept p params (statement.Redact address table document) made fine read = tt
     are_kept p params (statement.Insert name e) made fine read = tt
     are_kept p params (statement.Select select from) made fine read = tt
 

@@ -18,11 +18,12 @@ use Rattle.ledger_model.specs.declared.outcome.Item.TheVariants as item
 use Rattle.ledger_model.specs.declared.outcome.Named.{Named}
 use Rattle.ledger_model.specs.Follows.{latest_of}
 use Rattle.ledger_model.specs.Script.{or_else}
-use Rattle.ledger_model.specs.State.{Recorded, State, after, draft_of, empty, state, state_from}
+use Rattle.ledger_model.specs.State.{Recorded, State, after, draft_of, empty, revisions_after, state, state_from}
 use Rattle.ledger_model.specs.Views.{latest, latest_from, live, row_of}
 use Rattle.ledger_model.specs.Meets.{meets, meets_one}
 use Rattle.laws_footprint.specs.Stillness.{Apart, Stillness, StillnessWithPending, block_revises, has_revision_of, rows_met}
-use Rattle.laws_footprint.specs.Touches.{conflict_from, content_in, has_key_at, has_key_in, id_of, is_in, is_of_table, kept, named_or, revisions_in, touched, touches_document, touches_key}
+use Rattle.laws_footprint.specs.Touches.{conflict_from, content_in, has_key_at, has_key_in, id_of, is_in, is_of_table, kept, named_or, redacts_document, redacts_in, revisions_in, touched, touches_document, touches_key}
+use Rattle.ledger_model.proofs.Redactions.{latest_stands}
 use Rattle.pql_model.proofs.Equality.{inside}
 use Rattle.laws_footprint.proofs.Documents.{IsLatest, Silent, alike, all_latest, latest_after, latest_of-append, meets_row, met, others_after}
 
@@ -168,6 +169,10 @@ module _ (s : State) (b : Block) (table : TableId) where
   abbrev new : List Recorded
   new = revisions_in b
 
+  -- the revisions of the blocks before, as they are after the block
+  abbrev before : List Recorded
+  before = revisions_after b.info.schema s.revisions
+
   shown_before : (d : Draft) (r : Recorded) → id_of r ≡ d.id.raw → IsLatest s.revisions d → Shown s b table d r
   shown_before d r same is =
       let w = in_option s.revisions d.id.raw d (latest_of s.revisions d.id.raw) refl is in
@@ -185,7 +190,7 @@ module _ (s : State) (b : Block) (table : TableId) where
       → IsLatest (after s b).revisions d → Shown s b table d r
   shown_after d r same last is =
       let at : latest_of (after s b).revisions d.id.raw ≡ Some r =
-      latest_of-append s.revisions new d.id.raw ∙ ap (λ o. or_else o (latest_of s.revisions d.id.raw)) last in
+      latest_of-append before new d.id.raw ∙ ap (λ o. or_else o (latest_of before d.id.raw)) last in
       let there : latest_of (after s b).revisions (id_of r) ≡ Some r = ap (latest_of (after s b).revisions) same
       ∙ at in
       let it : draft_of r ≡ d = inside (draft_of r) d (sym (ap (option_map draft_of) at) ∙ is) in (
@@ -208,8 +213,11 @@ module _ (s : State) (b : Block) (table : TableId) where
     none : (rs : List Recorded) → list_any (λ r. false) rs ≡ false
     none [] = refl
     none (r ∷ rs) = none rs
-  revisions_untouched (item.Table read) h = h
-  revisions_untouched (item.Doc read id) h = h
+  revisions_untouched (item.Table read) h =
+      (or_parts (list_any (is_of_table s read) new) (list_any (redacts_in read) b.info.schema) h).0
+  revisions_untouched (item.Doc read id) h =
+      (or_parts (list_any (touches_document s read id.raw) new)
+      (list_any (redacts_document read id.raw) b.info.schema) h).0
   revisions_untouched (item.IndexValue read field k) h = h
 
   pub unmet_before : (i : Item) (d : Draft) → touched s b i ≡ false → block_revises d.id.raw b ≡ true
@@ -272,8 +280,9 @@ module _ (s : State) (b : Block) (table : TableId) where
       let docs = latest (map draft_of s.revisions) in
       let more = latest_from docs (map draft_of new) in
       let joined : latest (map draft_of (after s b).revisions) ≡ more =
-      ap latest (map-append draft_of s.revisions new)
-      ∙ latest_after [] (map draft_of s.revisions) (map draft_of new) in
+      ap latest (map-append draft_of before new)
+      ∙ latest_after [] (map draft_of before) (map draft_of new)
+      ∙ ap (λ ds. latest_from ds (map draft_of new)) (latest_stands b.info.schema s.revisions) in
       let silent_after : Silent table (meets_one table items) (λ id. block_revises id b) more =
       subst (Silent table (meets_one table items) (λ id. block_revises id b)) joined
       (silent_by (after s b).revisions items h unmet_after (latest (map draft_of (after s b).revisions))

@@ -15,7 +15,7 @@ use Rattle.ledger_model.specs.Views.{row_of}
 use Rattle.ledger_model.specs.Meets.{meets, meets_one}
 use Rattle.laws_footprint.specs.Stillness.{DocumentsAreStill, IsStill, block_revises, is_met}
 use Rattle.laws_footprint.specs.Touches.{conflict_from, id_of, revisions_in, touched}
-use Rattle.laws_footprint.proofs.Documents.{IsLatest, latest_of-append, meets_row}
+use Rattle.laws_footprint.proofs.Documents.{IsLatest, latest_of_after, meets_row}
 use Rattle.pql_model.proofs.Equality.{inside}
 use Rattle.laws_footprint.proofs.Revised.{absent}
 use Rattle.laws_footprint.proofs.Still.{all_items, each_unmet, none_found, none_named, state_split, unmet_after, unmet_before}
@@ -61,7 +61,7 @@ module _ (table : TableId) (items : List Item) (id : ℕ) where
             (λ i d. unmet_after s b table i d),
       )
   one_block s b false e un =
-      inl (latest_of-append s.revisions (revisions_in b) id
+      inl (latest_of_after s b id
       ∙ ap (λ o. or_else o (latest_of s.revisions id)) (absent id (revisions_in b) e))
 
   then_still : (s t u : State) → IsStill table items id s t → IsStill table items id t u → IsStill table items id s u

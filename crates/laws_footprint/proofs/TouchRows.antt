@@ -14,7 +14,7 @@ use Rattle.ledger_model.specs.declared.block.Content.{Content}
 use Rattle.ledger_model.specs.declared.block.Content.TheVariants.{Deleted, Kept}
 use Rattle.ledger_model.specs.declared.block.Revision.{Revision}
 use Rattle.ledger_model.specs.declared.block.Schema.{Schema}
-use Rattle.ledger_model.specs.declared.block.Schema.TheVariants.{Create, Index, Drop}
+use Rattle.ledger_model.specs.declared.block.Schema.TheVariants.{Create, Index, Drop, Redact}
 use Rattle.ledger_model.specs.declared.outcome.Item.{Item}
 use Rattle.ledger_model.specs.declared.outcome.Item.TheVariants as item
 use Rattle.ledger_model.specs.declared.outcome.Named.{Named}
@@ -153,6 +153,28 @@ module _ (b : Block) (r : Revision) where
 
   other_table : touches_last indexed (writes 11 Deleted) (item.Table u) ≡ false
   other_table = refl
+
+  -- a redaction touches the document and its table, and none of its keys
+  abbrev redacts_12 : Block
+  redacts_12 = changes (Redact r.address t (record { raw = 12 }) ∷ [])
+
+  redacted_document : touches_last holds_5 redacts_12 (item.Doc t (record { raw = 12 })) ≡ true
+  redacted_document = refl
+
+  redacted_other : touches_last holds_5 redacts_12 (item.Doc t (record { raw = 11 })) ≡ false
+  redacted_other = refl
+
+  redacted_table : touches_last holds_5 redacts_12 (item.Table t) ≡ true
+  redacted_table = refl
+
+  redacted_elsewhere : touches_last holds_5 redacts_12 (item.Table u) ≡ false
+  redacted_elsewhere = refl
+
+  redacted_key : touches_last holds_5 redacts_12 (key_a 5) ≡ false
+  redacted_key = refl
+
+  redacted_name : touches_last holds_5 redacts_12 (item.TableName (codes "t")) ≡ false
+  redacted_name = refl
 
   -- rows are no names, and the list of tables is touched by none
   name_by_row : touches_last indexed (writes 11 Deleted) (item.TableName (codes "t")) ≡ false

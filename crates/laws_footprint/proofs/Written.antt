@@ -75,6 +75,7 @@ read_changes_none text (statement.Insert table value) e = refl
 read_changes_none text (statement.Create table) e = refl
 read_changes_none text (statement.Index table field) e = refl
 read_changes_none text (statement.Drop table) e = refl
+read_changes_none text (statement.Redact address table document) e = refl
 
 -- ---- names of tables
 

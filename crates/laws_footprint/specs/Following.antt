@@ -9,7 +9,7 @@ use Rattle.ledger_model.specs.declared.outcome.Item.{Item}
 use Rattle.ledger_model.specs.declared.outcome.Item.TheVariants as item
 use Rattle.ledger_model.specs.Follows.{follows}
 use Rattle.ledger_model.specs.State.{Recorded, State, after}
-use Rattle.laws_footprint.specs.Touches.{has_key_at, id_of, revisions_in, touched}
+use Rattle.laws_footprint.specs.Touches.{has_key_at, id_of, redacts_document, redacts_in, revisions_in, touched}
 
 abbrev pub is_of : TableId → Recorded → Bool
 is_of table r = r.table.raw == table.raw
@@ -23,8 +23,10 @@ changes_key before now table field k r =
 
 -- by the revisions' own tables
 abbrev pub touched_by_tables : State → Block → Item → Bool
-touched_by_tables s b (item.Table table) = list_any (is_of table) (revisions_in b)
-touched_by_tables s b (item.Doc table id) = list_any (is_of_document table id.raw) (revisions_in b)
+touched_by_tables s b (item.Table table) =
+    list_any (is_of table) (revisions_in b) || list_any (redacts_in table) b.info.schema
+touched_by_tables s b (item.Doc table id) =
+    list_any (is_of_document table id.raw) (revisions_in b) || list_any (redacts_document table id.raw) b.info.schema
 touched_by_tables s b (item.IndexValue table field k) =
     list_any (changes_key s (after s b) table field k) (revisions_in b)
 touched_by_tables s b i = touched s b i

@@ -1,11 +1,10 @@
 -- The frame: what a statement, and a whole transaction, does at a state it does at a later one, where no block
 -- between them touches what it reads.
-use Rattle.std.specs.Prelude.{◌≡◌, ◌⊎◌, ◌==◌, ◌+◌, ℕ, Bool, true, false, List, [], ◌∷◌, ◌++◌, drop, map, option_map, take, None, Ok, Some}
+use Rattle.std.specs.Prelude.{◌≡◌, ◌⊎◌, ◌==◌, ℕ, Bool, true, false, List, [], ◌∷◌, ◌++◌, drop, map, option_map, take, None, Ok, Some}
 use Rattle.std.specs.List.{AllByRecursion, cons_option, filter, flat_map, list_any}
 use Rattle.ion_values.specs.declared.value.Value.{Value}
 use Rattle.ql_types.specs.declared.TableId.{TableId}
 use Rattle.pql_model.specs.declared.statement.FromClause.{FromClause}
-use Rattle.pql_model.specs.declared.statement.Source.{Source}
 use Rattle.pql_model.specs.declared.statement.SourceKind.{SourceKind}
 use Rattle.pql_model.specs.declared.statement.Statement.{Statement}
 use Rattle.pql_model.specs.declared.tables.Row.{Row}

@@ -90,14 +90,29 @@ touches_list (Index field id) = false
 touches_list (Drop n id) = true
 touches_list (Redact address id document) = false
 
+-- ---- what a block redacts
+
+-- a revision in the table
+abbrev pub redacts_in : TableId → Schema → Bool
+redacts_in table (Redact address t document) = t.raw == table.raw
+redacts_in table _ = false
+
+-- a revision of the document
+abbrev pub redacts_document : TableId → ℕ → Schema → Bool
+redacts_document table id (Redact address t document) = (t.raw == table.raw) && (document.raw == id)
+redacts_document table id _ = false
+
 -- ---- items, and the first conflict
 
 -- whether the block behind this state touches the item
 abbrev pub touched : State → Block → Item → Bool
 touched s b (item.TableName name) = touches_name s.tables name b.info.schema
 touched s b item.TableList = list_any touches_list b.info.schema
-touched s b (item.Table table) = list_any (is_of_table s table) (revisions_in b)
-touched s b (item.Doc table id) = list_any (touches_document s table id.raw) (revisions_in b)
+touched s b (item.Table table) =
+    list_any (is_of_table s table) (revisions_in b) || list_any (redacts_in table) b.info.schema
+touched s b (item.Doc table id) =
+    list_any (touches_document s table id.raw) (revisions_in b)
+    || list_any (redacts_document table id.raw) b.info.schema
 touched s b (item.IndexValue table field k) = list_any (touches_key s (after s b) table field k) (revisions_in b)
 
 -- whether block m touches the item, where there is a block m

@@ -1,5 +1,5 @@
--- Each cause for which a statement is refused has a code from 1 to 12.
-use Rattle.std.proofs.Common.{◌≡◌, ◌≤◌, ℕ, ◌+◌, ◌==◌, Bool, true, false, if◌then◌else◌, List, [], ◌∷◌, length, map, Option, None, Some, Result, Ok, Err, arith, refl, sym, subst}
+-- Each cause for which a statement is refused has a code from 1 to 12, or from 15 to 18.
+use Rattle.std.proofs.Common.{◌≡◌, ◌≤◌, ℕ, ◌+◌, ◌==◌, Bool, true, false, if◌then◌else◌, List, [], ◌∷◌, length, Option, None, Some, Result, Ok, Err, arith, refl, sym, subst, inl, inr}
 use Rattle.std.specs.Prelude.{IfErr, IfSome, is_some, nat_le, not}
 use Rattle.ion_values.specs.declared.value.Body.{out-Body}
 use Rattle.ion_values.specs.declared.value.Kind.TheVariants.{Null}
@@ -26,25 +26,31 @@ use Rattle.ledger_model.specs.declared.block.Content.TheVariants.{Deleted, Kept}
 use Rattle.ledger_model.specs.declared.block.Schema.{Schema}
 use Rattle.ledger_model.specs.declared.outcome.Item.{Item}
 use Rattle.ledger_model.specs.declared.outcome.Refusal.{Refusal}
-use Rattle.ledger_model.specs.declared.outcome.Refusal.TheVariants.{DocumentTooLarge, IndexExists, NoSuchTable, NotADocument, ParameterCount, ParseFault, ReservedName, TableExists, TooDeep, TooManyIndexes, TooManyRevisions, TooManyTables}
+use Rattle.ledger_model.specs.declared.outcome.Refusal.TheVariants.{AlreadyRedacted, DocumentTooLarge, IndexExists, NoSuchRevision, NoSuchTable, NotADocument, ParameterCount, ParseFault, ReservedName, StillLatest, TableExists, TooDeep, TooManyIndexes, TooManyRedactions, TooManyRevisions, TooManyTables}
 use Rattle.ledger_model.specs.declared.script.Request.{Request}
 use Rattle.ledger_model.specs.Progress.{Begun, Effect, Progress, and_then, changed_by, first_deep, has_room, is_shallow, is_small, next_id, not_kept, not_stored, on_table, or_else, reserved, start, table_now, tables_now, told_depth, unless}
-use Rattle.ledger_model.specs.Run.{Ran, done_by_statement, effect_of, if_read, if_shallow, ran, reading, recorded, refused, run, run_from, schemas_now, step, then_run, views_of}
+use Rattle.ledger_model.specs.Run.{Ran, done_by_statement, effect_of, if_read, if_shallow, reading, recorded, refused, run_from, schemas_now, step, then_run, views_of}
 use Rattle.ledger_model.specs.Footprints.{footprint_of}
 use Rattle.ledger_model.specs.SchemaChanges.{active_count, created, created_count, dropped, existing, existing_index, index_count, indexed, indexes_now, no_index_more, no_table_more}
 use Rattle.ledger_model.specs.Selecting.{absent_table, first_absent, selected}
 use Rattle.ledger_model.specs.Inserting.{documents_in, if_documents, inserted, new_document, stored}
-use Rattle.ledger_model.specs.State.{Indexed, State, Table}
-use Rattle.ledger_model.specs.Statements.{counted, is_reserved, statement_of, table_in, wanted, with_parameters}
-use Rattle.ledger_model.specs.Follows.{has_index}
+use Rattle.ledger_model.specs.State.{Recorded, State, Table}
+use Rattle.ledger_model.specs.Statements.{is_reserved, statement_of, table_in, wanted, with_parameters}
+use Rattle.ledger_model.specs.Follows.{has_index, is_latest, named_by}
 use Rattle.ledger_model.specs.Values.{kind_of, is_struct}
+use Rattle.ledger_model.specs.Redacting.{is_redacted_so_far, not_redacted, of_name, of_revision, redaction_count}
+use Rattle.ledger_model.specs.RedactionArguments.{RevisionName, named_revision, redaction_of}
 use Rattle.ledger_model.specs.Writing.{changed, deleted, first_own, has_room_for, is_root, no_room, own_table, rows_now, stored_changes, stored_deletes, touching}
 use Rattle.laws_history.specs.Refusals.{HasOwnCode, StatementsAreRefused, code_of}
 
 -- ---- causes
 
 own : (c : Refusal) (n : ℕ) → code_of c ≡ n → 1 ≤ n → n ≤ 12 → HasOwnCode c
-own c n e low high = record { least = subst (λ m. 1 ≤ m) (sym e) low; most = subst (λ m. m ≤ 12) (sym e) high }
+own c n e low high = inl (record { least = subst (λ m. 1 ≤ m) (sym e) low; most = subst (λ m. m ≤ 12) (sym e) high })
+
+of_redaction : (c : Refusal) (n : ℕ) → code_of c ≡ n → 15 ≤ n → n ≤ 18 → HasOwnCode c
+of_redaction c n e low high =
+    inr (record { least = subst (λ m. 15 ≤ m) (sym e) low; most = subst (λ m. m ≤ 18) (sym e) high })
 
 abbrev Fine : Option Refusal → Type 0
 Fine o = IfSome o HasOwnCode
@@ -87,13 +93,18 @@ fine_reserved : (name : List ℕ) → Fine (reserved name)
 fine_reserved name =
     either (is_reserved name) (ReservedName name) None (own (ReservedName name) 4 refl (omega arith) (omega arith)) tt
 
+fine_large : (b : Bool) (bytes : ℕ) (o : Option Refusal) → Fine o
+    → Fine (if b then Some (DocumentTooLarge bytes) else o)
+fine_large b bytes o h =
+    either b (DocumentTooLarge bytes) o (own (DocumentTooLarge bytes) 9 refl (omega arith) (omega arith)) h
+
 fine_kept : (room : Bool) (v : Value) → Fine (not_kept room v)
 fine_kept room v =
     either (not (is_struct (out-Body v.body))) (NotADocument (kind_of (out-Body v.body))) _
     (own (NotADocument (kind_of (out-Body v.body))) 10 refl (omega arith) (omega arith))
     (either (not (is_shallow v)) (TooDeep (told_depth v)) _
     (own (TooDeep (told_depth v)) 12 refl (omega arith) (omega arith))
-    (either (not (is_small v)) (DocumentTooLarge _) _ (own (DocumentTooLarge _) 9 refl (omega arith) (omega arith))
+    (fine_large (not (is_small v)) _ _
     (either (not room) (TooManyRevisions 41) None
     (own (TooManyRevisions 41) 8 refl (omega arith) (omega arith)) tt)))
 
@@ -217,6 +228,29 @@ fine_deleted s p params from =
     (fine_unless (first_absent s p from.sources) _ (fine_sources s p from.sources)
     (fine_deletes s p (deleted_documents (rows_now s p params from))))
 
+-- ---- redactions
+
+fine_revision : (revisions : List Recorded) (changes : List Schema) (r : Recorded)
+    → Fine (not_redacted revisions changes r)
+fine_revision revisions changes r =
+    let version = r.revision.metadata.version in
+    either (is_latest revisions r) (StillLatest version) _
+    (of_redaction (StillLatest version) 16 refl (omega arith) (omega arith))
+    (either (is_redacted_so_far changes r) (AlreadyRedacted version) _
+    (of_redaction (AlreadyRedacted version) 17 refl (omega arith) (omega arith))
+    (either (nat_le 40 (redaction_count changes)) (TooManyRedactions 41) None
+    (of_redaction (TooManyRedactions 41) 18 refl (omega arith) (omega arith)) tt))
+
+fine_found : (revisions : List Recorded) (changes : List Schema) (c : Schema) (o : Option Recorded)
+    → Ends (of_revision revisions changes c o)
+fine_found revisions changes c None = of_redaction NoSuchRevision 15 refl (omega arith) (omega arith)
+fine_found revisions changes c (Some r) =
+    fine_unless (not_redacted revisions changes r) _ (fine_revision revisions changes r) tt
+
+fine_named : (s : State) (p : Progress) (o : Option RevisionName) → Ends (of_name s p o)
+fine_named s p None = of_redaction NoSuchRevision 15 refl (omega arith) (omega arith)
+fine_named s p (Some n) = fine_found s.revisions p.schema (redaction_of n) (named_by s.revisions (redaction_of n))
+
 -- ---- a statement
 
 fine_done : (b : Begun) (s : State) (p : Progress) (params : List Value) (st : Statement)
@@ -229,6 +263,8 @@ fine_done b s p params (statement.Select select from) = fine_selected s p params
 fine_done b s p params (statement.Update from change) = fine_changed s p params from change
 fine_done b s p params (statement.From from change) = fine_changed s p params from change
 fine_done b s p params (statement.Delete from) = fine_deleted s p params from
+fine_done b s p params (statement.Redact address table document) =
+    fine_named s p (named_revision params address table document)
 
 fine_reading : (items : List Item) (r : Result Effect Refusal) → Ends r → Ends (reading items r)
 fine_reading items (Err c) h = h

@@ -1,5 +1,5 @@
--- The codes of refusals, and the law that a transaction's statement is refused with one from 1 to 12.
-use Rattle.std.specs.Prelude.{◌≡◌, ◌≤◌, ℕ, List}
+-- The codes of refusals, and the law that a transaction's statement is refused with one from 1 to 12 or from 15 to 18.
+use Rattle.std.specs.Prelude.{◌≡◌, ◌≤◌, ◌⊎◌, ℕ, List}
 use Rattle.ledger_model.specs.declared.outcome.Refusal.{Refusal}
 use Rattle.ledger_model.specs.declared.outcome.Refusal.TheVariants as refusal
 use Rattle.ledger_model.specs.declared.script.Request.{Request}
@@ -22,11 +22,18 @@ code_of (refusal.ParameterCount wanted given) = 11
 code_of (refusal.TooDeep depth) = 12
 code_of refusal.Ended = 13
 code_of refusal.OutOfMemory = 14
+code_of refusal.NoSuchRevision = 15
+code_of (refusal.StillLatest version) = 16
+code_of (refusal.AlreadyRedacted version) = 17
+code_of (refusal.TooManyRedactions count) = 18
+
+pub record IsBetween (first last n : ℕ) : Type 0 where
+  pub least : first ≤ n
+  pub most : n ≤ last
 
 -- the refusal is one of a statement's own
-pub record HasOwnCode (cause : Refusal) : Type 0 where
-  pub least : 1 ≤ code_of cause
-  pub most : code_of cause ≤ 12
+abbrev pub HasOwnCode : Refusal → Type 0
+HasOwnCode cause = IsBetween 1 12 (code_of cause) ⊎ IsBetween 15 18 (code_of cause)
 
 abbrev pub StatementsAreRefused : Type 0
 StatementsAreRefused =

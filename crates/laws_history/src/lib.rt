@@ -66,7 +66,7 @@ pub fn one_worker_in_order()
     ensures { OneWorkerInOrder }
 {}
 
-/// A statement that is refused is refused with a code from 1 to 12.
+/// A refused statement has a code from 1 to 12, or from 15 to 18.
 pub fn statements_are_refused()
     ensures { StatementsAreRefused }
 {}

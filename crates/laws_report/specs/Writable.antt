@@ -58,6 +58,10 @@ IsCause (refusal.ParameterCount wanted given) = IsNumber wanted × IsNumber give
 IsCause (refusal.TooDeep depth) = IsNumber depth
 IsCause refusal.Ended = Unit {0}
 IsCause refusal.OutOfMemory = Unit {0}
+IsCause refusal.NoSuchRevision = Unit {0}
+IsCause (refusal.StillLatest version) = IsNumber version
+IsCause (refusal.AlreadyRedacted version) = IsNumber version
+IsCause (refusal.TooManyRedactions count) = IsNumber count
 
 -- it is a name in which no comma stands
 abbrev pub is_of_name : ℕ → Bool

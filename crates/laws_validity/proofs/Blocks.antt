@@ -1,5 +1,5 @@
 -- The block of a transaction is whole.
-use Rattle.std.proofs.Common.{◌≡◌, ◌∙◌, ◌≤◌, ◌<◌, ◌+◌, ◌-◌, ◌^◌, ◌&&◌, ◌==◌, ℕ, true, false, List, [], ◌∷◌, map, Option, Some, None, refl, sym, arith, inl, inr}
+use Rattle.std.proofs.Common.{◌≡◌, ◌∙◌, ◌≤◌, ◌<◌, ◌+◌, ◌-◌, ◌^◌, ◌&&◌, ◌==◌, ℕ, true, List, [], ◌∷◌, map, Option, Some, None, refl, sym, arith, inl, inr}
 use Rattle.std.specs.Prelude.{nat_lt}
 use Rattle.std.specs.List.{AllByRecursion}
 use Rattle.std.proofs.lemmas.Bool.{and_parts, lt-ltb, ltb-true, eqb-true, cases_Bool}
@@ -17,7 +17,7 @@ use Rattle.ledger_model.specs.Legal.{last_hash}
 use Rattle.ledger_model.specs.Seals.{sealed}
 use Rattle.ledger_model.specs.Making.{revision_of, header_of, info_of}
 use Rattle.ledger_model.specs.Views.{latest}
-use Rattle.ledger_model.specs.Whole.{IsWhole, id_fits, schema_fits, is_redact}
+use Rattle.ledger_model.specs.Whole.{IsWhole, id_fits, schema_fits}
 use Rattle.ledger_model.specs.Follows.{latest_of, is_new, is_kept, created_ids}
 use Rattle.laws_validity.specs.Before.{CanFollow}
 use Rattle.laws_validity.specs.Makes.{CanMake, IsWithinAll, change_within, draft_within, said_within}
@@ -30,7 +30,6 @@ use Rattle.laws_validity.proofs.Hashes.{sealed_is, drafts_hashed}
 use Rattle.laws_validity.proofs.Parts.{FineContent, fine_content}
 use Rattle.laws_validity.proofs.Journals.{all_whole}
 use Rattle.laws_validity.proofs.Headers.{previous_is, behind_is}
-use Rattle.laws_validity.proofs.Tables.{none_redacts}
 use Rattle.laws_validity.proofs.Following.{latest_like, old_like}
 use Rattle.laws_validity.proofs.Ready.{IsReady, ready_of}
 use Rattle.laws_validity.proofs.Progress.{IsPending, IsGiven, Made, ShallowSaid, older, given_fits, new_given}
@@ -129,10 +128,9 @@ module _ (b : Begun) (blocks : List Block) (place : Place) (time : TimeParts) (p
 
   changes : AllByRecursion FineChange p.schema
   changes =
-      all_like (λ c. (schema_fits c ≡ true) × (change_within c ≡ true) × (is_redact c ≡ false)) FineChange
-      (λ c h. record { fits = h.0; name = h.1; unredacted = h.2 }) p.schema (
-      all_three _ _ _ p.schema m.fits (passing change_within p.schema ranges.schema)
-      (none_redacts p.schema s.tables s.indexes m.follow))
+      all_like (λ c. (schema_fits c ≡ true) × (change_within c ≡ true)) FineChange
+      (λ c h. record { fits = h.0; name = h.1 }) p.schema (
+      all_both _ _ p.schema m.fits (passing change_within p.schema ranges.schema))
 
   -- ---- the block
 

@@ -10,7 +10,7 @@ use Rattle.std.proofs.lemmas.List.Folds.{list_all-append}
 use Rattle.sha2.specs.Sha256.{sha256, digest_bytes, final_hash, initial_hash_256}
 use Rattle.sha2.proofs.Facts256.{length-sha256}
 use Rattle.ion_values.specs.Within.{bytes_within}
-use Rattle.hash_model.specs.Serialize.{hash_of}
+use Rattle.hash_model.specs.Serialize.{hash_of, struct_hash}
 use Rattle.hash_model.specs.PairHash.{dot32}
 use Rattle.hash_model.specs.Tree.{node, pad_hash, root_of, height_of}
 use Rattle.ion_values.specs.declared.value.Value.{Value}
@@ -25,7 +25,7 @@ use Rattle.ledger_model.specs.declared.block.Info.{Info}
 use Rattle.ledger_model.specs.declared.block.Header.{Header}
 use Rattle.ledger_model.specs.declared.block.Block.{Block}
 use Rattle.ledger_model.specs.declared.block.Draft.{Draft}
-use Rattle.ledger_model.specs.Seals.{revision_hash, entries_hash, sealed}
+use Rattle.ledger_model.specs.Seals.{revision_hash, entries_hash, info_hash, sealed}
 use Rattle.ledger_model.specs.Damages.{same_hash, same_entry, has_revision_hash, has_hashes}
 use Rattle.ledger_model.specs.Making.{revision_of}
 use Rattle.laws_validity.proofs.Lists.{all_read, all_mapped}
@@ -60,6 +60,10 @@ sha_within m = digest_within (final_hash initial_hash_256 m) 8
 pub hash_of_is : (v : Value) → IsDigest (hash_of v)
 unfolding hash_of
 hash_of_is v = record { long = length-sha256 _; ranges = sha_within _ }
+
+info_hash_is : (i : Info) (rs : List Revision) → IsDigest (info_hash i rs)
+unfolding info_hash struct_hash
+info_hash_is i rs = record { long = length-sha256 _; ranges = sha_within _ }
 
 pub dot_is : (a b : Hash32) → IsDigest (dot32 a b)
 unfolding dot32
@@ -104,7 +108,7 @@ sealed_is previous h i rs p all = record {
   previous = p;
   count = refl;
   list = (
-    hash_of_is _,
+    info_hash_is i rs,
     (root_is (map (λ r. r.hash) rs) (all_mapped IsDigest (λ r. r.hash) rs all), (hash_of_is _, tt)),
   );
 }

@@ -1,5 +1,6 @@
 -- Undamaged lists of blocks: their fronts, one block more, and what the last block tells.
 use Rattle.std.proofs.Common.{◌≡◌, ℕ, Bool, true, false, not, List, [], ◌∷◌, ◌++◌, Option, Some, None, refl, sym, subst, append-nil, append_assoc, if◌then◌else◌}
+use Rattle.std.proofs.lemmas.Bool.{and_from, and_parts}
 use Rattle.std.specs.List.{AllByRecursion}
 use Rattle.ql_types.specs.declared.Hash32.{Hash32}
 use Rattle.ledger_model.specs.declared.block.Block.{Block}
@@ -7,7 +8,7 @@ use Rattle.ledger_model.specs.State.{State, state, state_from, after}
 use Rattle.ledger_model.specs.Legal.{last_hash}
 use Rattle.ledger_model.specs.Seals.{strand_hash}
 use Rattle.ledger_model.specs.Whole.{IsWhole}
-use Rattle.ledger_model.specs.Follows.{follows}
+use Rattle.ledger_model.specs.Follows.{follows, follows_blocks, redactions_follow}
 use Rattle.ledger_model.specs.Damages.{UndamagedBehind, damage_behind, strand_of, last_block, has_address, has_id, has_time, has_previous, has_hashes}
 use Rattle.laws_validity.specs.Before.{HasStrand}
 
@@ -31,6 +32,7 @@ pub record Passes (before : List Block) (b : Block) : Type 0 where
   pub previous : has_previous (strand_of before b) before b ≡ true
   pub hashes : has_hashes b ≡ true
   pub follows_is : follows (strand_of before b) (state before) b ≡ true
+  pub redactions : redactions_follow before (state before).revisions [] b.info.schema ≡ true
 
 pub passes_all : (before : List Block) (b : Block) → damage_behind before b ≡ None → Passes before b
 passes_all before b h =
@@ -40,8 +42,18 @@ passes_all before b h =
     let three = past (has_time before b) _ _ two.1 in
     let four = past (has_previous strand before b) _ _ three.1 in
     let five = past (has_hashes b) _ _ four.1 in
-    let six = past (follows strand (state before) b) _ _ five.1 in
-    record { address = one.0; id = two.0; time = three.0; previous = four.0; hashes = five.0; follows_is = six.0 }
+    let six = past (follows_blocks strand before b) _ _ five.1 in
+    let both = and_parts (follows strand (state before) b)
+    (redactions_follow before (state before).revisions [] b.info.schema) six.0 in
+    record {
+      address = one.0;
+      id = two.0;
+      time = three.0;
+      previous = four.0;
+      hashes = five.0;
+      follows_is = both.0;
+      redactions = both.1;
+    }
 
 pub no_damage : (before : List Block) (b : Block) → Passes before b → damage_behind before b ≡ None
 no_damage before b p =
@@ -50,7 +62,10 @@ no_damage before b p =
     pass (has_id strand before b) _ _ p.id (
     pass (has_time before b) _ _ p.time (
     pass (has_previous strand before b) _ _ p.previous (
-    pass (has_hashes b) _ _ p.hashes (pass (follows strand (state before) b) _ _ p.follows_is refl)))))
+    pass (has_hashes b) _ _ p.hashes (pass (follows_blocks strand before b) _ _
+    (and_from (follows strand (state before) b)
+    (redactions_follow before (state before).revisions [] b.info.schema) p.follows_is p.redactions)
+    refl)))))
 
 -- ---- fronts, and one block more
 

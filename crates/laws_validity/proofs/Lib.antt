@@ -11,6 +11,7 @@ pub mod Journals
 mod Tables
 mod Views
 mod Following
+mod Redacted
 pub mod States
 mod Ready
 mod Progress
@@ -20,6 +21,7 @@ mod Revised
 mod Effects
 mod Creates
 mod SchemaChanges
+mod Redacting
 mod Writes
 mod Inserts
 mod Selects
@@ -28,6 +30,7 @@ mod Headers
 mod Follows
 mod Whole
 mod Blocks
+mod RedactionsMade
 pub mod Undamaged
 pub mod Further
 mod Rows

@@ -21,6 +21,7 @@ use Rattle.laws_validity.proofs.Progress.{ShallowSaid, none_made}
 use Rattle.laws_validity.proofs.Effects.{MadeBy, FineProgress, Leaves, reading_leaves}
 use Rattle.laws_validity.proofs.Creates.{leaves_create}
 use Rattle.laws_validity.proofs.SchemaChanges.{leaves_drop, leaves_index}
+use Rattle.laws_validity.proofs.Redacting.{leaves_redact}
 use Rattle.laws_validity.proofs.Writes.{leaves_change, leaves_delete}
 use Rattle.laws_validity.proofs.Inserts.{leaves_insert}
 use Rattle.laws_validity.proofs.Selects.{leaves_select}
@@ -55,6 +56,8 @@ module _ (b : Begun) (s : State) (ready : IsReady b s) where
   leaves_statement p params text (statement.Update from c) m given e = leaves_change b s ready p params from c m
   leaves_statement p params text (statement.From from c) m given e = leaves_change b s ready p params from c m
   leaves_statement p params text (statement.Delete from) m given e = leaves_delete b s ready p params from m
+  leaves_statement p params text (statement.Redact address table document) m given e =
+      leaves_redact b s p params address table document m
 
   leaves_effect : (p : Progress) (params : List Value) (text : List ℕ) (st : Statement) → MadeBy b s p
       → AllByRecursion (Shallow 64) params → parsed text ≡ Ok st

@@ -1,7 +1,7 @@
 -- What undamaged blocks tell of their state: each id in it was made by a transaction of theirs, the versions of a
 -- document are fewer than the blocks, and ids and contents are within their ranges.
 use Rattle.std.proofs.Common.{◌≡◌, ◌∙◌, ◌+◌, ◌^◌, ◌<◌, ◌&&◌, ◌==◌, ℕ, Bool, true, false, List, [], ◌∷◌, ◌++◌, length, Option, Some, None, refl, sym, subst, append-nil, append_assoc, arith, inl, inr, length-append}
-use Rattle.std.specs.Prelude.{nat_le, nat_lt}
+use Rattle.std.specs.Prelude.{nat_le, nat_lt, if◌then◌else◌}
 use Rattle.std.specs.List.{AllByRecursion, list_all}
 use Rattle.std.proofs.lemmas.Bool.{and_parts, or_cases, or_left, or_right, eqb-true, cases_Bool}
 use Rattle.std.proofs.lemmas.List.Folds.{list_any-append}
@@ -9,17 +9,27 @@ use Rattle.ql_types.specs.Ids.{transaction_in, thing_in}
 use Rattle.ql_types.specs.declared.TableId.{TableId}
 use Rattle.ledger_model.specs.declared.block.Block.{Block}
 use Rattle.ledger_model.specs.declared.block.Revision.{Revision}
-use Rattle.ledger_model.specs.State.{State, Recorded, recorded_in, after, empty, state}
+use Rattle.ledger_model.specs.declared.block.Content.{Content}
+use Rattle.ledger_model.specs.declared.block.Content.TheVariants.{Deleted, Kept, Redacted}
+use Rattle.ledger_model.specs.State.{State, Recorded, recorded_in, after, empty, state, hashed, revisions_after}
 use Rattle.ledger_model.specs.Whole.{IsWhole, id_fits, table_fits, schema_fits, header_fits, hashes_fit, info_fits, place_fits, revision_fits, address_fits, hash_fits, metadata_fits, content_fits, told_fits}
 use Rattle.ledger_model.specs.Follows.{latest_of, is_new, is_made_by, is_kept, created_ids, document_ids, revision_follows, continues, is_of, has_table, follows}
 use Rattle.ledger_model.specs.Damages.{UndamagedBehind, Undamaged, strand_of}
 use Rattle.laws_validity.specs.Before.{HasStrand, IsUnused, is_made_in, AreMadeIn}
+use Rattle.ledger_model.proofs.Redactions.{each_after}
 use Rattle.laws_validity.proofs.Lists.{all_append, all_like, all_unmapped, passing}
 use Rattle.laws_validity.proofs.Thinned.{unthinned}
 use Rattle.laws_validity.proofs.Parts.{ShallowContent, parts_of}
 use Rattle.laws_validity.proofs.Journals.{passes_all, state_push, strand_is}
 use Rattle.laws_validity.proofs.Tables.{TableFits, all_changed_like, tables_fit}
 use Rattle.laws_validity.proofs.Following.{Parted, parted, latest_like, old_like}
+
+shallow_hidden : (c : Bool) (content : Content) → ShallowContent content
+    → ShallowContent (if c then hashed content else content)
+shallow_hidden false content h = h
+shallow_hidden true Deleted h = tt
+shallow_hidden true (Kept v) h = tt
+shallow_hidden true (Redacted hash) h = h
 
 -- ---- what a whole block tells of ids
 
@@ -153,6 +163,10 @@ module _ (mask : ℕ) where
         (λ r h. version_of (length blocks) s b r sound.versions h) _
         (passing (revision_follows s b) _ parts.revisions)
 
+    -- the revisions of the blocks before, as they are after the block
+    abbrev before : List Recorded
+    before = revisions_after b.info.schema s.revisions
+
     sound_after : IsSound more (after s b)
     sound_after =
         let long : length blocks + 1 ≡ length more = sym (length-append blocks (b ∷ [])) in
@@ -160,19 +174,27 @@ module _ (mask : ℕ) where
         (λ r. r.revision.metadata.version < length blocks + 1)
         (λ r h. omega (arith, h)) s.revisions sound.versions in
         record {
-          documents = all_append (λ r. MadeIn more r.revision.metadata.id.raw) s.revisions _
+          documents = all_append (λ r. MadeIn more r.revision.metadata.id.raw) before _
+              (each_after b.info.schema (λ r. MadeIn more r.revision.metadata.id.raw) (λ c r h. h) s.revisions
               (all_like (λ r. MadeIn blocks r.revision.metadata.id.raw) (λ r. MadeIn more r.revision.metadata.id.raw)
-              (λ r h. still_made blocks b r.revision.metadata.id.raw h) s.revisions sound.documents)
+              (λ r h. still_made blocks b r.revision.metadata.id.raw h) s.revisions sound.documents))
               (recorded_like (λ r. MadeIn more r.metadata.id.raw) b.info.tables b.revisions
               (all_unmapped (MadeIn more) (λ r. r.metadata.id.raw) b.revisions documents_made));
           created = all_changed_like (MadeIn more) b.info.schema s.tables
               (all_like (λ t. MadeIn blocks t.id.raw) (λ t. MadeIn more t.id.raw)
               (λ t h. still_made blocks b t.id.raw h) s.tables sound.created) tables_made;
           versions = subst (λ n. AllByRecursion (λ r. r.revision.metadata.version < n) (after s b).revisions) long
-              (all_append (λ r. r.revision.metadata.version < length blocks + 1) s.revisions _ old versions_next);
-          fits = all_append (λ r. id_fits r.revision.metadata.id.raw ≡ true) s.revisions _ sound.fits
+              (all_append (λ r. r.revision.metadata.version < length blocks + 1) before _
+              (each_after b.info.schema (λ r. r.revision.metadata.version < length blocks + 1)
+              (λ c r h. h) s.revisions old)
+              versions_next);
+          fits = all_append (λ r. id_fits r.revision.metadata.id.raw ≡ true) before _
+              (each_after b.info.schema (λ r. id_fits r.revision.metadata.id.raw ≡ true)
+              (λ c r h. h) s.revisions sound.fits)
               (recorded_like (λ r. id_fits r.metadata.id.raw ≡ true) b.info.tables b.revisions (documents_fit b w));
-          contents = all_append (λ r. ShallowContent r.revision.content) s.revisions _ sound.contents
+          contents = all_append (λ r. ShallowContent r.revision.content) before _
+              (each_after b.info.schema (λ r. ShallowContent r.revision.content)
+              (λ c r h. shallow_hidden c r.revision.content h) s.revisions sound.contents)
               (recorded_like (λ r. ShallowContent r.content) b.info.tables b.revisions (parts_of b w).revisions);
           tables = tables_fit b.info.schema s.tables sound.tables (schemas_fit b w);
         }

@@ -9,7 +9,7 @@ use Rattle.ledger_model.specs.declared.block.Schema.{Schema}
 use Rattle.ledger_model.specs.declared.block.Schema.TheVariants.{Create, Index, Drop, Redact}
 use Rattle.ledger_model.specs.State.{Table, Indexed, dropped, changed, all_changed, indexed, all_indexed, active_table}
 use Rattle.ledger_model.specs.Run.{created_count}
-use Rattle.ledger_model.specs.Whole.{id_fits, schema_fits, is_redact}
+use Rattle.ledger_model.specs.Whole.{id_fits, schema_fits}
 use Rattle.ledger_model.specs.Follows.{is_active, change_follows, schema_follows, created_id, created_ids, has_table}
 use Rattle.laws_validity.proofs.Lists.{all_append, all_front, all_rest}
 
@@ -39,19 +39,6 @@ created_count_append (Create name id ∷ xs) ys = let e = created_count_append x
 created_count_append (Index name id ∷ xs) ys = created_count_append xs ys
 created_count_append (Drop name id ∷ xs) ys = created_count_append xs ys
 created_count_append (Redact address id document ∷ xs) ys = created_count_append xs ys
-
--- changes that follow one another redact nothing
-pub none_redacts : (cs : List Schema) (ts : List Table) (is : List Indexed) → schema_follows ts is cs ≡ true
-    → AllByRecursion (λ c. is_redact c ≡ false) cs
-none_redacts [] ts is h = tt
-none_redacts (c ∷ cs) ts is h =
-    let both = and_parts (change_follows ts is c) (schema_follows (changed ts c) (indexed is c) cs) h in
-    (follows_unredacted c both.0, none_redacts cs (changed ts c) (indexed is c) both.1) where
-      follows_unredacted : (d : Schema) → change_follows ts is d ≡ true → is_redact d ≡ false
-      follows_unredacted (Create name id) k = refl
-      follows_unredacted (Index name id) k = refl
-      follows_unredacted (Drop name id) k = refl
-      follows_unredacted (Redact address id document) k = cc
 
 -- ---- what holds of the ids of tables
 

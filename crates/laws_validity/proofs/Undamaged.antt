@@ -24,6 +24,8 @@ use Rattle.laws_validity.proofs.Effects.{FineProgress}
 use Rattle.laws_validity.proofs.Runs.{so_far_of}
 use Rattle.laws_validity.proofs.Follows.{follows_made}
 use Rattle.laws_validity.proofs.Blocks.{is_whole}
+use Rattle.laws_validity.proofs.Redacted.{are_redacted}
+use Rattle.laws_validity.proofs.RedactionsMade.{redactions_made}
 
 -- the block of these revisions
 abbrev block_with : Begun → List Block → Place → TimeParts → Progress → List Draft → Block
@@ -61,6 +63,7 @@ module _ (b : Begun) (blocks : List Block) (place : Place) (time : TimeParts) (a
     follows_is = subst (λ m. follows m (state blocks) block ≡ true) (sym strand) (
         follows_made b (state blocks) (ready_of b blocks make.mask_fits can) p so_far.made
         (last_hash b.mask blocks) header place refl);
+    redactions = redactions_made b blocks (are_redacted blocks can.undamaged) asked p runs;
   }
 
   -- The block that a transaction becomes is undamaged behind the blocks on whose state its statements ran: where they

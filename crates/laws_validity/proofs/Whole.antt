@@ -1,8 +1,8 @@
 -- The block of a transaction is whole.
-use Rattle.std.proofs.Common.{◌≡◌, ◌<◌, ◌^◌, ◌&&◌, ℕ, not, true, false, List, [], ◌∷◌, map, length, codes, refl, arith, true≢false}
+use Rattle.std.proofs.Common.{◌≡◌, ◌<◌, ◌^◌, ◌&&◌, ℕ, not, true, List, [], ◌∷◌, map, length, codes, refl, arith}
 use Rattle.std.specs.Prelude.{nat_lt}
 use Rattle.std.specs.List.{AllByRecursion, list_all}
-use Rattle.std.proofs.lemmas.Bool.{and_from, and_parts, not_from_false, lt-ltb, le-leb, eq-eqb}
+use Rattle.std.proofs.lemmas.Bool.{and_from, and_parts, lt-ltb, ltb-true, le-leb, eq-eqb}
 use Rattle.ion_values.specs.Depth.{depth_of}
 use Rattle.ion_values.specs.Within.{within, text_within}
 use Rattle.ion_values.specs.Time.{is_time}
@@ -27,7 +27,7 @@ use Rattle.ledger_model.specs.declared.block.Block.{Block}
 use Rattle.ledger_model.specs.Values.{plain}
 use Rattle.ledger_model.specs.Journal.{hash_value, hash_bytes, address_value, metadata_value, revision_value, place_value, said_value, change_value, schema_value, document_value, document_values, told_field, info_value, block_value}
 use Rattle.ledger_model.specs.Whole as whole
-use Rattle.ledger_model.specs.Whole.{IsWhole, is_said, is_redact, is_redacted, is_unredacted, content_fits, told_fits, id_fits, table_fits, hash_fits, entry_fits, address_fits, revision_fits, place_fits, schema_fits, info_fits, header_fits, hashes_fit, block_fits}
+use Rattle.ledger_model.specs.Whole.{IsWhole, is_said, is_redacted, is_unredacted, content_fits, told_fits, id_fits, table_fits, hash_fits, entry_fits, address_fits, revision_fits, place_fits, schema_fits, info_fits, header_fits, hashes_fit, block_fits}
 use Rattle.laws_validity.specs.Makes.{change_within, said_within}
 use Rattle.laws_validity.proofs.Lists.{all_like, all_mapped, passes}
 use Rattle.laws_validity.proofs.Shapes.{Fine, FineField}
@@ -47,11 +47,9 @@ abbrev pub FineTold : Told → Type 0
 FineTold (told.Said said) = AllByRecursion FineSaid said
 FineTold (told.Hashed statements) = ⊥
 
--- and it redacts nothing
 pub record FineChange (c : Schema) : Type 0 where
   pub name : change_within c ≡ true
   pub fits : schema_fits c ≡ true
-  pub unredacted : is_redact c ≡ false
 
 pub said_is : (x : Said) → ShallowSaid x → said_within x ≡ true → FineSaid x
 said_is x h k =
@@ -147,11 +145,22 @@ change_fine change name id h k =
       (fine_field 0 (codes "tableId") _ refl (fine_id 0 id.raw), tt),
     )
 
-schema_fine : (c : Schema) → FineChange c → Fine 1 (schema_value c)
-schema_fine (Create name id) f = change_fine (codes "create") name id refl f.name
-schema_fine (Index name id) f = change_fine (codes "index") name id refl f.name
-schema_fine (Drop name id) f = change_fine (codes "drop") name id refl f.name
-schema_fine (Redact address id document) f = let bad : true ≡ false = f.unredacted in absurd (true≢false bad)
+schema_fine : (c : Schema) → FineChange c → Fine 2 (schema_value c)
+schema_fine (Create name id) f = fine_more 1 2 _ (omega arith) (change_fine (codes "create") name id refl f.name)
+schema_fine (Index name id) f = fine_more 1 2 _ (omega arith) (change_fine (codes "index") name id refl f.name)
+schema_fine (Drop name id) f = fine_more 1 2 _ (omega arith) (change_fine (codes "drop") name id refl f.name)
+schema_fine (Redact address id document) f =
+    let both = and_parts (address_fits address && table_fits id) (id_fits document.raw) f.fits in
+    let own = (and_parts (address_fits address) (table_fits id) both.0).0 in
+    let low = ltb-true address.sequence (2 ^ 64)
+    (and_parts (id_fits address.strand.raw) (nat_lt address.sequence (2 ^ 64)) own).1 in
+    fine_structure 1 _ (
+      fine_field 1 (codes "redact") _ refl (address_fine address (omega (arith, low))),
+      (
+        fine_field 1 (codes "tableId") _ refl (fine_id 1 id.raw),
+        (fine_field 1 (codes "documentId") _ refl (fine_id 1 document.raw), tt),
+      ),
+    )
 
 document_fine : (t : TableId) (r : Revision) → Fine 1 (document_value t r)
 document_fine t r =
@@ -196,16 +205,16 @@ told_fine (told.Hashed statements) f = absurd f
 info_fine : (i : Info) (rs : List Revision) → Fine 1 (place_value i.place) → FineTold i.said
     → AllByRecursion FineChange i.schema → Fine 134 (info_value i rs)
 info_fine i rs place said schema =
-    let changes = fine_list 1 (map schema_value i.schema)
-    (all_mapped (Fine 1) schema_value i.schema
-    (all_like FineChange (λ c. Fine 1 (schema_value c)) schema_fine i.schema schema)) in
+    let changes = fine_list 2 (map schema_value i.schema)
+    (all_mapped (Fine 2) schema_value i.schema
+    (all_like FineChange (λ c. Fine 2 (schema_value c)) schema_fine i.schema schema)) in
     let documents = fine_list 1 (document_values i.tables rs) (documents_fine i.tables rs) in
     fine_structure 133 _ (
       fine_field 133 (codes "place") _ refl (fine_more 1 133 _ (omega arith) place),
       (
         told_fine i.said said,
         (
-          fine_field 133 (codes "schema") _ refl (fine_more 2 133 _ (omega arith) changes),
+          fine_field 133 (codes "schema") _ refl (fine_more 3 133 _ (omega arith) changes),
           (fine_field 133 (codes "documents") _ refl (fine_more 2 133 _ (omega arith) documents), tt),
         ),
       ),
@@ -317,13 +326,10 @@ kept_is (Redacted hash) f = absurd f
 
 unredacted_is : (b : Block) → FineBlock b → is_unredacted b ≡ true
 unredacted_is b f =
-    let changes = passes (λ c. not (is_redact c)) b.info.schema
-    (all_like FineChange (λ c. not (is_redact c) ≡ true) (λ c x. not_from_false (is_redact c) x.unredacted)
-    b.info.schema f.schema) in
     let contents = passes (λ r. not (is_redacted r.content)) b.revisions
     (all_like FineRevision (λ r. not (is_redacted r.content) ≡ true) (λ r x. kept_is r.content x.content)
     b.revisions f.revisions) in
-    and_from _ _ (and_from _ _ (said_told b.info.said f.said) changes) contents
+    and_from _ _ (said_told b.info.said f.said) contents
 
 pub whole_of : (b : Block) → FineBlock b → b.header.revisions ≡ length b.revisions
     → length b.info.tables ≡ length b.revisions → IsWhole b

@@ -1,5 +1,5 @@
 -- The history of a made workload's run with a block for each transaction adds up to the workload's numbers.
-use Rattle.std.proofs.Common.{◌≡◌, ◌∙◌, ◌⊎◌, ℕ, zero, suc, ◌+◌, ◌*◌, ◌<◌, List, [], ◌∷◌, ◌++◌, map, length, drop, take, slice_index_or, Some, None, refl, sym, ap, subst, inl, inr, arith}
+use Rattle.std.proofs.Common.{◌≡◌, ◌∙◌, ◌⊎◌, ℕ, zero, suc, ◌+◌, ◌*◌, ◌<◌, List, [], ◌∷◌, map, length, drop, take, slice_index_or, refl, sym, ap, subst, inl, inr, arith}
 use Rattle.std.specs.Prelude.{Contains, IsPermutation}
 use Rattle.std.specs.List.{AllByRecursion}
 use Rattle.std.proofs.lemmas.List.{length-map}
@@ -7,25 +7,24 @@ use Rattle.std.proofs.lemmas.List.Sorted.{IsPermutation-map}
 use Rattle.ion_values.specs.declared.value.Value.{Value}
 use Rattle.ql_types.specs.declared.Place.{Place}
 use Rattle.ledger_model.specs.declared.block.Block.{Block}
-use Rattle.ledger_model.specs.declared.block.Draft.{Draft}
 use Rattle.ledger_model.specs.declared.block.Schema.{Schema}
 use Rattle.ledger_model.specs.declared.script.Job.{Job}
-use Rattle.ledger_model.specs.Damages.{Undamaged, UndamagedBehind}
+use Rattle.ledger_model.specs.Damages.{Undamaged}
 use Rattle.ledger_model.specs.Journal.{said_in}
 use Rattle.ledger_model.specs.Legal.{LegalFrom, asked_in}
 use Rattle.ledger_model.specs.Script.{Placed}
 use Rattle.ledger_model.specs.State.{State, after, all_changed, empty, state}
 use Rattle.ledger_model.specs.Views.{latest}
-use Rattle.laws_history.specs.Records.{RunRecord, Before, FitsBlocks, InSessionOrder, IsOfSomeJob}
-use Rattle.workload.specs.Laws.{made_documents, made_total, values_of}
+use Rattle.laws_history.specs.Records.{Before, InSessionOrder, IsOfSomeJob}
+use Rattle.workload.specs.Laws.{made_documents, made_total}
 use Rattle.workload.specs.Made.{made_first, made_placed}
-use Rattle.workload.specs.Sums.{made_rows, summary}
+use Rattle.workload.specs.Sums.{summary}
 use Rattle.workload.specs.declared.totals.Totals.{Totals}
 use Rattle.workload.proofs.Additions.{add-up}
 use Rattle.turn_lock.specs.History.{Stands}
 use Rattle.laws_workload.specs.Adding.{MadeRunsAddUp}
 use Rattle.laws_workload.proofs.Blocks.{adds_document, makes_table}
-use Rattle.laws_workload.proofs.Histories.{Added, EachAdds, Stand, Whole, whole_from, whole_rows}
+use Rattle.laws_workload.proofs.Histories.{EachAdds, Stand, Whole, whole_from, whole_rows}
 use Rattle.laws_workload.proofs.Places.{AllApart, IsOfSession, all_counted, all_documents, all_of_sessions, amount_of, document_at, job_at, same_items, session_jobs}
 
 -- ---- lists

@@ -1,5 +1,5 @@
 -- What a block of a made workload's transaction did, which wasn't refused.
-use Rattle.std.proofs.Common.{◌≡◌, ◌∙◌, ℕ, ◌+◌, List, [], ◌∷◌, ◌++◌, append-nil, codes, map, Option, Some, None, refl, sym, ap, subst}
+use Rattle.std.proofs.Common.{◌≡◌, ◌∙◌, ℕ, List, [], ◌∷◌, ◌++◌, codes, map, Some, None, sym, ap}
 use Rattle.ion_values.specs.declared.value.Value.{Value}
 use Rattle.ql_types.specs.Ids.{raw_id}
 use Rattle.ql_types.specs.declared.TableId.{TableId}
@@ -15,10 +15,10 @@ use Rattle.ledger_model.specs.Script.{text_alone}
 use Rattle.ledger_model.specs.State as state
 use Rattle.ledger_model.specs.State.{State, active_table, recorded_in}
 use Rattle.ledger_model.specs.Values.{field}
-use Rattle.ledger_model.specs.Run.{Begun, Progress, Ran, final_revisions, left_of, next_id, ran, run, start, table_now}
+use Rattle.ledger_model.specs.Run.{Begun, left_of, next_id, ran, run, start}
 use Rattle.workload.specs.Made.{asked_with, made_document, made_first, made_job}
-use Rattle.laws_workload.proofs.Inversions.{RanTwo, ran_two}
-use Rattle.laws_workload.proofs.Statements.{draft_of, steps_count, steps_create, steps_index, steps_insert}
+use Rattle.laws_workload.proofs.Inversions.{ran_two}
+use Rattle.laws_workload.proofs.Statements.{steps_count, steps_create, steps_index, steps_insert}
 
 abbrev pub name : List ℕ
 name = codes "made"

@@ -1,8 +1,8 @@
 -- The history of a made workload: first the table is made, and then each block adds a document to it.
-use Rattle.std.proofs.Common.{◌≡◌, ◌∙◌, ◌⊎◌, ℕ, zero, suc, ◌+◌, ◌*◌, ◌<◌, ◌==◌, ◌||◌, ◌^◌, Bool, true, false, not, List, [], ◌∷◌, ◌++◌, append-nil, append_assoc, codes, map, Option, Some, None, refl, sym, ap, subst, inl, inr, arith}
+use Rattle.std.proofs.Common.{◌≡◌, ◌∙◌, ◌⊎◌, ℕ, ◌+◌, ◌*◌, ◌<◌, ◌==◌, ◌^◌, true, false, not, List, [], ◌∷◌, ◌++◌, append-nil, append_assoc, map, Some, None, refl, sym, ap, subst, inl, inr, arith}
 use Rattle.std.specs.List.{AllByRecursion, list_any, filter_map}
 use Rattle.std.proofs.lemmas.List.{map-append}
-use Rattle.std.proofs.lemmas.Bool.{and_parts, eq-eqb, eqb-true, ne_eqb, not-true, or_parts, true≢false}
+use Rattle.std.proofs.lemmas.Bool.{and_parts, eq-eqb, ne_eqb, not-true, or_parts, true≢false}
 use Rattle.ion_values.specs.declared.value.Value.{Value}
 use Rattle.pql_model.specs.declared.tables.Row.{Row}
 use Rattle.ql_types.specs.Ids.{raw_id, transaction_in}
@@ -11,18 +11,17 @@ use Rattle.ql_types.proofs.Masks.{unmasked}
 use Rattle.ledger_model.specs.declared.block.Block.{Block}
 use Rattle.ledger_model.specs.declared.block.Draft.{Draft}
 use Rattle.ledger_model.specs.declared.block.Schema.{Schema}
-use Rattle.ledger_model.specs.declared.damage.Damage.{Damage}
 use Rattle.ledger_model.specs.declared.damage.Damage.TheVariants.{WrongAddress, WrongId}
 use Rattle.ledger_model.specs.Damages.{UndamagedBehind, damage_behind, has_address, has_id, strand_of}
-use Rattle.ledger_model.specs.Legal.{LegalFrom}
-use Rattle.ledger_model.specs.State.{Recorded, State, Table, active_table, after, all_changed, draft_of, empty, recorded_in, state, state_from}
+use Rattle.ledger_model.specs.State.{Recorded, State, Table, active_table, after, all_changed, draft_of, empty, recorded_in, revisions_after, state, state_from}
 use Rattle.ledger_model.specs.Views.{latest, put, row_of, user_view}
+use Rattle.ledger_model.proofs.Redactions.{none_redacts}
 use Rattle.laws_validity.proofs.Journals.{past}
 use Rattle.laws_validity.proofs.Latest.{latest-push, put_new}
 use Rattle.workload.specs.Laws.{values_of}
 use Rattle.workload.specs.Sums.{made_rows}
 use Rattle.turn_lock.specs.History.{Stands}
-use Rattle.laws_workload.proofs.Blocks.{AddsDocument, MakesTable, adds_document, draft_at, drafts_in, makes_table, name}
+use Rattle.laws_workload.proofs.Blocks.{AddsDocument, draft_at, name}
 
 -- ---- states and ids
 
@@ -124,9 +123,15 @@ module _ (mask : ℕ) (before : List Block) (b : Block) (table : TableId) (added
     apart xs h.1,
   )
 
+  -- the block's schema is empty
+  nothing_redacted : revisions_after b.info.schema s.revisions ≡ s.revisions
+  nothing_redacted =
+      ap (λ (cs : List Schema). revisions_after cs s.revisions) adds.schema ∙ none_redacts [] refl s.revisions
+
   drafts_are : map draft_of (after s b).revisions ≡ map draft_of s.revisions ++ drafted mask table a ∷ []
   drafts_are =
-      map-append draft_of s.revisions (recorded_in b.info.tables b.revisions)
+      map-append draft_of (revisions_after b.info.schema s.revisions) (recorded_in b.info.tables b.revisions)
+      ∙ ap (λ (rs : List Recorded). map draft_of rs ++ map draft_of (recorded_in b.info.tables b.revisions)) nothing_redacted
       ∙ ap (λ (ds : List Draft). map draft_of s.revisions ++ ds)
       (adds.adds ∙ ap (λ (t : TableId). draft_at mask t adds.number v ∷ []) same_table)
 

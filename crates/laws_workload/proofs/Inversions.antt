@@ -1,12 +1,10 @@
 -- What a statement did that wasn't refused, and a transaction of two statements.
-use Rattle.std.proofs.Common.{◌≡◌, ◌∙◌, ℕ, ◌+◌, ◌==◌, Bool, true, false, List, [], ◌∷◌, ◌++◌, length, Option, Some, None, Result, Ok, Err, refl, sym, ap, subst, if◌then◌else◌}
+use Rattle.std.proofs.Common.{◌≡◌, ℕ, ◌+◌, ◌==◌, Bool, true, false, List, [], ◌∷◌, ◌++◌, length, Option, Some, None, Result, Ok, Err, refl, sym, ap, subst, if◌then◌else◌}
 use Rattle.ion_values.specs.declared.value.Value.{Value}
 use Rattle.pql_model.specs.declared.statement.Statement.{Statement}
 use Rattle.pql_model.specs.Parse.{parsed}
 use Rattle.pql_model.specs.Productions.{Fault}
 use Rattle.ql_types.specs.declared.TableId.{TableId}
-use Rattle.ledger_model.specs.declared.block.Draft.{Draft}
-use Rattle.ledger_model.specs.declared.block.Schema.{Schema}
 use Rattle.ledger_model.specs.declared.outcome.Item.{Item}
 use Rattle.ledger_model.specs.declared.outcome.Refusal.{Refusal}
 use Rattle.ledger_model.specs.declared.outcome.Refusal.TheVariants.{ParameterCount}
@@ -14,7 +12,7 @@ use Rattle.ledger_model.specs.declared.script.Request.{Request}
 use Rattle.ledger_model.specs.Footprints.{footprint_of}
 use Rattle.ledger_model.specs.State.{State}
 use Rattle.ledger_model.specs.Statements.{counted, statement_of, wanted, with_parameters}
-use Rattle.ledger_model.specs.Run.{Begun, Effect, Progress, Ran, changed_by, done_by_statement, effect_of, first_deep, if_read, if_shallow, on_table, ran, reading, recorded, refused, run, run_from, schemas_now, start, step, then_run, unless, views_of}
+use Rattle.ledger_model.specs.Run.{Begun, Effect, Progress, Ran, changed_by, done_by_statement, effect_of, first_deep, if_read, if_shallow, on_table, ran, reading, recorded, run, schemas_now, start, step, then_run, unless, views_of}
 
 -- ---- the statement of a request
 

@@ -1,17 +1,15 @@
 -- A job that ran first and alone and the workers behind it are the workers of one run.
-use Rattle.std.proofs.Common.{◌≡◌, ◌∙◌, ◌⊎◌, ℕ, zero, suc, ◌+◌, ◌-◌, ◌%◌, ◌<◌, ◌≤◌, ◌==◌, Bool, true, false, cond, List, [], ◌∷◌, ◌++◌, map, length, slice_get, Some, refl, sym, ap, subst, ⊎_elim, inl, inr, arith, append-nil, append_assoc, eq-eqb}
-use Rattle.std.specs.List.{filter}
+use Rattle.std.proofs.Common.{◌≡◌, ◌∙◌, ℕ, zero, suc, ◌+◌, ◌-◌, ◌%◌, ◌<◌, ◌≤◌, Bool, true, false, cond, List, [], ◌∷◌, ◌++◌, map, length, slice_get, Some, refl, sym, ap, subst, ⊎_elim, arith, append-nil, eq-eqb}
 use Rattle.std.proofs.lemmas.Bool.{cases_lt, ne_eqb}
 use mathlib.Core.List.{IsPrefix}
 use Rattle.turn_lock.specs.declared.view.Known.{Known}
 use Rattle.turn_lock.specs.declared.view.Placed.{Placed}
 use Rattle.turn_lock.specs.History.{Stands, newborn, placed, with_seen}
-use Rattle.turn_lock.proofs.Lists.{prefix_longer, prefix_trans}
+use Rattle.turn_lock.proofs.Lists.{prefix_longer}
 use Rattle.session_driver.specs.Retries.{Retried}
 use Rattle.laws_machine.specs.Entries.{Entry, Opening}
 use Rattle.laws_history.specs.Attempts.{Attempted}
-use Rattle.laws_history.specs.Runs.{AreWorkers, HasWorked, Served, Works, dealt, is_dealt}
-use Rattle.laws_history.specs.Seen.{blocks_in, reach}
+use Rattle.laws_history.specs.Runs.{HasWorked, Served, Works, dealt, is_dealt}
 use Rattle.laws_history.proofs.Lists.{stands_front, stands_map, stands_rest}
 use Rattle.laws_workload.specs.Joining.{HaveWorked, OpensBehind, WorkersJoin}
 use Rattle.laws_workload.proofs.Behind.{blocks_on, last_on, right_on}

@@ -1,5 +1,5 @@
 -- Attempts of a pass that has seen other entries: behind entries in front, and from where it had seen less.
-use Rattle.std.proofs.Common.{◌≡◌, ◌∙◌, ◌⊎◌, ℕ, zero, suc, ◌+◌, ◌<◌, Bool, true, List, [], ◌∷◌, ◌++◌, map, length, Option, None, Some, refl, sym, ap, ap₂, subst, inl, inr, append_assoc, append-nil, length-append, arith}
+use Rattle.std.proofs.Common.{◌≡◌, ◌∙◌, ℕ, zero, suc, ◌+◌, List, [], ◌∷◌, ◌++◌, map, length, Option, None, Some, refl, sym, ap, ap₂, subst, inl, inr, append_assoc, length-append}
 use Rattle.std.proofs.lemmas.List.{map-append}
 use mathlib.Core.List.{IsPrefix}
 use Rattle.ql_types.specs.Ids.{raw_id}
@@ -13,11 +13,11 @@ use Rattle.ledger_model.specs.Making.{IsMadeOf}
 use Rattle.ledger_model.specs.Run.{Begun, run}
 use Rattle.ledger_model.specs.State.{state}
 use Rattle.laws_footprint.specs.Touches.{conflict}
-use Rattle.session_driver.specs.Retries.{Conflicted, Retried, is_conflict}
+use Rattle.session_driver.specs.Retries.{Conflicted, Retried}
 use Rattle.turn_lock.specs.declared.view.Known.{Known}
 use Rattle.turn_lock.specs.declared.view.Placed.{Placed}
 use Rattle.turn_lock.specs.History.{placed, with_entry, with_seen}
-use Rattle.turn_lock.proofs.Lists.{prefix_self, prefix_trans}
+use Rattle.turn_lock.proofs.Lists.{prefix_trans}
 use Rattle.laws_machine.specs.Entries.{Entry, Opening, begun_at, failed, sealed, wanted}
 use Rattle.laws_history.specs.Attempts.{Adds, Attempted, Begins, Comes, Readies, Sees, Wants, WantsAt, WantsBehind, begun_as, ran_in}
 use Rattle.laws_history.specs.Runs.{Served, Works}

@@ -1,12 +1,11 @@
 -- What the statements of a made workload do.
-use Rattle.std.proofs.Common.{◌≡◌, ◌∙◌, ℕ, ◌+◌, Bool, true, false, List, [], ◌∷◌, ◌++◌, codes, Option, Some, None, Result, Ok, Err, refl, sym, ap, subst, rules}
+use Rattle.std.proofs.Common.{◌≡◌, ◌∙◌, ℕ, Bool, true, false, List, [], ◌∷◌, ◌++◌, codes, Option, Some, None, Result, Ok, refl, sym, ap, subst, rules}
 use Rattle.ion_values.specs.declared.value.Body.TheFolds as values
 use Rattle.ion_values.specs.declared.value.Field.{Field}
 use Rattle.ion_values.specs.declared.value.Value.{Value}
-use Rattle.pql_model.specs.declared.expr.Expr.{Expr, out-Expr}
+use Rattle.pql_model.specs.declared.expr.Expr.{out-Expr}
 use Rattle.pql_model.specs.declared.expr.Expr.TheFolds as expressions
 use Rattle.pql_model.specs.declared.expr.Expr.TheVariants as expr
-use Rattle.pql_model.specs.declared.scope.Evaluated.{Evaluated}
 use Rattle.pql_model.specs.declared.scope.Evaluated.TheVariants.{Found}
 use Rattle.pql_model.specs.declared.statement.FromClause.{FromClause}
 use Rattle.pql_model.specs.declared.statement.Select.{Select}
@@ -26,12 +25,11 @@ use Rattle.ledger_model.specs.declared.block.Draft.{Draft}
 use Rattle.ledger_model.specs.declared.block.Schema.{Schema}
 use Rattle.ledger_model.specs.declared.block.Schema.TheVariants.{Create, Index}
 use Rattle.ledger_model.specs.declared.outcome.Refusal.{Refusal}
-use Rattle.ledger_model.specs.declared.script.Request.{Request}
 use Rattle.ledger_model.specs.Journal.{structure}
 use Rattle.ledger_model.specs.Script.{text_alone}
 use Rattle.ledger_model.specs.State.{State}
 use Rattle.ledger_model.specs.Values.{named_id}
-use Rattle.ledger_model.specs.Run.{Begun, Effect, Progress, created, documents_in, done_by_statement, existing, if_documents, indexed, inserted, members_or, new_table, next_id, not_stored, on_table, reserved, selected, stored, table_now, tables_now, unless, views_of}
+use Rattle.ledger_model.specs.Run.{Begun, Effect, Progress, created, documents_in, done_by_statement, existing, if_documents, indexed, inserted, new_table, next_id, not_stored, on_table, reserved, selected, stored, table_now, tables_now, unless, views_of}
 use Rattle.ledger_model.specs.SchemaChanges.{existing_index, indexes_now, no_index_more, no_table_more, schema_change}
 use Rattle.ledger_model.specs.Selecting.{first_absent}
 use Rattle.workload.specs.Made.{asked_with}
@@ -198,6 +196,7 @@ module _ (b : Begun) (s : State) (p q : Progress) where
   count_steps params e (statement.Create name) x is same h = let bad : ⊥ = cc (ap is_select (sym same) ∙ is) in absurd bad
   count_steps params e (statement.Index name field) x is same h = let bad : ⊥ = cc (ap is_select (sym same) ∙ is) in absurd bad
   count_steps params e (statement.Drop name) x is same h = let bad : ⊥ = cc (ap is_select (sym same) ∙ is) in absurd bad
+  count_steps params e (statement.Redact a t d) x is same h = let bad : ⊥ = cc (ap is_select (sym same) ∙ is) in absurd bad
   count_steps params e (statement.Insert name value) x is same h = let bad : ⊥ = cc (ap is_select (sym same) ∙ is) in absurd bad
   count_steps params e (statement.Update from change) x is same h = let bad : ⊥ = cc (ap is_select (sym same) ∙ is) in absurd bad
   count_steps params e (statement.From from change) x is same h = let bad : ⊥ = cc (ap is_select (sym same) ∙ is) in absurd bad

@@ -9,7 +9,7 @@ use Rattle.ledger_model.specs.declared.damage.Damage.TheVariants.{WrongAddress, 
 use Rattle.ledger_model.specs.Journal.{line, journal_bytes}
 use Rattle.ledger_model.specs.State.{State, state, state_from, after}
 use Rattle.ledger_model.specs.Damages.{damage_behind, has_address, has_id, has_time, has_previous, has_hashes, strand_of, UndamagedBehind, Undamaged}
-use Rattle.ledger_model.specs.Follows.{follows}
+use Rattle.ledger_model.specs.Follows.{follows_blocks}
 use Rattle.laws_history.specs.Standings.{IsStanding}
 use Rattle.laws_history.specs.Records.{greatest, mask_of}
 
@@ -31,7 +31,7 @@ undamaged-bounded : (before : List Block) (b : Block) → damage_behind before b
 undamaged-bounded before b e =
     let strand = strand_of before b in
     number-bounded strand before b
-    (id-passes (has_address strand before b) (has_id strand before b) (has_time before b) (has_previous strand before b) (has_hashes b) (follows strand (state before) b) e)
+    (id-passes (has_address strand before b) (has_id strand before b) (has_time before b) (has_previous strand before b) (has_hashes b) (follows_blocks strand before b) e)
 
 both-below : (m n : ℕ) → m < 2 ^ 64 → n < 2 ^ 64 → max m n < 2 ^ 64
 both-below m n p q = omega arith

@@ -1,4 +1,6 @@
 pub mod SaidLemmas
+pub mod InfoHash
+pub mod Redactions
 mod ScriptRows
 mod ReportRows
 mod JournalRows

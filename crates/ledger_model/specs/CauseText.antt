@@ -60,3 +60,7 @@ cause_text (refusal.ParameterCount wanted given) = parameter_count_text wanted g
 cause_text (refusal.TooDeep depth) = codes "code:12,depth:" ++ decimal depth
 cause_text refusal.Ended = codes "code:13"
 cause_text refusal.OutOfMemory = codes "code:14"
+cause_text refusal.NoSuchRevision = codes "code:15"
+cause_text (refusal.StillLatest version) = codes "code:16,version:" ++ decimal version
+cause_text (refusal.AlreadyRedacted version) = codes "code:17,version:" ++ decimal version
+cause_text (refusal.TooManyRedactions count) = codes "code:18,count:" ++ decimal count

@@ -14,11 +14,10 @@ use Rattle.ledger_model.specs.declared.block.Revision.{Revision}
 use Rattle.ledger_model.specs.declared.block.Block.{Block}
 use Rattle.ledger_model.specs.declared.damage.Damage.{Damage}
 use Rattle.ledger_model.specs.declared.damage.Damage.TheVariants.{WrongAddress, WrongId, TimeFell, WrongPrevious, WrongHash, WrongState}
-use Rattle.ledger_model.specs.State.{state}
 use Rattle.ledger_model.specs.Seals.{sealed, revision_hash}
 use Rattle.ledger_model.specs.Legal.{last_hash}
 use Rattle.ledger_model.specs.Whole.{IsWhole}
-use Rattle.ledger_model.specs.Follows.{follows}
+use Rattle.ledger_model.specs.Follows.{follows_blocks}
 
 -- the strand of a journal is that of its first block
 abbrev pub strand_of : List Block → Block → ℕ
@@ -80,7 +79,7 @@ damage_behind before b =
     else if not (has_time before b) then Some TimeFell
     else if not (has_previous strand before b) then Some WrongPrevious
     else if not (has_hashes b) then Some WrongHash
-    else if not (follows strand (state before) b) then Some WrongState
+    else if not (follows_blocks strand before b) then Some WrongState
     else None
 
 -- these blocks behind those

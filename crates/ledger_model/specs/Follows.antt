@@ -1,12 +1,13 @@
 -- When a block follows a state: what its transaction did to tables, indexes and documents can be done where the blocks
 -- before left them. The changes of the schema are taken in their order.
 use Rattle.std.specs.Prelude.{ℕ, ◌+◌, ◌==◌, ◌&&◌, ◌||◌, not, Bool, true, false, nat_le, List, [], ◌∷◌, ◌++◌, map, is_none, Option, Some, None, if◌then◌else◌}
-use Rattle.std.specs.List.{list_all, list_any, filter}
+use Rattle.std.specs.List.{list_all, list_any, filter, find}
 use Rattle.std.specs.Option.{option_map_or}
 use Rattle.std.specs.Str.{bytes_eq}
 use Rattle.ion_values.specs.Equivalent.{same_time}
 use Rattle.ql_types.specs.Ids.{transaction_in, thing_in}
 use Rattle.ql_types.specs.declared.BlockAddress.{BlockAddress}
+use Rattle.ql_types.specs.declared.DocId.{DocId}
 use Rattle.ql_types.specs.declared.TableId.{TableId}
 use Rattle.ledger_model.specs.declared.block.Content.{Content}
 use Rattle.ledger_model.specs.declared.block.Content.TheVariants.{Deleted, Kept, Redacted}
@@ -16,7 +17,8 @@ use Rattle.ledger_model.specs.declared.block.Revision.{Revision}
 use Rattle.ledger_model.specs.declared.block.Header.{Header}
 use Rattle.ledger_model.specs.declared.block.Block.{Block}
 use Rattle.ledger_model.specs.Script.{or_else}
-use Rattle.ledger_model.specs.State.{State, Table, Indexed, Recorded, changed, indexed, active_table, recorded_in}
+use Rattle.ledger_model.specs.State.{State, Table, Indexed, Recorded, changed, indexed, active_table, is_redact, is_redacted_by, recorded_in, redacts, state}
+pub use Rattle.ledger_model.specs.State.{same_address}
 
 -- ---- the schema
 
@@ -31,12 +33,12 @@ abbrev pub is_named : List Table → List ℕ → TableId → Bool
 is_named tables name id = option_map_or (λ t. t.raw == id.raw) (active_table tables name) false
 
 -- a new table has a name that isn't active, an index is on an active table's field without one, and a table is dropped
--- by its name and id; nothing is redacted so far
+-- by its name and id; a redaction changes no table
 abbrev pub change_follows : List Table → List Indexed → Schema → Bool
 change_follows tables indexes (Create name id) = is_none (active_table tables name)
 change_follows tables indexes (Index field id) = is_active tables id && not (has_index indexes id field)
 change_follows tables indexes (Drop name id) = is_named tables name id
-change_follows tables indexes (Redact address id document) = false
+change_follows tables indexes (Redact address id document) = true
 
 abbrev pub schema_follows : List Table → List Indexed → List Schema → Bool
 schema_follows tables indexes [] = true
@@ -82,9 +84,6 @@ ids_follow mask ids tx = list_all (is_made_by mask (transaction_in mask tx)) ids
 
 -- ---- revisions
 
-abbrev pub same_address : BlockAddress → BlockAddress → Bool
-same_address a b = (a.strand.raw == b.strand.raw) && (a.sequence == b.sequence)
-
 -- the revision has its block's address, time and transaction
 abbrev pub is_of : Header → Revision → Bool
 is_of h r = same_address r.address h.address && same_time r.metadata.time h.time && (r.metadata.tx.raw == h.tx.raw)
@@ -99,7 +98,7 @@ is_kept Deleted = false
 is_kept (Kept v) = true
 is_kept (Redacted hash) = true
 
--- a new document has version 0 and content; another one has its own table and the next version, and isn't deleted
+-- a new document has version 0 and content or its hash; another one has its own table and the next version, and isn't deleted
 abbrev pub continues : Recorded → Option Recorded → Bool
 continues r None = (r.revision.metadata.version == 0) && is_kept r.revision.content
 continues r (Some last) =
@@ -111,10 +110,51 @@ revision_follows s b r =
     is_of b.header r.revision && has_table s.tables (created_ids b.info.schema) r.table
     && continues r (latest_of s.revisions r.revision.metadata.id.raw)
 
+-- ---- redactions
+
+-- the revision that a redaction names
+abbrev pub named_by : List Recorded → Schema → Option Recorded
+named_by revisions c = find (λ r. redacts r c) revisions
+
+-- the document's latest revision is in the block at this address
+abbrev pub is_latest_at : List Recorded → BlockAddress → DocId → Bool
+is_latest_at revisions address id =
+    option_map_or (λ last. same_address last.revision.address address) (latest_of revisions id.raw) false
+
+-- it is its document's latest
+abbrev pub is_latest : List Recorded → Recorded → Bool
+is_latest revisions r = is_latest_at revisions r.revision.address r.revision.metadata.id
+
+-- one of the blocks redacts it
+abbrev pub is_redacted_in : List Block → Recorded → Bool
+is_redacted_in blocks r = list_any (λ b. is_redacted_by b.info.schema r) blocks
+
+-- it isn't its document's latest, and nothing before redacts it
+abbrev pub can_be_redacted : List Block → List Recorded → List Schema → Recorded → Bool
+can_be_redacted before revisions earlier r =
+    not (is_latest revisions r) && not (is_redacted_in before r) && not (is_redacted_by earlier r)
+
+-- a redaction names a revision of an earlier block that can be redacted
+abbrev pub redaction_follows : List Block → List Recorded → List Schema → Schema → Bool
+redaction_follows before revisions earlier c =
+    not (is_redact c)
+    || option_map_or (can_be_redacted before revisions earlier) (named_by revisions c) false
+
+-- each change behind the earlier ones of its block
+abbrev pub redactions_follow : List Block → List Recorded → List Schema → List Schema → Bool
+redactions_follow before revisions earlier [] = true
+redactions_follow before revisions earlier (c ∷ cs) =
+    redaction_follows before revisions earlier c && redactions_follow before revisions (earlier ++ c ∷ []) cs
+
 -- ---- the block
 
--- no second revision of a document stands in it
+-- all but its redactions follows the state; no second revision of a document stands in it
 abbrev pub follows : ℕ → State → Block → Bool
 follows mask s b =
     schema_follows s.tables s.indexes b.info.schema && ids_follow mask (made_ids s b) b.header.tx.raw
     && list_all (revision_follows s b) (recorded_in b.info.tables b.revisions) && all_differ (document_ids b.revisions)
+
+-- all of it follows these blocks
+abbrev pub follows_blocks : ℕ → List Block → Block → Bool
+follows_blocks mask before b =
+    follows mask (state before) b && redactions_follow before (state before).revisions [] b.info.schema

@@ -29,6 +29,7 @@ use Rattle.ledger_model.specs.declared.outcome.Item.TheVariants as item
 use Rattle.ledger_model.specs.Conditions.{Asked, Meant, Wanted, all_asked, at_names, equal_to, id_of, one_of, parts_of, same_as, unknown}
 use Rattle.ledger_model.specs.Follows.{has_index}
 use Rattle.ledger_model.specs.Meets.{content_shown, shows_metadata, shows_one}
+use Rattle.ledger_model.specs.RedactionArguments.{items_named, named_revision}
 use Rattle.ledger_model.specs.State.{Indexed, Table, active_table}
 use Rattle.ledger_model.specs.Statements.{table_in}
 
@@ -250,3 +251,4 @@ footprint_of now views params (statement.Select select from) = read_by_sources n
 footprint_of now views params (statement.Update from change) = read_by_sources now views params from
 footprint_of now views params (statement.From from change) = read_by_sources now views params from
 footprint_of now views params (statement.Delete from) = read_by_sources now views params from
+footprint_of now views params (statement.Redact address table document) = items_named (named_revision params address table document)

@@ -124,11 +124,20 @@ abbrev pub told_field : Told → Field
 told_field (told.Said said) = field (codes "statements") (list (map said_value said))
 told_field (told.Hashed hash) = field (codes "statementsHash") (hash_value hash)
 
+abbrev pub place_field : Info → Field
+place_field i = field (codes "place") (place_value i.place)
+
+abbrev pub schema_field : Info → Field
+schema_field i = field (codes "schema") (list (map schema_value i.schema))
+
+abbrev pub documents_field : Info → List Revision → Field
+documents_field i revisions = field (codes "documents") (list (document_values i.tables revisions))
+
+abbrev pub info_fields : Info → List Revision → List Field
+info_fields i revisions = place_field i ∷ told_field i.said ∷ schema_field i ∷ documents_field i revisions ∷ []
+
 abbrev pub info_value : Info → List Revision → Value
-info_value i revisions = structure (
-    field (codes "place") (place_value i.place) ∷ told_field i.said
-    ∷ field (codes "schema") (list (map schema_value i.schema))
-    ∷ field (codes "documents") (list (document_values i.tables revisions)) ∷ [])
+info_value i revisions = structure (info_fields i revisions)
 
 -- ---- blocks
 

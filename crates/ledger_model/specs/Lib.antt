@@ -5,6 +5,7 @@ pub mod Views
 pub mod Statements
 pub mod Conditions
 pub mod Meets
+pub mod RedactionArguments
 pub mod Footprints
 pub mod Journal
 pub mod Progress
@@ -12,6 +13,7 @@ pub mod SchemaChanges
 pub mod Inserting
 pub mod Selecting
 pub mod Writing
+pub mod Redacting
 pub mod CommittedViews
 pub mod Run
 pub mod Seals

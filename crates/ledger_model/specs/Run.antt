@@ -17,6 +17,7 @@ use Rattle.ledger_model.specs.Views.{latest}
 use Rattle.ledger_model.specs.Writing.{changed, deleted}
 pub use Rattle.ledger_model.specs.Inserting.{documents_in, if_documents, inserted, members_or, new_document, stored}
 pub use Rattle.ledger_model.specs.Progress.{Begun, Effect, Progress, and_then, changed_by, first_deep, has_room, is_shallow, is_small, next_id, not_stored, nothing, on_table, or_else, reserved, start, table_now, tables_now, told_depth, unless}
+pub use Rattle.ledger_model.specs.Redacting.{redacting}
 pub use Rattle.ledger_model.specs.SchemaChanges.{active_count, created, created_count, dropped, existing, indexed, new_table, no_table_more}
 pub use Rattle.ledger_model.specs.Selecting.{absent_table, first_absent, rows_in, selected, views_of}
 pub use Rattle.ledger_model.specs.Statements.{table_in}
@@ -33,6 +34,7 @@ done_by_statement b s p params (statement.Select select from) = selected s p par
 done_by_statement b s p params (statement.Update from change) = changed s p params from change
 done_by_statement b s p params (statement.From from change) = changed s p params from change
 done_by_statement b s p params (statement.Delete from) = deleted s p params from
+done_by_statement b s p params (statement.Redact address table document) = redacting s p params address table document
 
 -- the tables and the fields with an index as the transaction has changed them so far
 abbrev pub schemas_now : State → Progress → Schemas

@@ -87,32 +87,23 @@ is_shallow Deleted = true
 is_shallow (Kept v) = nat_le (depth_of v) 64
 is_shallow (Redacted hash) = true
 
--- ---- what comes with redaction: no block has any of it so far
+-- ---- what comes with journals without the bytes: no block has any of it so far
 
 abbrev pub is_said : Told → Bool
 is_said (told.Said said) = true
 is_said (told.Hashed statements) = false
 
-abbrev pub is_redact : Schema → Bool
-is_redact (Redact address t document) = true
-is_redact _ = false
-
 abbrev pub is_redacted : Content → Bool
 is_redacted (Redacted hash) = true
 is_redacted _ = false
 
--- an unredacted revision and a change of the schema that fit their types
+-- an unredacted revision that fits its types
 abbrev pub is_plain_revision : Revision → Bool
 is_plain_revision r = revision_fits r && not (is_redacted r.content)
 
-abbrev pub is_plain_change : Schema → Bool
-is_plain_change c = schema_fits c && not (is_redact c)
-
--- the statements are told, nothing is redacted, and no revision was
+-- the statements are told, and each revision has its data
 abbrev pub is_unredacted : Block → Bool
-is_unredacted b =
-    is_said b.info.said && list_all (λ c. not (is_redact c)) b.info.schema
-    && list_all (λ r. not (is_redacted r.content)) b.revisions
+is_unredacted b = is_said b.info.said && list_all (λ r. not (is_redacted r.content)) b.revisions
 
 pub record IsWhole (b : Block) : Type 0 where
   pub count : b.header.revisions ≡ length b.revisions

@@ -33,6 +33,14 @@ pub enum Refusal {
     /// An earlier statement was refused.
     Ended,
     OutOfMemory,
+    /// The arguments name no revision.
+    NoSuchRevision,
+    /// The revision, of this version, is its document's latest.
+    StillLatest { version: u64 },
+    /// The revision, of this version, is redacted already.
+    AlreadyRedacted { version: u64 },
+    /// This would be the redaction of that number in the transaction.
+    TooManyRedactions { count: u64 },
 }
 
 /// What a transaction read, or a block touched.

@@ -1,5 +1,5 @@
 -- So may the versions of a state.
-use denote.Param.Send.{IsSend, IsSync, sendable}
+use denote.Param.Send.{IsSend, IsSync, sendable, view_send}
 use denote.Param.SendFields.{declared_send, declared_sync}
 use Rattle.ql_types.proofs.TableId.TheSendSync as table
 use Rattle.pvec.proofs.shared.Shared.TheSendSync as owner
@@ -14,6 +14,7 @@ use Rattle.versions.proofs.kept.Kept.TheSendSync as kept
 use Rattle.versions.specs.contracts.recorded.Recorded as Recorded
 use Rattle.versions.specs.contracts.latest.Latest as Latest
 use Rattle.versions.specs.contracts.shelf.Shelf as Shelf
+use Rattle.versions.specs.contracts.shelf.Shelf.TheInside as ShelfInside
 use Rattle.versions.specs.contracts.documents.Documents as Documents
 use Rattle.versions.specs.contracts.versions.Versions as Versions
 use Rattle.ledger_shared.proofs.BlocksCross.{revision_send, revision_sync}
@@ -31,8 +32,24 @@ latest_send =
 
 pub shelf_send : IsSend Shelf.the_row
 shelf_send =
-    let s = recorded_send in let y = recorded_sync in let l = latest_send in
-    search (sendable, pvec.the_send, pvec.the_sync, pmap.the_send, filed.the_send, table.the_send, table.the_sync) depth 14
+    let s = recorded_send in let y = recorded_sync in
+    view_send _ _ _ _ _
+    (declared_send ShelfInside.the_type (
+      search sendable depth 10,
+      (
+        search (sendable, pvec.the_send) depth 10,
+        (
+          latest_send,
+          (
+            search (sendable, pvec.the_send, pvec.the_sync) depth 10,
+            (
+              search (sendable, pmap.the_send, pvec.the_send, pvec.the_sync, table.the_send, table.the_sync) depth 10,
+              (search (sendable, filed.the_send, table.the_send, table.the_sync) depth 10, tt),
+            ),
+          ),
+        ),
+      ),
+    ))
 
 pub documents_send : IsSend Documents.the_row
 documents_send =

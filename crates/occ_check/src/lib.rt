@@ -13,7 +13,7 @@ mod copies;
 mod touches;
 
 use crate::copies::copy_item;
-use crate::touches::block_touches;
+use crate::touches::{Journal, block_touches};
 use ion_values::OutOfMemory;
 use ledger_model::{Block, Blocks, Item, Named};
 use std::alloc::Global;
@@ -22,7 +22,7 @@ use versions::Versions;
 /// The first block from `since` on that touches an item of the footprint, or None if there is none.
 ///
 /// The first such item comes with it. `now` stands for all blocks of the undamaged journal. Each block from `since`
-/// on is looked at once for each item; what stood before them is looked up.
+/// on is looked at once for each item; what stood before them is looked up, and taken from the blocks.
 pub fn first_conflict(
     alloc: Global,
     footprint: &[Item],
@@ -35,11 +35,15 @@ pub fn first_conflict(
     requires since { since ≤ length blocks.now.list }
     ensures { IfOk result (λ found. found ≡ conflict blocks.now.list since footprint.now) }
 {
+    let journal = Journal {
+        blocks: blocks.as_slice(),
+        now,
+    };
     'later: for number in since..blocks.len() {
         let Some(block) = blocks.get(number) else {
             unreachable!()
         };
-        if let Some(item) = first_touched(alloc, now, block, footprint)? {
+        if let Some(item) = first_touched(alloc, journal, block, footprint)? {
             return Ok(Some(Named {
                 block: number,
                 item: copy_item(alloc, item)?,
@@ -52,14 +56,15 @@ pub fn first_conflict(
 /// The first of the items that the block touches.
 fn first_touched<'a>(
     alloc: Global,
-    now: &Versions,
+    journal: Journal<'_>,
     block: &Block,
     items: &'a [Item],
 ) -> Result<Option<&'a Item>, OutOfMemory>
-    ensures { IfOk result (λ found. option_copied found ≡ find (block_touches now.now block.now) items.now) }
+    ensures { IfOk result (λ found. option_copied found
+        ≡ find (block_touches journal.entry.blocks.now journal.entry.now.now block.now) items.now) }
 {
     'items: for item in items {
-        if block_touches(alloc, now, block, item)? {
+        if block_touches(alloc, journal, block, item)? {
             return Ok(Some(item));
         }
     }

@@ -1,6 +1,6 @@
 //! What a block touches, by its own changes and by what stands in the state behind all blocks.
-ghost use Rattle.std.specs.Prelude.{◌≡◌, IfOk, slice_get};
-ghost use Rattle.std.specs.List.{list_any};
+ghost use Rattle.std.specs.Prelude.{◌≡◌, ◌==◌, IfOk};
+ghost use Rattle.std.specs.List.{find, list_any};
 ghost use Rattle.std.specs.Option.{option_copied};
 ghost use Rattle.ledger_model.specs.State.{recorded_in};
 ghost use Rattle.laws_footprint.specs.Following as following;
@@ -14,20 +14,28 @@ use ql_types::{DocId, TableId};
 use std::alloc::Global;
 use versions::Versions;
 
+/// All blocks, and the state after them.
+#[derive(Clone, Copy)]
+pub(crate) struct Journal<'a> {
+    pub blocks: &'a [Block],
+    pub now: &'a Versions,
+}
+
 /// Whether the block touches the item.
 pub(crate) fn block_touches(
     alloc: Global,
-    now: &Versions,
+    journal: Journal<'_>,
     block: &Block,
     item: &Item,
 ) -> Result<bool, OutOfMemory>
-    ensures { IfOk result (λ touches. touches ≡ behind.block_touches now.now block.now item.now) }
+    ensures { IfOk result (λ touches.
+        touches ≡ behind.block_touches journal.entry.blocks.now journal.entry.now.now block.now item.now) }
 {
-    if changes_touch(now, block.info.schema.as_slice(), item) {
+    if changes_touch(journal.now, block.info.schema.as_slice(), item) {
         return Ok(true);
     }
     let (tables, revisions) = (block.info.tables.as_slice(), block.revisions.as_slice());
-    let touched = revisions_touch(alloc, now, tables, revisions, item)?;
+    let touched = revisions_touch(alloc, journal, tables, revisions, item)?;
     Ok(touched)
 }
 
@@ -49,7 +57,33 @@ fn change_touches(now: &Versions, change: &Schema, item: &Item) -> bool
     match item {
         Item::TableName { name } => changes_name(now, change, name.as_str()),
         Item::TableList => changes_list(change),
-        Item::Table { .. } | Item::Doc { .. } | Item::IndexValue { .. } => false,
+        Item::Table { table } => redacts_in(change, *table),
+        Item::Doc { table, id } => redacts_document(change, *table, *id),
+        Item::IndexValue { .. } => false,
+    }
+}
+
+/// Whether the change redacts a revision in the table.
+fn redacts_in(change: &Schema, table: TableId) -> bool
+    ensures { result ≡ touches.redacts_in table change.now }
+{
+    match change {
+        Schema::Redact { table: own, .. } => own.raw == table.raw,
+        Schema::Create { .. } | Schema::Index { .. } | Schema::Drop { .. } => false,
+    }
+}
+
+/// Whether the change redacts a revision of the table's document.
+fn redacts_document(change: &Schema, table: TableId, id: DocId) -> bool
+    ensures { result ≡ touches.redacts_document table id.raw change.now }
+{
+    match change {
+        Schema::Redact {
+            table: own,
+            document,
+            ..
+        } => own.raw == table.raw && document.raw == id.raw,
+        Schema::Create { .. } | Schema::Index { .. } | Schema::Drop { .. } => false,
     }
 }
 
@@ -85,19 +119,20 @@ fn changes_list(change: &Schema) -> bool
 /// Whether one of the revisions, each of a document of its table, touches the item.
 fn revisions_touch(
     alloc: Global,
-    now: &Versions,
+    journal: Journal<'_>,
     tables: &[TableId],
     revisions: &[Revision],
     item: &Item,
 ) -> Result<bool, OutOfMemory>
-    ensures { IfOk result (λ touch. touch ≡ list_any (behind.revision_touches now.now item.now)
+    ensures { IfOk result (λ touch. touch ≡ list_any
+        (behind.revision_touches journal.entry.blocks.now journal.entry.now.now item.now)
         (recorded_in tables.now revisions.now)) }
 {
     'revisions: for (at, revision) in revisions.iter().enumerate() {
         let Some(table) = tables.get(at) else {
             return Ok(false);
         };
-        if revision_touches(alloc, now, *table, revision, item)? {
+        if revision_touches(alloc, journal, *table, revision, item)? {
             return Ok(true);
         }
     }
@@ -106,12 +141,13 @@ fn revisions_touch(
 
 fn revision_touches(
     alloc: Global,
-    now: &Versions,
+    journal: Journal<'_>,
     own: TableId,
     revision: &Revision,
     item: &Item,
 ) -> Result<bool, OutOfMemory>
-    ensures { IfOk result (λ touches. touches ≡ behind.revision_touches now.now item.now
+    ensures { IfOk result (λ touches. touches
+        ≡ behind.revision_touches journal.entry.blocks.now journal.entry.now.now item.now
         (record { table = own; revision = revision.now })) }
 {
     match item {
@@ -122,7 +158,7 @@ fn revision_touches(
             if own.raw != table.raw {
                 return Ok(false);
             }
-            let changes = changes_key(alloc, now, revision, field.as_str(), key)?;
+            let changes = changes_key(alloc, journal, revision, field.as_str(), key)?;
             Ok(changes)
         }
     }
@@ -131,14 +167,15 @@ fn revision_touches(
 /// Whether the revision's document had the key before it, or has it with it.
 fn changes_key(
     alloc: Global,
-    now: &Versions,
+    journal: Journal<'_>,
     revision: &Revision,
     field: &str,
     key: &Key,
 ) -> Result<bool, OutOfMemory>
-    ensures { IfOk result (λ changes. changes ≡ behind.changes_key now.now field.now key.now revision.now) }
+    ensures { IfOk result (λ changes. changes ≡
+        behind.changes_key journal.entry.blocks.now journal.entry.now.now field.now key.now revision.now) }
 {
-    if had_key(alloc, now, revision, field, key)? {
+    if had_key(alloc, journal, revision, field, key)? {
         return Ok(true);
     }
     let has = content_has_key(alloc, &revision.content, field, key)?;
@@ -148,28 +185,47 @@ fn changes_key(
 /// Whether the document had the key before this revision.
 fn had_key(
     alloc: Global,
-    now: &Versions,
+    journal: Journal<'_>,
     revision: &Revision,
     field: &str,
     key: &Key,
 ) -> Result<bool, OutOfMemory>
     ensures { IfOk result (λ had. had ≡ touches.has_key_in field.now key.now
-        (behind.content_of (behind.earlier now.now revision.now.metadata.id.raw revision.now.metadata.version))) }
+        (behind.content_of (behind.earlier journal.entry.blocks.now journal.entry.now.now revision.now.metadata.id.raw
+        revision.now.metadata.version))) }
 {
-    match earlier(now, revision.metadata.id, revision.metadata.version) {
+    match earlier(journal, revision.metadata.id, revision.metadata.version) {
         Some(earlier) => content_has_key(alloc, &earlier.content, field, key),
         None => Ok(false),
     }
 }
 
-/// The document's revision of the version before this one.
-fn earlier(now: &Versions, id: DocId, version: u64) -> Option<&Revision>
-    ensures { option_copied result ≡ behind.earlier now.now id.raw version }
+/// The first of the revisions that is of the document.
+fn of_document(revisions: &[Revision], id: DocId) -> Option<&Revision>
+    ensures { option_copied result ≡ find (λ r. r.metadata.id.raw == id.raw) revisions.now }
+{
+    revisions
+        .iter()
+        .find(|revision| revision.metadata.id.raw == id.raw)
+}
+
+/// The revision as its block has it, where a later block may have redacted it.
+fn stored<'a>(blocks: &'a [Block], revision: &Revision) -> Option<&'a Revision>
+    ensures { option_copied result ≡ behind.stored blocks.now revision.now }
+{
+    let block = blocks.get(revision.address.sequence as usize)?;
+    of_document(block.revisions.as_slice(), revision.metadata.id)
+}
+
+/// The document's revision of the version before this one, as its block has it.
+fn earlier<'a>(journal: Journal<'a>, id: DocId, version: u64) -> Option<&'a Revision>
+    ensures { option_copied result ≡ behind.earlier journal.entry.blocks.now journal.entry.now.now id.raw version }
 {
     if version == 0 {
         return None;
     }
-    now.revision(id, version - 1)
+    let revision = journal.now.revision(id, version - 1)?;
+    stored(journal.blocks, revision)
 }
 
 fn content_has_key(

@@ -9,7 +9,7 @@ ghost use Rattle.pql_model.specs.Words as spec;
 use pql_model::{Symbol, Token};
 
 /// The reserved words, of which none is a name without quotes.
-const RESERVED: [&str; 39] = [
+const RESERVED: [&str; 41] = [
     "SELECT",
     "FROM",
     "WHERE",
@@ -49,6 +49,8 @@ const RESERVED: [&str; 39] = [
     "COALESCE",
     "SIZE",
     "CHAR_LENGTH",
+    "EXEC",
+    "REDACT_REVISION",
 ];
 
 /// Whether a word is reserved, without regard to case.
@@ -56,7 +58,7 @@ const RESERVED: [&str; 39] = [
 pub fn is_reserved(text: &str) -> bool
     ensures { result ≡ spec.is_reserved text.now }
 {
-    let words: [&str; 39] = RESERVED;
+    let words: [&str; 41] = RESERVED;
     is_any_of(text, words.as_slice())
 }
 

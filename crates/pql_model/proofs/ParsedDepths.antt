@@ -7,7 +7,7 @@ use Rattle.pql_model.specs.declared.statement.Statement.{Statement}
 use Rattle.pql_model.specs.declared.statement.Statement.TheVariants as statement'
 use Rattle.pql_model.specs.declared.token.Token.{Token}
 use Rattle.pql_model.specs.Expressions.{expression}
-use Rattle.pql_model.specs.Grammar.{change, create, delete, drop_table, ended, filter_of, from, from_clause, index, insert, is_end, of_one, select, statement, table, update, whole_statement}
+use Rattle.pql_model.specs.Grammar.{change, const, create, delete, drop_table, ended, filter_of, from, from_clause, index, insert, is_end, of_one, redact, select, statement, table, update, whole_statement}
 use Rattle.pql_model.specs.Parse.{parsed, ruled, start, unbroken}
 use Rattle.pql_model.specs.Productions.{Fault, Found, Production, Reader, ◌>>=◌, choose, give, name, onward, past, refuse, symbol, token_of, word}
 use Rattle.pql_model.specs.Rules.{broken, sources_of}
@@ -85,6 +85,13 @@ create_holds =
 drop_holds : Holds drop_table
 drop_holds = holds_word "TABLE" (holds_then name _ (λ t. holds_give (statement'.Drop t) (omega arith)))
 
+redact_holds : Holds redact
+redact_holds =
+    holds_word "REDACT_REVISION"
+    (holds_then const _ (λ a. holds_symbol ","
+    (holds_then const _ (λ t. holds_symbol ","
+    (holds_then const _ (λ d. holds_give (statement'.Redact a t d) (omega arith)))))))
+
 ended_holds : (s : Statement) → IsShallowStatement s → Holds (ended s)
 ended_holds s h = holds_choose is_end (holds_give s h) (holds_refuse kind.Unexpected)
 
@@ -102,7 +109,8 @@ others =
     (choose (is_word (codes "FROM")) (past from)
     (choose (is_word (codes "DELETE")) (past delete)
     (choose (is_word (codes "CREATE")) (past create)
-    (word "DROP" drop_table)))))
+    (choose (is_word (codes "EXEC")) (past redact)
+    (word "DROP" drop_table))))))
 
 others_hold : Holds others
 others_hold =
@@ -111,7 +119,8 @@ others_hold =
     (holds_choose (is_word (codes "FROM")) (holds_past from_holds)
     (holds_choose (is_word (codes "DELETE")) (holds_past delete_holds)
     (holds_choose (is_word (codes "CREATE")) (holds_past create_holds)
-    (holds_word "DROP" drop_holds)))))
+    (holds_choose (is_word (codes "EXEC")) (holds_past redact_holds)
+    (holds_word "DROP" drop_holds))))))
 
 statement_held : (r : Reader) → tokens_depth r.rest ≤ 64 → Held (statement r)
 statement_held r h = first (is_word (codes "SELECT") (token_of r)) where

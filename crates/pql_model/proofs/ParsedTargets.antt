@@ -5,13 +5,14 @@ use Rattle.std.proofs.Common.{◌≡◌, ℕ, zero, suc, Bool, true, false, nat_
 use Rattle.std.specs.List.{AllByRecursion}
 use Rattle.std.proofs.lemmas.Bool.{false≢true}
 use Rattle.pql_model.specs.declared.ParseKind.TheVariants as kind
+use Rattle.pql_model.specs.declared.expr.Expr.{Expr}
 use Rattle.pql_model.specs.declared.mark.Mark.{Mark}
 use Rattle.pql_model.specs.declared.statement.Select.{Select}
 use Rattle.pql_model.specs.declared.statement.Source.{Source}
 use Rattle.pql_model.specs.declared.statement.Statement.{Statement}
 use Rattle.pql_model.specs.declared.statement.Statement.TheVariants as statement'
 use Rattle.pql_model.specs.Expressions.{expression}
-use Rattle.pql_model.specs.Grammar.{alias, change, create, delete, drop_table, ended, filter_of, from, from_clause, index, insert, is_end, of_one, select, selection, statement, table, update, whole_statement}
+use Rattle.pql_model.specs.Grammar.{alias, change, const, create, delete, drop_table, ended, filter_of, from, from_clause, index, insert, is_end, of_one, redact, select, selection, statement, table, update, whole_statement}
 use Rattle.pql_model.specs.Parse.{parsed, ruled, start, unbroken}
 use Rattle.pql_model.specs.Productions.{Fault, Found, Production, Reader, ◌>>=◌, advanced, choose, give, name, onward, optional, past, refuse, symbol, token_of, word}
 use Rattle.pql_model.specs.Roots.{TablesAreChanged, is_changed, is_name}
@@ -131,12 +132,30 @@ create_gave r =
 drop_gave : (r : Reader) → Gave Fits (drop_table r)
 drop_gave r = named_gave statement'.Drop (λ t ms. tt) r
 
+abbrev redacted_behind : Expr → Expr → Production Statement
+redacted_behind a t = const >>= (λ d. give (statement'.Redact a t d))
+
+abbrev address_behind : Expr → Production Statement
+address_behind a = const >>= (λ t. symbol "," (redacted_behind a t))
+
+redact_gave : (r : Reader) → Gave Fits (redact r)
+redact_gave r =
+    gave_word Fits "REDACT_REVISION" (const >>= (λ a. symbol "," (address_behind a))) r
+    (gave_behind Fits (λ a. symbol "," (address_behind a)) (const (advanced r)) (λ a s.
+    gave_symbol Fits "," (address_behind a) s
+    (gave_behind Fits (λ t. symbol "," (redacted_behind a t)) (const (advanced s)) (λ t u.
+    gave_symbol Fits "," (redacted_behind a t) u
+    (gave_behind Fits (λ d. give (statement'.Redact a t d)) (const (advanced u)) (λ d v. tt))))))
+
 -- one word after another
 abbrev or_drop : Production Statement
 or_drop = word "DROP" drop_table
 
+abbrev or_redact : Production Statement
+or_redact = choose (is_word (codes "EXEC")) (past redact) or_drop
+
 abbrev or_create : Production Statement
-or_create = choose (is_word (codes "CREATE")) (past create) or_drop
+or_create = choose (is_word (codes "CREATE")) (past create) or_redact
 
 abbrev or_delete : Production Statement
 or_delete = choose (is_word (codes "DELETE")) (past delete) or_create
@@ -157,8 +176,9 @@ statement_gave r =
     (gave_if_word "UPDATE" update or_from r (update_gave (advanced r))
     (gave_if_word "FROM" from or_delete r (from_gave (advanced r))
     (gave_if_word "DELETE" delete or_create r (delete_gave (advanced r))
-    (gave_if_word "CREATE" create or_drop r (create_gave (advanced r))
-    (gave_word Fits "DROP" drop_table r (drop_gave (advanced r))))))))
+    (gave_if_word "CREATE" create or_redact r (create_gave (advanced r))
+    (gave_if_word "EXEC" redact or_drop r (redact_gave (advanced r))
+    (gave_word Fits "DROP" drop_table r (drop_gave (advanced r)))))))))
 
 ended_gave : (s : Statement) (r : Reader) → Fits s r.marks → Gave Fits (ended s r)
 ended_gave s r h = gave_choice Fits (is_end (token_of r)) (give s) (refuse kind.Unexpected) r h tt
@@ -191,6 +211,7 @@ good_if (statement'.Insert t e) ms h none n s changed at = absurd (false≢true 
 good_if (statement'.Create t) ms h none n s changed at = absurd (false≢true changed)
 good_if (statement'.Index t field) ms h none n s changed at = absurd (false≢true changed)
 good_if (statement'.Drop t) ms h none n s changed at = absurd (false≢true changed)
+good_if (statement'.Redact a t d) ms h none n s changed at = absurd (false≢true changed)
 
 abbrev Answered : Result Statement Fault → Type 0
 Answered (Ok st) = Good st

@@ -200,3 +200,7 @@ index = refl
 drop : parsed (codes "DROP TABLE t") ≡ Ok (statement.Drop (codes "t"))
 unfolding parsed lex is_reserved layers expression free_path
 drop = refl
+
+redact : parsed (codes "EXEC REDACT_REVISION ?, ?, ?") ≡ Ok (statement.Redact (expr.Parameter 0) (expr.Parameter 1) (expr.Parameter 2))
+unfolding parsed lex is_reserved layers expression free_path
+redact = refl

@@ -1,6 +1,6 @@
 -- The grammar of statements (PartiQL Specification, with the statements of Amazon QLDB's PartiQL):
 --
---   statement = (select | insert | update | from | delete | create | index | drop) [";"]
+--   statement = (select | insert | update | from | delete | create | index | drop | redact) [";"]
 --   select  = SELECT ("*" | VALUE expr | item {"," item}) FROM sources [WHERE expr]
 --   item    = expr [AS name]
 --   sources = source { "," source | CROSS JOIN source | [INNER] JOIN source ON expr }
@@ -13,6 +13,7 @@
 --   create  = CREATE TABLE name
 --   index   = CREATE INDEX ON name "(" name ")"
 --   drop    = DROP TABLE name
+--   redact  = EXEC REDACT_REVISION const "," const "," const
 use Rattle.std.specs.Prelude.{ℕ, zero, suc, ◌||◌, ◌&&◌, Bool, true, false, List, [], ◌∷◌, ◌++◌, length, drop, codes, Option, Some, None, unwrap_or, if◌then◌else◌}
 use Rattle.std.specs.List.{filter, list_any}
 use Rattle.std.specs.Str.{bytes_eq}
@@ -276,6 +277,11 @@ create =
 abbrev pub drop_table : Production Statement
 drop_table = word "TABLE" (name >>= (λ table. give (statement'.Drop table)))
 
+abbrev pub redact : Production Statement
+redact =
+    word "REDACT_REVISION" (const >>= (λ address. symbol "," (const >>= (λ table. symbol "," (const >>= (λ document.
+    give (statement'.Redact address table document)))))))
+
 abbrev pub statement : Production Statement
 statement =
     choose (is_word (codes "SELECT")) (past select)
@@ -284,7 +290,8 @@ statement =
     (choose (is_word (codes "FROM")) (past from)
     (choose (is_word (codes "DELETE")) (past delete)
     (choose (is_word (codes "CREATE")) (past create)
-    (word "DROP" drop_table))))))
+    (choose (is_word (codes "EXEC")) (past redact)
+    (word "DROP" drop_table)))))))
 
 -- ---- the whole text
 

@@ -112,3 +112,4 @@ in_statement (statement.Delete from) = in_from from
 in_statement (statement.Create table) = 0
 in_statement (statement.Index table field) = 0
 in_statement (statement.Drop table) = 0
+in_statement (statement.Redact address table document) = in_expr address + in_expr table + in_expr document

@@ -31,6 +31,7 @@ sources_of (statement.Insert table value) = []
 sources_of (statement.Create table) = []
 sources_of (statement.Index table field) = []
 sources_of (statement.Drop table) = []
+sources_of (statement.Redact address table document) = []
 
 -- ---- what a name means
 

@@ -81,6 +81,7 @@ statement_depth (statement.Delete from) = 0
 statement_depth (statement.Create table) = 0
 statement_depth (statement.Index table field) = 0
 statement_depth (statement.Drop table) = 0
+statement_depth (statement.Redact address table document) = 0
 
 -- ---- at most 64
 

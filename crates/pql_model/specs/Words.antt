@@ -17,7 +17,7 @@ reserved =
     ∷ codes "SET" ∷ codes "REMOVE"
     ∷ codes "DELETE" ∷ codes "CREATE" ∷ codes "DROP" ∷ codes "TABLE" ∷ codes "INDEX" ∷ codes "COUNT" ∷ codes "SUM"
     ∷ codes "MIN" ∷ codes "MAX"
-    ∷ codes "COALESCE" ∷ codes "SIZE" ∷ codes "CHAR_LENGTH" ∷ []
+    ∷ codes "COALESCE" ∷ codes "SIZE" ∷ codes "CHAR_LENGTH" ∷ codes "EXEC" ∷ codes "REDACT_REVISION" ∷ []
 
 unfoldable pub is_reserved : List ℕ → Bool
 is_reserved text = list_any (str_eq_ignore_ascii_case text) reserved

@@ -17,6 +17,13 @@ pub fn parameters(s: &Statement) -> u32
         Statement::Update { from, change } => in_from(from).saturating_add(in_change(change)),
         Statement::From { from, change } => in_from(from).saturating_add(in_change(change)),
         Statement::Delete { from } => in_from(from),
+        Statement::Redact {
+            address,
+            table,
+            document,
+        } => in_expr(address)
+            .saturating_add(in_expr(table))
+            .saturating_add(in_expr(document)),
         _ => 0,
     }
 }

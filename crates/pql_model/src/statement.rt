@@ -4,14 +4,40 @@ use containers::{Sequence, Text};
 /// A statement of the profile of PartiQL. The `from` of an UPDATE or a DELETE has one source.
 #[derive(Drop)]
 pub enum Statement {
-    Select { select: Select, from: FromClause },
-    Insert { table: Text, value: Expr },
-    Update { from: FromClause, change: Change },
-    From { from: FromClause, change: Change },
-    Delete { from: FromClause },
-    Create { table: Text },
-    Index { table: Text, field: Text },
-    Drop { table: Text },
+    Select {
+        select: Select,
+        from: FromClause,
+    },
+    Insert {
+        table: Text,
+        value: Expr,
+    },
+    Update {
+        from: FromClause,
+        change: Change,
+    },
+    From {
+        from: FromClause,
+        change: Change,
+    },
+    Delete {
+        from: FromClause,
+    },
+    Create {
+        table: Text,
+    },
+    Index {
+        table: Text,
+        field: Text,
+    },
+    Drop {
+        table: Text,
+    },
+    Redact {
+        address: Expr,
+        table: Expr,
+        document: Expr,
+    },
 }
 
 /// The items of a SELECT in order.

@@ -15,7 +15,7 @@ use Rattle.pql_model.specs.Productions as productions
 use Rattle.pql_model.specs.Expressions.{expression, free_path}
 use Rattle.pql_model.specs.Grammar as spec
 use Rattle.pql_model.specs.Grammar.{begins_step, item_role, of_one, source_of}
-use Rattle.pql_parse.specs.ClosedStatements.{alias, at_place, change, change_or_table, create, data_or_table, delete, ended, filter_of, filtered, from, from_clause, index, insert, inserted, insertion, item, item_value, items, plain_id_name, select, selection, setting, settings, statement, table, target, update}
+use Rattle.pql_parse.specs.ClosedStatements.{alias, at_place, change, change_or_table, const, create, data_or_table, delete, drop_table, ended, filter_of, filtered, from, from_clause, index, insert, inserted, insertion, item, item_value, items, plain_id_name, redact, redact_or_drop, select, selection, setting, settings, statement, table, target, update}
 use Rattle.pql_expr_parser.specs.Closed.{name}
 use Rattle.pql_expr_parser.proofs.Onward.{made_then, same_cond, same_onward, optional_opens}
 
@@ -125,10 +125,26 @@ create_opens r = refl
 pub data_or_table_opens : (r : Reader) →
     data_or_table r
     ≡ choose (is_word (codes "DELETE")) (past delete)
-    (choose (is_word (codes "CREATE")) (past create)
-    (word "DROP" (word "TABLE" (name >>= (λ t. give (statement'.Drop t)))))) r
-unfolding data_or_table delete create name
+    (choose (is_word (codes "CREATE")) (past create) redact_or_drop) r
+unfolding data_or_table delete create redact_or_drop
 data_or_table_opens r = refl
+
+pub redact_or_drop_opens : (r : Reader) →
+    redact_or_drop r
+    ≡ choose (is_word (codes "EXEC")) (past redact) (word "DROP" drop_table) r
+unfolding redact_or_drop redact drop_table
+redact_or_drop_opens r = refl
+
+pub drop_table_opens : (r : Reader) → drop_table r ≡ word "TABLE" (name >>= (λ t. give (statement'.Drop t))) r
+unfolding drop_table name
+drop_table_opens r = refl
+
+pub redact_opens : (r : Reader) →
+    redact r
+    ≡ word "REDACT_REVISION" (const >>= (λ a. symbol "," (const >>= (λ t. symbol "," (const >>= (λ d.
+    give (statement'.Redact a t d))))))) r
+unfolding redact const
+redact_opens r = refl
 
 pub change_or_table_opens : (r : Reader) →
     change_or_table r ≡ choose (is_word (codes "UPDATE")) (past update) (choose (is_word (codes "FROM")) (past from) data_or_table) r

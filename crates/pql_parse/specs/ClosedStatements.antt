@@ -149,6 +149,15 @@ index = spec.index
 unfoldable pub create : Production Statement
 create = spec.create
 
+unfoldable pub redact : Production Statement
+redact = spec.redact
+
+unfoldable pub drop_table : Production Statement
+drop_table = spec.drop_table
+
+unfoldable pub redact_or_drop : Production Statement
+redact_or_drop = parts.redact_or_drop
+
 unfoldable pub data_or_table : Production Statement
 data_or_table = parts.data_or_table
 

@@ -11,7 +11,7 @@ use Rattle.pql_model.specs.declared.statement.Statement.{Statement}
 use Rattle.pql_model.specs.Words.{is_word, is_symbol}
 use Rattle.pql_model.specs.Productions.{Production, give, past, choose, optional, word, symbol, with_name, name, marked, ◌>>=◌}
 use Rattle.pql_model.specs.Expressions.{expression, free_path}
-use Rattle.pql_model.specs.Grammar.{alias, bounds, conditioned, create, delete, drop_table, filter_of, from, id_name, is_variable, of_one, source, source_kind, source_of, update}
+use Rattle.pql_model.specs.Grammar.{alias, bounds, conditioned, create, delete, drop_table, filter_of, from, id_name, is_variable, of_one, redact, source, source_kind, source_of, update}
 use Rattle.pql_parse.specs.declared.sources.Earlier.{Earlier}
 
 -- The set holds the variables of the sources.
@@ -59,11 +59,15 @@ joined so_far =
 abbrev pub another : List Source → Production (Option Source)
 another so_far = choose (is_symbol (codes ",")) (past (some_source (source so_far))) (joined so_far)
 
--- a DELETE, or a statement on tables themselves
+-- a redaction, or a table's drop
+abbrev pub redact_or_drop : Production Statement
+redact_or_drop = choose (is_word (codes "EXEC")) (past redact) (word "DROP" drop_table)
+
+-- a DELETE, a redaction, or a statement on tables themselves
 abbrev pub data_or_table : Production Statement
 data_or_table =
     choose (is_word (codes "DELETE")) (past delete)
-    (choose (is_word (codes "CREATE")) (past create) (word "DROP" drop_table))
+    (choose (is_word (codes "CREATE")) (past create) redact_or_drop)
 
 -- an UPDATE or a FROM, or one of these
 abbrev pub change_or_table : Production Statement

@@ -416,7 +416,7 @@ fn end_bound(parser: &mut Parser<'_>) -> Result<Option<Boxed<Expr>>, ParseAnswer
 
 /// A literal or `?` that must come.
 #[tactic(auto, using(crate::proofs::OpenedSources::const_opens))]
-fn constant(parser: &mut Parser<'_>) -> Result<Boxed<Expr>, ParseAnswer>
+pub(crate) fn constant(parser: &mut Parser<'_>) -> Result<Boxed<Expr>, ParseAnswer>
     ensures { Gives result parser.new (closed.const (seen parser.old)) }
 {
     let Some(constant) = parser.constant()? else {

@@ -7,7 +7,7 @@ ghost use Rattle.pql_expr_parser.specs.Gives.{seen, Gives};
 
 use crate::changes::change;
 use crate::selection::selection;
-use crate::sources::{alias, filter, from_clause, id_name, source_of};
+use crate::sources::{alias, constant, filter, from_clause, id_name, source_of};
 use containers::{Boxed, OutOfMemory, Sequence};
 use pql_expr_parser::answer::ParseAnswer;
 use pql_expr_parser::expressions::expression;
@@ -81,7 +81,7 @@ fn change_or_table(parser: &mut Parser<'_>) -> Result<Statement, ParseAnswer>
     data_or_table(parser)
 }
 
-/// A DELETE, or a statement on tables themselves.
+/// A DELETE, a redaction, or a statement on tables themselves.
 #[tactic(auto, using(crate::proofs::OpenedStatements::data_or_table_opens))]
 fn data_or_table(parser: &mut Parser<'_>) -> Result<Statement, ParseAnswer>
     ensures { Gives result parser.new (closed.data_or_table (seen parser.old)) }
@@ -94,7 +94,25 @@ fn data_or_table(parser: &mut Parser<'_>) -> Result<Statement, ParseAnswer>
         parser.advance();
         return create(parser);
     }
+    redact_or_drop(parser)
+}
+
+#[tactic(auto, using(crate::proofs::OpenedStatements::redact_or_drop_opens))]
+fn redact_or_drop(parser: &mut Parser<'_>) -> Result<Statement, ParseAnswer>
+    ensures { Gives result parser.new (closed.redact_or_drop (seen parser.old)) }
+{
+    if parser.is_word("EXEC") {
+        parser.advance();
+        return redact(parser);
+    }
     parser.take_word("DROP")?;
+    drop_table(parser)
+}
+
+#[tactic(auto, using(crate::proofs::OpenedStatements::drop_table_opens))]
+fn drop_table(parser: &mut Parser<'_>) -> Result<Statement, ParseAnswer>
+    ensures { Gives result parser.new (closed.drop_table (seen parser.old)) }
+{
     parser.take_word("TABLE")?;
     let table = parser.name()?;
     Ok(Statement::Drop { table })
@@ -231,4 +249,21 @@ fn index(parser: &mut Parser<'_>) -> Result<Statement, ParseAnswer>
     let field = parser.name()?;
     parser.take_symbol(")")?;
     Ok(Statement::Index { table, field })
+}
+
+#[tactic(auto, using(crate::proofs::OpenedStatements::redact_opens))]
+fn redact(parser: &mut Parser<'_>) -> Result<Statement, ParseAnswer>
+    ensures { Gives result parser.new (closed.redact (seen parser.old)) }
+{
+    parser.take_word("REDACT_REVISION")?;
+    let address = constant(parser)?;
+    parser.take_symbol(",")?;
+    let table = constant(parser)?;
+    parser.take_symbol(",")?;
+    let document = constant(parser)?;
+    Ok(Statement::Redact {
+        address: address.into_inner(),
+        table: table.into_inner(),
+        document: document.into_inner(),
+    })
 }

@@ -1,5 +1,5 @@
 -- The hashes of blocks in a chain.
-use Rattle.std.proofs.Common.{◌≡◌, ◌∙◌, ℕ, zero, suc, true, List, [], ◌∷◌, get_or, length, take, Some, refl, sym, ap}
+use Rattle.std.proofs.Common.{◌≡◌, ◌∙◌, not, ℕ, zero, suc, true, List, [], ◌∷◌, get_or, length, take, Some, refl, sym, ap}
 use Rattle.std.specs.Prelude.{slice_get}
 use Rattle.std.specs.List.{list_all}
 use Rattle.std.specs.Cmp.Lexicographic.{pointwise}
@@ -10,9 +10,10 @@ use Rattle.hash_model.specs.PairHash.{dot32}
 use Rattle.hash_model.specs.Serialize.{hash_of}
 use Rattle.ledger_model.specs.declared.block.Block.{Block}
 use Rattle.ledger_model.specs.Damages.{has_hashes, has_revision_hash, same_entry, strand_of}
-use Rattle.ledger_model.specs.Journal.{header_value, info_value}
+use Rattle.ledger_model.specs.Journal.{header_value}
 use Rattle.ledger_model.specs.Legal.{last_hash}
-use Rattle.ledger_model.specs.Seals.{entries_hash, revisions_root, sealed, strand_hash}
+use Rattle.ledger_model.specs.Seals.{entries_hash, info_hash, revisions_root, sealed, strand_hash}
+use Rattle.ledger_model.specs.Whole.{is_redacted, is_said}
 use Rattle.proof_model.specs.Chained.{Chained}
 use Rattle.proof_model.proofs.Chains.{hash_is, linked, same_hash-is}
 use Rattle.value_codec.proofs.Inverse.{left, right}
@@ -37,7 +38,7 @@ entries_are (x ∷ xs) (y ∷ ys) e =
     λ i. first i ∷ rest i
 
 pub list_is : (b : Block) → has_hashes b ≡ true
-    → b.list ≡ Full (hash_of (info_value b.info b.revisions)) ∷ revisions_root b.revisions ∷ Full (hash_of (header_value b.header)) ∷ []
+    → b.list ≡ Full (info_hash b.info b.revisions) ∷ revisions_root b.revisions ∷ Full (hash_of (header_value b.header)) ∷ []
 list_is b h =
     let computed = sealed b.previous b.header b.info b.revisions in
     entries_are b.list computed.list
@@ -51,7 +52,7 @@ pub entries_from : (b : Block) (said header : Hash32) → has_hashes b ≡ true 
     → ◌≡◌ {A = Entries} (record { said = said; root = get_or b.list 1 Empty; header = header }) (entries_of b)
 entries_from b said header h first last =
     let l = list_is b h in
-    let s = full_is said (hash_of (info_value b.info b.revisions)) (sym first ∙ ap (λ (xs : List Hash). get_or xs 0 Empty) l) in
+    let s = full_is said (info_hash b.info b.revisions) (sym first ∙ ap (λ (xs : List Hash). get_or xs 0 Empty) l) in
     let t = full_is header (hash_of (header_value b.header)) (sym last ∙ ap (λ (xs : List Hash). get_or xs 2 Empty) l) in
     let r = ap (λ (xs : List Hash). get_or xs 1 Empty) l in
     λ i. record { said = s i; root = r i; header = t i }
@@ -62,11 +63,11 @@ by_root said (Full root) header = refl
 
 -- the hash of its entries
 pub entries_is : (b : Block) → has_hashes b ≡ true
-    → b.entries ≡ dot32 (changes_of (hash_of (info_value b.info b.revisions)) (revisions_root b.revisions)) (hash_of (header_value b.header))
+    → b.entries ≡ dot32 (changes_of (info_hash b.info b.revisions) (revisions_root b.revisions)) (hash_of (header_value b.header))
 entries_is b h =
     let computed = sealed b.previous b.header b.info b.revisions in
     same_hash-is b.entries computed.entries (right _ _ (left _ _ h))
-    ∙ by_root (hash_of (info_value b.info b.revisions)) (revisions_root b.revisions) (hash_of (header_value b.header))
+    ∙ by_root (info_hash b.info b.revisions) (revisions_root b.revisions) (hash_of (header_value b.header))
 
 -- also by what is computed of it
 pub entries_by : (b : Block) (e : Entries) (changes : Hash32) → has_hashes b ≡ true → e ≡ entries_of b → changes ≡ changes_of e.said e.root
@@ -76,7 +77,7 @@ entries_by b e changes h is same =
     ∙ sym (ap (λ (z : Hash32). dot32 z e.header) same)
 
 pub changes_there : (b : Block) (e : Entries) (root : Hash32) → e ≡ entries_of b → e.root ≡ Full root
-    → changes_of (hash_of (info_value b.info b.revisions)) (revisions_root b.revisions) ≡ dot32 e.said root
+    → changes_of (info_hash b.info b.revisions) (revisions_root b.revisions) ≡ dot32 e.said root
 changes_there b e root is full =
     sym (ap (λ (x : Entries). changes_of x.said x.root) is) ∙ ap (changes_of e.said) full
 
@@ -125,6 +126,12 @@ hashes_here blocks chained k b at = let l = linked blocks chained k b at in l.ha
 pub count_here : (blocks : List Block) → Chained blocks → (k : ℕ) (b : Block) → slice_get blocks k ≡ Some b
     → b.header.revisions ≡ length b.revisions
 count_here blocks chained k b at = let l = linked blocks chained k b at in l.whole.count
+
+-- its statements are told
+pub said_here : (blocks : List Block) → Chained blocks → (k : ℕ) (b : Block) → slice_get blocks k ≡ Some b → is_said b.info.said ≡ true
+said_here blocks chained k b at =
+    let l = linked blocks chained k b at in
+    left (is_said b.info.said) (list_all (λ r. not (is_redacted r.content)) b.revisions) l.whole.unredacted
 
 -- its hash, from those of its entries and of the block before
 pub hash_here : (blocks : List Block) → Chained blocks → (k : ℕ) (b : Block) → slice_get blocks k ≡ Some b → b.hash ≡ dot32 b.entries b.previous

@@ -10,9 +10,9 @@ use Rattle.hash_model.specs.Serialize.{hash_of}
 use Rattle.pad_tree.specs.Paths.{folded}
 use Rattle.ledger_model.specs.declared.block.Block.{Block}
 use Rattle.ledger_model.specs.declared.block.Revision.{Revision}
-use Rattle.ledger_model.specs.Journal.{header_value, info_value}
+use Rattle.ledger_model.specs.Journal.{header_value}
 use Rattle.ledger_model.specs.Script.{and_then}
-use Rattle.ledger_model.specs.Seals.{revisions_root}
+use Rattle.ledger_model.specs.Seals.{info_hash, revisions_root}
 use Rattle.ledger_model.specs.Values.{fields_in}
 use Rattle.proof_model.specs.declared.Proof.{Proof}
 use Rattle.proof_model.specs.Verified.{block_height, root_by}
@@ -51,7 +51,7 @@ info_in v = and_then (fields_in v) (λ (fields : List Field). option_map (λ (f 
 -- the hashes of a block's entries
 abbrev pub entries_of : Block → Entries
 entries_of b = record {
-  said = hash_of (info_value b.info b.revisions);
+  said = info_hash b.info b.revisions;
   root = revisions_root b.revisions;
   header = hash_of (header_value b.header);
 }
@@ -64,7 +64,7 @@ pub record HasHash (blocks : List Block) (number : ℕ) (h : Hash32) : Type 0 wh
 
 -- the hash climbed to joins the hash of the transaction's info with that of the block's revisions
 abbrev pub HasChanges : Block → Climb → Type 0
-HasChanges b c = c.changes ≡ changes_of (hash_of (info_value b.info b.revisions)) (revisions_root b.revisions)
+HasChanges b c = c.changes ≡ changes_of (info_hash b.info b.revisions) (revisions_root b.revisions)
 
 -- and the hash of the header is the block's
 abbrev pub AreItsChanges : Block → Climb → Type 0

@@ -7,6 +7,7 @@ ghost use Rattle.pad_tree.specs.Paths.{folded};
 ghost use Rattle.ledger_model.specs.Damages.{has_hashes};
 ghost use Rattle.ledger_model.specs.Journal as journal;
 ghost use Rattle.ledger_model.specs.Seals.{revision_hash, revisions_root};
+ghost use Rattle.ledger_model.specs.Whole.{is_said};
 ghost use Rattle.proof_model.specs.Verified.{block_height};
 ghost use Rattle.proof_extract.specs.Climbs as spec;
 ghost use Rattle.proof_extract.specs.Climbs.{HasRevision, IsStacked};
@@ -72,7 +73,7 @@ fn stop_under_info(
     stop_at_pair(alloc, &under, &path[last], &info)
 }
 
-/// The root of revisions climbed to is that of the block.
+/// The root of revisions climbed to is that of the block, whose statements are told.
 fn same_root(
     alloc: Global,
     block: &Block,
@@ -81,6 +82,7 @@ fn same_root(
     climbed: &Climb,
 ) -> Result<(), Stop>
     requires hashes { has_hashes block.now ≡ true }
+    requires said { is_said block.now.info.said ≡ true }
     requires some { 1 ≤ length block.now.revisions }
     requires count { 1 ≤ proof.now.header.revisions }
     requires long { block_height proof.now + 2 ≤ length proof.now.path }
@@ -290,6 +292,7 @@ pub fn revision_in(
     climbed: &Climb,
 ) -> Result<u32, Stop>
     requires hashes { has_hashes block.now ≡ true }
+    requires said { is_said block.now.info.said ≡ true }
     requires revisions { block.now.header.revisions ≡ length block.now.revisions }
     requires header { proof.now.header.revisions ≡ block.now.header.revisions }
     requires count { 1 ≤ proof.now.header.revisions }

@@ -2,11 +2,10 @@
 #![tactic(auto)]
 
 ghost use Rattle.std.specs.Prelude.{◌≡◌, ◌<◌, true, List, ◌++◌, length, map, slice_get, IfOk, IfSome, MatchResult, OnOk};
-ghost use Rattle.hash_model.specs.Serialize.{hash_of};
 ghost use Rattle.hash_model.specs.Tree.{root_of};
 ghost use Rattle.ledger_model.specs.declared.block.Block.{Block};
 ghost use Rattle.ledger_model.specs.Damages.{has_hashes};
-ghost use Rattle.ledger_model.specs.Journal.{info_value};
+ghost use Rattle.ledger_model.specs.Seals.{info_hash};
 ghost use Rattle.proof_model.specs.Chained.{Chained, IsLinked};
 ghost use Rattle.proof_model.specs.Issued.{hashes_to, IsDigest, proof_for, IsAccepted};
 ghost use Rattle.proof_issue.specs.Parts as parts;
@@ -171,7 +170,7 @@ fn revision_hashes(alloc: Global, revisions: &[Revision]) -> Result<Hashes, OutO
 /// The hash of what the block's transaction said and did.
 fn info_hash(block: &Block) -> Hash32
     requires { has_hashes block.now ≡ true }
-    ensures { result ≡ hash_of (info_value block.now.info block.now.revisions) }
+    ensures { result ≡ info_hash block.now.info block.now.revisions }
 {
     match block.list[0] {
         Hash::Full(info) => info,

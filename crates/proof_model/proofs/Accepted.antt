@@ -11,8 +11,8 @@ use Rattle.ql_types.specs.declared.Hash32.{Hash32}
 use Rattle.ql_types.specs.declared.Hash.TheVariants.{Full}
 use Rattle.ledger_model.specs.declared.block.Revision.{Revision}
 use Rattle.ledger_model.specs.declared.block.Block.{Block}
-use Rattle.ledger_model.specs.Journal.{header_value, info_value}
-use Rattle.ledger_model.specs.Seals.{revisions_root, entries_hash}
+use Rattle.ledger_model.specs.Journal.{header_value}
+use Rattle.ledger_model.specs.Seals.{entries_hash, info_hash, revisions_root}
 use Rattle.pad_tree.specs.Paths.{path_of, folded}
 use Rattle.pad_tree.proofs.Pairs.{dot32-comm}
 use Rattle.pad_tree.proofs.PathLevels.{length-path_of}
@@ -53,10 +53,10 @@ whole_path-is below above info head previous h long =
 
 -- the hash of a block whose revisions have this root
 block_hash : (b : Block) (root : Hash32) → Full root ≡ revisions_root b.revisions
-    → b.hash ≡ dot32 (entries_hash (hash_of (info_value b.info b.revisions)) (revisions_root b.revisions) (hash_of (header_value b.header))) b.previous
-    → dot32 (dot32 (dot32 (hash_of (info_value b.info b.revisions)) root) (hash_of (header_value b.header))) b.previous ≡ b.hash
+    → b.hash ≡ dot32 (entries_hash (info_hash b.info b.revisions) (revisions_root b.revisions) (hash_of (header_value b.header))) b.previous
+    → dot32 (dot32 (dot32 (info_hash b.info b.revisions) root) (hash_of (header_value b.header))) b.previous ≡ b.hash
 block_hash b root e is =
-    ap (λ r. dot32 (entries_hash (hash_of (info_value b.info b.revisions)) r (hash_of (header_value b.header))) b.previous) e ∙ sym is
+    ap (λ r. dot32 (entries_hash (info_hash b.info b.revisions) r (hash_of (header_value b.header))) b.previous) e ∙ sym is
 
 revision_leaf : (b : Block) (k : ℕ) (r : Revision) → slice_get b.revisions k ≡ Some r → slice_get (map (λ (x : Revision). x.hash) b.revisions) k ≡ Some r.hash
 revision_leaf b k r e = slice_get-map (λ (x : Revision). x.hash) b.revisions k ∙ ap (option_map (λ (x : Revision). x.hash)) e
@@ -88,7 +88,7 @@ verified blocks b r d sequence index tip chained room within at here address dig
     let tips = hashes_to blocks tip in
     let below = path_of leaves index in
     let above = path_of tips sequence in
-    let info = hash_of (info_value b.info b.revisions) in
+    let info = info_hash b.info b.revisions in
     let head = hash_of (header_value b.header) in
     let root = folded r.hash below in
     let count : length leaves ≡ b.header.revisions = length-map b.revisions (λ (x : Revision). x.hash) ∙ sym l.whole.count in

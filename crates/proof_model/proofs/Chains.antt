@@ -16,10 +16,9 @@ use Rattle.ql_types.specs.declared.StrandId.{StrandId}
 use Rattle.ledger_model.specs.declared.block.Revision.{Revision}
 use Rattle.ledger_model.specs.declared.block.Block.{Block}
 use Rattle.ledger_model.specs.declared.damage.Damage.TheVariants.{WrongAddress, WrongId, TimeFell, WrongPrevious, WrongHash, WrongState}
-use Rattle.ledger_model.specs.State.{state}
-use Rattle.ledger_model.specs.Journal.{header_value, info_value}
-use Rattle.ledger_model.specs.Seals.{sealed, revision_hash, revisions_root, entries_hash}
-use Rattle.ledger_model.specs.Follows.{follows}
+use Rattle.ledger_model.specs.Journal.{header_value}
+use Rattle.ledger_model.specs.Seals.{entries_hash, info_hash, revision_hash, revisions_root, sealed}
+use Rattle.ledger_model.specs.Follows.{follows_blocks}
 use Rattle.ledger_model.specs.Damages.{strand_of, has_address, has_id, has_time, has_previous, has_hashes, has_revision_hash, same_hash, same_entry, UndamagedBehind}
 use Rattle.value_codec.proofs.Inverse.{left, right}
 use Rattle.proof_model.specs.Chained.{IsLinked, ChainedBehind, Chained, UndamagedIsChained}
@@ -43,7 +42,7 @@ chained_behind before [] u = tt
 chained_behind before (b ∷ bs) u =
     let strand = strand_of before b in
     let p = passed (has_address strand before b) (has_id strand before b) (has_time before b) (has_previous strand before b)
-    (has_hashes b) (follows strand (state before) b) u.1 in
+    (has_hashes b) (follows_blocks strand before b) u.1 in
     (record { whole = u.0; address = p.0; previous = p.1; hashes = p.2 }, chained_behind (before ++ b ∷ []) bs u.2)
 
 pub undamaged-chained : UndamagedIsChained
@@ -95,7 +94,7 @@ same_hash-is a b e =
 
 -- the hash of a block is that of its entries and of the hash before it
 pub hash_is : (b : Block) → has_hashes b ≡ true
-    → b.hash ≡ dot32 (entries_hash (hash_of (info_value b.info b.revisions)) (revisions_root b.revisions) (hash_of (header_value b.header))) b.previous
+    → b.hash ≡ dot32 (entries_hash (info_hash b.info b.revisions) (revisions_root b.revisions) (hash_of (header_value b.header))) b.previous
 hash_is b h = same_hash-is b.hash (sealed b.previous b.header b.info b.revisions).hash (right _ _ h)
 
 first_entry : (hs : List Hash) (x : Hash32) (rest : List Hash) → pointwise same_entry hs (Full x ∷ rest) ≡ true → slice_get hs 0 ≡ Some (Full x)
@@ -104,7 +103,7 @@ first_entry (Empty ∷ hs) x rest h = cc
 first_entry (Full y ∷ hs) x rest h = ap (λ z. Some (Full z)) (same_hash-is y x (left _ _ h))
 
 -- the first of its entries' hashes is the hash of its transaction's statements and changes
-pub info_entry : (b : Block) → has_hashes b ≡ true → slice_get b.list 0 ≡ Some (Full (hash_of (info_value b.info b.revisions)))
+pub info_entry : (b : Block) → has_hashes b ≡ true → slice_get b.list 0 ≡ Some (Full (info_hash b.info b.revisions))
 info_entry b h =
     let computed = sealed b.previous b.header b.info b.revisions in
     first_entry b.list _ _ (right (list_all has_revision_hash b.revisions) (pointwise same_entry b.list computed.list) (left _ _ (left _ _ h)))

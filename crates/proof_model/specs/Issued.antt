@@ -2,12 +2,11 @@
 use Rattle.std.specs.Prelude.{ℕ, ◌+◌, ◌<◌, ◌≤◌, ◌≡◌, List, ◌∷◌, ◌++◌, length, map, take, Some, slice_get}
 use Rattle.ql_types.specs.declared.Hash.TheVariants.{Full}
 use Rattle.ql_types.specs.declared.Hash32.{Hash32}
-use Rattle.hash_model.specs.Serialize.{hash_of}
 use Rattle.hash_model.specs.Tree.{root_of}
 use Rattle.pad_tree.specs.Paths.{path_of}
 use Rattle.ledger_model.specs.declared.block.Revision.{Revision}
 use Rattle.ledger_model.specs.declared.block.Block.{Block}
-use Rattle.ledger_model.specs.Journal.{info_value}
+use Rattle.ledger_model.specs.Seals.{info_hash}
 use Rattle.proof_model.specs.declared.Digest.{Digest}
 use Rattle.proof_model.specs.declared.Proof.{Proof}
 use Rattle.proof_model.specs.Chained.{Chained}
@@ -33,7 +32,7 @@ proof_for blocks b sequence index tip = record {
   header = b.header;
   index = index;
   path = path_of (map (λ r. r.hash) b.revisions) index
-      ++ hash_of (info_value b.info b.revisions) ∷ b.previous ∷ path_of (hashes_to blocks tip) sequence;
+      ++ info_hash b.info b.revisions ∷ b.previous ∷ path_of (hashes_to blocks tip) sequence;
 }
 
 -- the proof is accepted for the revision at that index of that block, where the revision has its block's address

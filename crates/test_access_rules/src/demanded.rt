@@ -74,6 +74,17 @@ FROM u AS y, t AS x, "T" AS z INSERT INTO x.l VALUE y.g is: PartiQLSelect u: Par
 FROM t AS x, u AS x SET x.a = 1 is: PartiQLSelect t: PartiQLUpdate u
 FROM t, u REMOVE u.a is: PartiQLSelect t: PartiQLUpdate u"#;
 
+/// EXEC REDACT_REVISION, whose table is the text of an argument, or else the empty one.
+pub(crate) const REDACTING: &str =
+    r#"EXEC REDACT_REVISION ?, ?, ? of {strandId:"s",sequenceNo:0} "t" "d" is: PartiQLRedact t
+EXEC REDACT_REVISION ?, ?, ? of 1 t 2 is: PartiQLRedact t
+EXEC REDACT_REVISION ?, ?, ? of 1 a::"t" 2 is: PartiQLRedact t
+EXEC REDACT_REVISION ?, 't', ? of 1 2 is: PartiQLRedact t
+EXEC REDACT_REVISION `{}`, 'two words', 'd' is: PartiQLRedact two words
+EXEC REDACT_REVISION ?, '*', ? of 1 2 is: PartiQLRedact *
+EXEC REDACT_REVISION ?, '_ql_committed_t', ? of 1 2 is: PartiQLRedact _ql_committed_t
+EXEC REDACT_REVISION ?, 5, ? of 1 2 is: PartiQLRedact "#;
+
 fn put_all(out: &mut String, demands: &[Demand]) -> Option<()> {
     for demand in demands {
         out.push_str(": ").ok()?;

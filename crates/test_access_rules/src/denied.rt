@@ -144,6 +144,26 @@ pub(crate) const OF_SESSIONS: &str =
 5 DROP TABLE u is 1 PartiQLDropTable u by no rule
 5 SELECT COUNT(*) AS c FROM history(t) AS h is none"#;
 
+/// Redactions. One whose second argument is no text demands on the empty text.
+pub(crate) const REDACTIONS: &str =
+    r#"{r:[{rule:"one",effect:allow,actions:[PartiQLRedact],tables:["0000000000000000018OWH"]},{rule:"no",effect:deny,actions:[PartiQLRedact],tables:[""]}]}
+1 EXEC REDACT_REVISION 1, '0000000000000000018OWH', 2 is none
+1 EXEC REDACT_REVISION ?, ?, ? of {} "0000000000000000018OWH" 5 then DELETE FROM t is 2 PartiQLDelete t by no rule
+1 EXEC REDACT_REVISION 1, '0000000000000000018OWI', 2 is 1 PartiQLRedact 0000000000000000018OWI by no rule
+1 EXEC REDACT_REVISION '0000000000000000018OWH', 't', '0000000000000000018OWH' is 1 PartiQLRedact t by no rule
+1 EXEC REDACT_REVISION 1, '', 2 is 1 PartiQLRedact  by no
+1 EXEC REDACT_REVISION 1, 5, 2 is 1 PartiQLRedact  by no
+1 EXEC REDACT_REVISION 1, NULL, 2 is 1 PartiQLRedact  by no
+1 EXEC REDACT_REVISION 1, MISSING, 2 is 1 PartiQLRedact  by no
+1 EXEC REDACT_REVISION 1, `null.string`, 2 is 1 PartiQLRedact  by no
+1 EXEC REDACT_REVISION 1, ?, 2 of ["0000000000000000018OWH"] is 1 PartiQLRedact  by no
+1 EXEC REDACT_REVISION 1, ?, 2 is none
+1 EXEC REDACT_REVISION 1, ?, 2 of "t" "u" is none
+1 EXEC REDACT_REVISION 1, 5 is none
+{r:[{rule:"any",effect:allow,actions:[PartiQLRedact],tables:["*"],sessions:[2]}]}
+1 EXEC REDACT_REVISION 1, 't', 2 is 1 PartiQLRedact t by no rule
+2 EXEC REDACT_REVISION 1, 't', 2 then EXEC REDACT_REVISION 1, 5, 2 is none"#;
+
 fn request(alloc: Global, text: &str) -> Option<Request> {
     let (text, params) = text.split_once(" of ").unwrap_or((text, ""));
     let text = Text::from_text(alloc, text).ok()?;

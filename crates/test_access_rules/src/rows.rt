@@ -1,6 +1,8 @@
 //! The tables, and what their rows come to.
-use crate::demanded::{CHANGING, JOINED, SINGLE, demanded};
-use crate::denied::{DENY_AND_ALLOW, OF_SESSIONS, SEVERAL_DEMANDS, STATEMENTS, denied_of};
+use crate::demanded::{CHANGING, JOINED, REDACTING, SINGLE, demanded};
+use crate::denied::{
+    DENY_AND_ALLOW, OF_SESSIONS, REDACTIONS, SEVERAL_DEMANDS, STATEMENTS, denied_of,
+};
 use crate::judged::{DENIED, DENYING, JUDGED, MIXED, READ, READERS, judged};
 use crate::sets::{BAD, GOOD, NO_RULES, read, read_rule};
 use std::alloc::Global;
@@ -90,7 +92,7 @@ fn rule_failing(alloc: Global, rows: &str) -> Option<&str> {
 
 #[test]
 fn statements_demand(rt: HostRuntime) {
-    for rows in [SINGLE, JOINED, CHANGING] {
+    for rows in [SINGLE, JOINED, CHANGING, REDACTING] {
         assert_eq!(rt; demands_failing(rt.alloc(), rows), None);
     }
 }
@@ -104,7 +106,13 @@ fn rules_judge(rt: HostRuntime) {
 
 #[test]
 fn transactions_are_denied(rt: HostRuntime) {
-    for rows in [STATEMENTS, DENY_AND_ALLOW, SEVERAL_DEMANDS, OF_SESSIONS] {
+    for rows in [
+        STATEMENTS,
+        DENY_AND_ALLOW,
+        SEVERAL_DEMANDS,
+        OF_SESSIONS,
+        REDACTIONS,
+    ] {
         assert_eq!(rt; denying_failing(rt.alloc(), rows), None);
     }
 }

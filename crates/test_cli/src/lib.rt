@@ -22,6 +22,8 @@ mod makes;
 #[cfg(test)]
 mod proofs;
 #[cfg(test)]
+mod redacted;
+#[cfg(test)]
 mod registration;
 #[cfg(test)]
 mod rows;

@@ -1,6 +1,7 @@
 //! Texts that rows name.
 use crate::extracts::SIX_BLOCKS;
 use crate::failing::{MENDED_BY_SETTLE, MENDED_LATER, STORE_FAULT, THREE};
+use crate::redacted::{REDACTED_BLOCKS, REDACTION, REDACTION_TOLD};
 use crate::ruled::{ALL, KEEP};
 use crate::runs::{COMMITTED, FIRST, FOUR_OUTCOMES, RUN, SESSIONS};
 use crate::verdicts::HONEST;
@@ -28,6 +29,9 @@ fn named(name: &str) -> Option<&'static str> {
         "MENDED_BY_SETTLE" => Some(MENDED_BY_SETTLE),
         "ALL" => Some(ALL),
         "KEEP" => Some(KEEP),
+        "REDACTION" => Some(REDACTION),
+        "REDACTION_TOLD" => Some(REDACTION_TOLD),
+        "REDACTED_BLOCKS" => Some(REDACTED_BLOCKS),
         "SESSIONS" => Some(SESSIONS),
         "FOUR_OUTCOMES" => Some(FOUR_OUTCOMES),
         "ONE_BLOCK" => Some(ONE_BLOCK),

@@ -5,12 +5,12 @@ ghost use Rattle.ledger_model.specs.State.{after, state};
 use crate::four_blocks::FOUR_BLOCKS;
 use crate::items::{items, put_braced};
 use containers::Boxed;
-use ion_values::{OutOfMemory, Text, Value};
+use ion_values::{Field, OutOfMemory, Text};
 use journal_text::read_journal;
 use ledger_model::{Block, Item, Named};
 use occ_check::first_conflict;
 use std::alloc::Global;
-use test_rows::put_number;
+use test_rows::{list_in, named, number_in, put_number};
 use versions::Versions;
 
 /// The state after one block more. A version on the heap is dropped by a call, in place of its parts one by one.
@@ -45,26 +45,30 @@ pub fn lines_of(alloc: Global, later: &str) -> Option<Text> {
     Some(text)
 }
 
-/// The first conflict of a transaction that began behind four blocks of the journal and read these items.
-fn conflict_in(alloc: Global, lines: &str, items: &[Item]) -> Option<Option<Named>> {
+/// The first conflict of a transaction that began behind so many blocks of the journal and read these items.
+fn conflict_in(alloc: Global, lines: &str, since: u64, items: &[Item]) -> Option<Option<Named>> {
     let (blocks, _) = read_journal(alloc, lines.as_bytes()).ok()?;
     let now = state_of(alloc, blocks.as_slice()).ok()?;
-    if blocks.len() < 4 {
+    if blocks.len() < since {
         return None;
     }
-    first_conflict(alloc, items, &blocks, 4, now.get()).ok()
+    first_conflict(alloc, items, &blocks, since, now.get()).ok()
 }
 
-/// Puts the first block that touches one of these items, and the item.
-pub fn put_first(alloc: Global, later: &str, read: &[Value], out: &mut Text) -> Option<()> {
+/// How many blocks a row's transaction began behind: four, or as many as the row says.
+fn since_in(more: &[Field]) -> Option<u64> {
+    match named(more, "since") {
+        Some(since) => u64::try_from(number_in(since)?).ok(),
+        None => Some(4),
+    }
+}
+
+/// Puts the first block that touches one of the items that were read, and the item.
+pub fn put_first(alloc: Global, later: &str, more: &[Field], out: &mut Text) -> Option<()> {
     let lines = lines_of(alloc, later)?;
-    let items = items(alloc, read)?;
-    put_named(
-        alloc,
-        conflict_in(alloc, lines.as_str(), items.as_slice())?,
-        out,
-    )
-    .ok()
+    let items = items(alloc, list_in(named(more, "read")?)?)?;
+    let found = conflict_in(alloc, lines.as_str(), since_in(more)?, items.as_slice())?;
+    put_named(alloc, found, out).ok()
 }
 
 fn put_named(alloc: Global, found: Option<Named>, out: &mut Text) -> Result<(), OutOfMemory> {

@@ -3,7 +3,8 @@
 //! A row's first field says what is asked of the journal whose `lines` stand behind those of four blocks
 //! (four_blocks.rt):
 //!
-//! - `later`: the first of these lines' blocks that touches one of the items `read`, and the item,
+//! - `later`: the first block that touches one of the items `read`, and the item, of these lines' blocks or, where the
+//!   row has `since`, of those from this number on,
 //! - `statement`: what the statement reads, with the parameters `params`.
 //!
 //! An item is a struct, as a report spells it. `lines` isn't printed. ../../test_journal/vectors/make.py makes the lines
@@ -19,7 +20,7 @@ use ion_values::{Field, Text};
 use std::alloc::Global;
 use std::io::Read;
 use std::process::ExitCode;
-use test_rows::{Asked, lines, list_in, named, text_in};
+use test_rows::{Asked, lines, named, text_in};
 
 /// What the rows ask.
 #[derive(Clone, Copy)]
@@ -32,7 +33,7 @@ impl Asked for Footprints {
         };
         let later = text_in(named(more, "lines")?)?;
         match asked.name.as_str() {
-            "later" => conflicts::put_first(alloc, later, list_in(named(more, "read")?)?, out),
+            "later" => conflicts::put_first(alloc, later, more, out),
             "statement" => statements::put_items(alloc, later, text_in(&asked.value)?, more, out),
             _ => None,
         }

@@ -87,6 +87,9 @@ fn counted(sort: &str, count: u32) -> Refusal {
             given: 0,
         },
         "TooDeep" => Refusal::TooDeep { depth: count },
+        "StillLatest" => Refusal::StillLatest { version: long },
+        "AlreadyRedacted" => Refusal::AlreadyRedacted { version: long },
+        "TooManyRedactions" => Refusal::TooManyRedactions { count: long },
         _ => Refusal::ParseFault {
             at: long,
             kind: ParseKind::Unexpected,
@@ -99,6 +102,7 @@ fn cause_of(alloc: Global, sort: &str, rest: &str) -> Option<Refusal> {
         "Ended" => Some(Refusal::Ended),
         "OutOfMemory" => Some(Refusal::OutOfMemory),
         "NotADocument" => Some(Refusal::NotADocument { kind: Kind::Null }),
+        "NoSuchRevision" => Some(Refusal::NoSuchRevision),
         _ => match rest.parse::<u32>() {
             Ok(count) => Some(counted(sort, count)),
             Err(_) => named(alloc, sort, text(alloc, rest)?),

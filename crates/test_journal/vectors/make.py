@@ -6,6 +6,7 @@
 Each argument is a block's steps, with `, ` between them:
 
 - `create NAME TABLE`, `index FIELD TABLE` and `drop NAME TABLE` change the schema,
+- `redact SEQUENCE TABLE DOCUMENT` redacts a revision of the block of this number in the strand so far,
 - `put CONTENT TABLE DOCUMENT VERSION` adds a revision of the address, the time and the transaction so far, and a content
   of `-` is a deletion's,
 - `strand`, `sequence`, `tx`, `second` and `microsecond` set a part of the header: the last two set the second of the
@@ -75,6 +76,10 @@ class Steps:
         )
         self.tables.append(id_of(table))
 
+    def redact(self, sequence, table, document):
+        address = Struct([("strandId", id_text(self.strand)), ("sequenceNo", int(sequence))])
+        self.schema.append(Struct([("redact", address), ("tableId", id_of(table)), ("documentId", id_of(document))]))
+
     def forget(self, what):
         if what == "table":
             self.tables.pop()
@@ -88,6 +93,8 @@ class Steps:
         if verb in ("create", "index", "drop"):
             name, table = rest.split(" ")
             self.schema.append(Struct([(verb, name), ("tableId", id_of(table))]))
+        elif verb == "redact":
+            self.redact(*rest.split(" "))
         elif verb == "put":
             self.put(*rest.rsplit(" ", 3))
         elif verb in ("strand", "sequence"):

@@ -25,6 +25,7 @@ fn item_text(alloc: Global, item: &Item) -> Option<String> {
             ..
         } => format!(in alloc; "{} {coefficient}", field.as_str()).ok(),
         Item::Table { .. } => String::from_str(alloc, "all").ok(),
+        Item::Doc { .. } => String::from_str(alloc, "document").ok(),
         _ => None,
     }
 }
@@ -84,7 +85,24 @@ SELECT * FROM u AS u, t AS x WHERE x.a = u.g > INSERT INTO t ?|{a:7} > sealed 5
 CREATE TABLE t;CREATE INDEX ON t (a);CREATE TABLE u;INSERT INTO u ?|{g:5} > \
 SELECT * FROM u AS u, t AS x WHERE x.a = u.g > INSERT INTO t ?|{a:5} > since 4 block 4 a 5
 CREATE TABLE t;CREATE INDEX ON t (a);CREATE TABLE u;INSERT INTO u ?|{g:[5]} > \
-SELECT * FROM u AS u, t AS x WHERE x.a = u.g > INSERT INTO t ?|{a:7} > since 4 block 4 all";
+SELECT * FROM u AS u, t AS x WHERE x.a = u.g > INSERT INTO t ?|{a:7} > since 4 block 4 all
+CREATE TABLE t;INSERT INTO t ?|{a:5};UPDATE t SET a = 6;SELECT * FROM t > \
+EXEC REDACT_REVISION ?, ?, ?|{strandId:\"0000000000000000000000\",sequenceNo:1} \
+\"0000000000000000018OWH\" \"000000000000000002Gn2X\" > \
+EXEC REDACT_REVISION ?, ?, ?|{strandId:\"0000000000000000000000\",sequenceNo:1} \
+\"0000000000000000018OWH\" \"000000000000000002Gn2X\" > since 4 block 4 document
+CREATE TABLE t;INSERT INTO t ?|{a:5};UPDATE t SET a = 6;SELECT * FROM t > \
+EXEC REDACT_REVISION ?, ?, ?|{strandId:\"0000000000000000000000\",sequenceNo:1} \
+\"0000000000000000018OWH\" \"000000000000000002Gn2X\" > \
+UPDATE t SET a = 7 > since 4 block 4 document
+CREATE TABLE t;INSERT INTO t ?|{a:5};UPDATE t SET a = 6;SELECT * FROM t > \
+SELECT * FROM t > \
+EXEC REDACT_REVISION ?, ?, ?|{strandId:\"0000000000000000000000\",sequenceNo:1} \
+\"0000000000000000018OWH\" \"000000000000000002Gn2X\" > since 4 block 4 all
+CREATE TABLE t;INSERT INTO t ?|{a:5};UPDATE t SET a = 6;SELECT * FROM t > \
+EXEC REDACT_REVISION ?, ?, ?|{strandId:\"0000000000000000000000\",sequenceNo:1} \
+\"0000000000000000018OWH\" \"000000000000000002Gn2X\" > \
+INSERT INTO t ?|{a:5} > sealed 5";
 
 fn holds(alloc: Global, row: &str) -> Option<bool> {
     let (before, row) = row.split_once(" > ")?;

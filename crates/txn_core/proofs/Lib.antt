@@ -4,6 +4,7 @@ pub mod Inserted
 pub mod Joined
 pub mod Narrowing
 pub mod ReadSources
+pub mod Redactions
 pub mod Running
 pub mod Overlaid
 pub mod Planned

@@ -4,6 +4,7 @@ pub mod Narrow
 pub mod Opened
 pub mod Reader
 pub mod Reading
+pub mod Redactions
 pub mod Runs
 pub mod Seen
 pub mod Selects

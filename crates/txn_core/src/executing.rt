@@ -9,6 +9,7 @@ ghost use Rattle.txn_core.specs.Stops.{Does};
 use crate::effect::Effect;
 use crate::limits::first_deep;
 use crate::reading::{Over, Reading};
+use crate::redaction_arguments::Arguments;
 use crate::statements::{miscounted, read_statement};
 use crate::stopped::ExecuteFault;
 use crate::transaction::Txn;
@@ -156,6 +157,19 @@ impl Txn {
                 self.change(alloc, Over { from, given }, change, params)
             }
             Statement::Delete { from } => self.delete(alloc, Over { from, given }, params),
+            Statement::Redact {
+                address,
+                table,
+                document,
+            } => self.redact(
+                alloc,
+                Arguments {
+                    address,
+                    table,
+                    document,
+                },
+                params,
+            ),
         }
     }
 }

@@ -16,6 +16,8 @@ mod narrow;
 mod progress;
 mod ranges;
 mod reading;
+mod redacting;
+mod redaction_arguments;
 mod roots;
 mod runs;
 mod schema_changes;

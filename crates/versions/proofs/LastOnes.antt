@@ -36,7 +36,7 @@ apart-newest ds (r ∷ rs) apart = apart-newest (put ds r) rs (apart-put ds r ap
 
 -- ---- so each is found by its id
 
-abbrev Found : List Recorded → List Recorded → Type 0
+abbrev pub Found : List Recorded → List Recorded → Type 0
 Found all [] = Unit {0}
 Found all (d ∷ ds) = (document_in all (id_of d) ≡ Some d) × Found all ds
 
@@ -51,7 +51,7 @@ found-more : (d : Recorded) (ds es : List Recorded) → document_in ds (id_of d)
 found-more d ds [] none found = tt
 found-more d ds (e ∷ es) none found = (found-step (id_of d == id_of e) d e ds refl none found.0, found-more d ds es none found.1)
 
-found-all : (ds : List Recorded) → AreApart ds → Found ds ds
+pub found-all : (ds : List Recorded) → AreApart ds → Found ds ds
 found-all [] apart = tt
 found-all (d ∷ ds) apart =
     (ap (λ (b : Bool). if b then Some d else document_in ds (id_of d)) (eq-eqb (id_of d) (id_of d) refl), found-more d ds ds apart.0 (found-all ds apart.1))

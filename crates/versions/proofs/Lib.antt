@@ -1,12 +1,17 @@
+pub mod Along
 pub mod Among
+pub mod Changing
 pub mod Entering
 pub mod Filing
 pub mod LastOnes
 pub mod Lookups
 pub mod Mapped
 pub mod Members
+pub mod Named
 pub mod Newest
 pub mod Places
+pub mod Redacting
 pub mod Spots
 pub mod TablesHeld
 pub mod Trees
+pub mod Whole

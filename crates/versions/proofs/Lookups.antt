@@ -62,7 +62,7 @@ put-document [] r id = refl
 put-document (d ∷ ds) r id = put-step (id_of d == id_of r) d r ds id refl (put-document ds r id)
 
 -- the last one with the id
-abbrev last_of : List Recorded → ℕ → Option Recorded
+abbrev pub last_of : List Recorded → ℕ → Option Recorded
 last_of [] id = None
 last_of (r ∷ rs) id = or_else (last_of rs id) (if id_of r == id then Some r else None)
 
@@ -72,13 +72,13 @@ last-step None true r there = refl
 last-step None false r there = refl
 last-step (Some last) b r there = refl
 
-newest-document : (ds rs : List Recorded) (id : ℕ) → document_in (newest_from ds rs) id ≡ or_else (last_of rs id) (document_in ds id)
+pub newest-document : (ds rs : List Recorded) (id : ℕ) → document_in (newest_from ds rs) id ≡ or_else (last_of rs id) (document_in ds id)
 newest-document ds [] id = refl
 newest-document ds (r ∷ rs) id =
     newest-document (put ds r) rs id ∙ ap (or_else (last_of rs id)) (put-document ds r id)
     ∙ last-step (last_of rs id) (id_of r == id) r (document_in ds id)
 
-or-none : (o : Option Recorded) → or_else o None ≡ o
+pub or-none : (o : Option Recorded) → or_else o None ≡ o
 or-none None = refl
 or-none (Some last) = refl
 

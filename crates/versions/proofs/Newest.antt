@@ -1,5 +1,5 @@
 -- The latest revisions, after one revision more and without what their blocks gave them.
-use Rattle.std.proofs.Common.{◌≡◌, ℕ, zero, suc, ◌+◌, ◌≤◌, ◌==◌, Bool, true, false, List, [], ◌∷◌, ◌++◌, length, take, drop, map, Some, Bor, refl, sym, ◌∙◌, ap, arith}
+use Rattle.std.proofs.Common.{◌≡◌, ℕ, ◌+◌, ◌≤◌, ◌==◌, Bool, true, false, List, [], ◌∷◌, ◌++◌, length, take, drop, map, Some, Bor, refl, sym, ◌∙◌, ap}
 use Rattle.std.specs.Prelude.{slice_get, if◌then◌else◌}
 use Rattle.std.proofs.lemmas.List.{append-nil, drop_all, map-append}
 use Rattle.ql_types.specs.declared.TableId.{TableId}
@@ -12,6 +12,7 @@ use Rattle.ledger_model.specs.Views.{latest, latest_from}
 use Rattle.versions.specs.declared.recorded.Recorded.{Recorded}
 use Rattle.versions.specs.Held.{drafts_lent, recorded_of}
 use Rattle.versions.specs.Newest.{id_of, newest, newest_from, put}
+use Rattle.versions.proofs.Along.{take_next}
 
 pub newest-more : (ds xs ys : List Recorded) → newest_from ds (xs ++ ys) ≡ newest_from (newest_from ds xs) ys
 newest-more ds [] ys = refl
@@ -67,15 +68,10 @@ shelf_end ms all ts rs at past is =
 abbrev pub lent_values : List (Bor Recorded) → List Recorded
 lent_values all = map (λ r. r.now) all
 
-pub take-next : (ds : List Recorded) (at : ℕ) (r : Recorded) → slice_get ds at ≡ Some r → take (at + 1) ds ≡ take at ds ++ r ∷ []
-take-next [] at r e = cc
-take-next (d ∷ ds) zero r e = let s : d ≡ r = cc in ap (λ (x : Recorded). x ∷ []) s
-take-next (d ∷ ds) (suc at) r e = let s : suc at + 1 ≡ suc (at + 1) = omega arith in rw s (ap (λ (xs : List Recorded). d ∷ xs) (take-next ds at r e))
-
 pub lent_next : (all new : List (Bor Recorded)) (d : Bor Recorded) (ds : List Recorded) (at : ℕ) → slice_get ds at ≡ Some d.now → new ≡ all ++ d ∷ [] → lent_values all ≡ take at ds
     → lent_values new ≡ take (at + 1) ds
 lent_next all new d ds at there new_is so_far =
-    ap lent_values new_is ∙ map-append (λ (r : Bor Recorded). r.now) all (d ∷ []) ∙ ap (λ (xs : List Recorded). xs ++ d.now ∷ []) so_far ∙ sym (take-next ds at d.now there)
+    ap lent_values new_is ∙ map-append (λ (r : Bor Recorded). r.now) all (d ∷ []) ∙ ap (λ (xs : List Recorded). xs ++ d.now ∷ []) so_far ∙ sym (take_next ds at d.now there)
 
 lent-drafts : (all : List (Bor Recorded)) → drafts_lent all ≡ map draft (lent_values all)
 lent-drafts [] = refl

@@ -30,7 +30,8 @@ use Rattle.versions.specs.Indexes.{AreIndexes, IsIndex, documents_with, is_same_
 use Rattle.versions.specs.Newest.{id_of, newest, put}
 use Rattle.versions.proofs.Filing.{filed_more, members_at}
 use Rattle.versions.proofs.Members.{doc_of, found, ids_in, ids_shown}
-use Rattle.versions.proofs.Newest.{newest-latest, take-next}
+use Rattle.versions.proofs.Newest.{newest-latest}
+use Rattle.versions.proofs.Along.{take_next}
 use Rattle.versions.proofs.Spots.{filed_kept, filed_put}
 
 abbrev pub Tree : Type 0
@@ -101,7 +102,7 @@ pub index_next : (ds : List Recorded) (i : Indexed) (p q : Tree) (at : ℕ) (d :
     → key ≡ key_on i.table i.field d → shown ≡ key → IsChanged at None shown p q → IsIndex (take at ds) i p → IsIndex (take (at + 1) ds) i q
 index_next ds i p q at d key shown there within key_is same change is =
     let count : at ≡ length (take at ds) = sym (length-take-le at ds (omega (arith, within))) in
-    subst (λ (xs : List Recorded). IsIndex xs i q) (sym (take-next ds at d there))
+    subst (λ (xs : List Recorded). IsIndex xs i q) (sym (take_next ds at d there))
     (filed_more compare_keys (key_on i.table i.field) p q (take at ds) at d count (subst (λ (o : Option Key). IsChanged at None o p q) (same ∙ key_is) change) is)
 
 pub index_all : (ds : List Recorded) (i : Indexed) (p : Tree) (at : ℕ) → length ds ≤ at → IsIndex (take at ds) i p → IsIndex ds i p

@@ -1,40 +1,32 @@
--- The revisions of each document, the documents in order of first insertion.
-use Rattle.std.specs.Prelude.{◌≡◌, ℕ, ◌==◌, List, [], ◌∷◌, ◌++◌, map, if◌then◌else◌}
+-- The revisions of each document by their places, the documents in order of first insertion.
+use Rattle.std.specs.Prelude.{◌≡◌, ℕ, ◌==◌, List, [], ◌∷◌, ◌++◌, length, slice_get, slice_set, Option, Some, None}
 use Rattle.std.specs.List.{filter}
+use Rattle.std.specs.Option.{unwrap_or}
 use Rattle.ledger_model.specs.State as state
 use Rattle.versions.specs.declared.recorded.Recorded.{Recorded}
-use Rattle.versions.specs.Newest.{id_of, newest}
+use Rattle.versions.specs.Filing.{places_from}
+use Rattle.versions.specs.Newest.{id_of}
+use Rattle.versions.specs.Places.{ids_of, place_in}
 
--- the document that a history is of
-abbrev pub owner : List Recorded → ℕ
-owner [] = 0
-owner (r ∷ rs) = id_of r
+-- the places of a document's revisions
+abbrev pub places_of : List Recorded → ℕ → List ℕ
+places_of revisions id = places_from (λ r. id_of r == id) 0 revisions
 
-abbrev pub owners : List (List Recorded) → List ℕ
-owners histories = map owner histories
+-- what is kept of the document at a place, if there is one
+abbrev pub history_at : List (List ℕ) → Option ℕ → List ℕ
+history_at kept None = []
+history_at kept (Some at) = unwrap_or (slice_get kept at) []
 
--- after one revision more: at the end of its document's history, or as a new one
-abbrev pub enter : List (List Recorded) → Recorded → List (List Recorded)
-enter [] r = (r ∷ []) ∷ []
-enter (h ∷ hs) r = if owner h == id_of r then (h ++ r ∷ []) ∷ hs else h ∷ enter hs r
+-- with a place more: at the end of the history of a document, or as that of a new one
+abbrev pub entered : List (List ℕ) → Option ℕ → ℕ → List (List ℕ)
+entered kept None place = kept ++ (place ∷ []) ∷ []
+entered kept (Some at) place = slice_set kept at (history_at kept (Some at) ++ place ∷ [])
 
-abbrev pub histories_from : List (List Recorded) → List Recorded → List (List Recorded)
-histories_from histories [] = histories
-histories_from histories (r ∷ rs) = histories_from (enter histories r) rs
-
-abbrev pub histories : List Recorded → List (List Recorded)
-histories revisions = histories_from [] revisions
-
--- the document's history, empty where there is none
-abbrev pub history_in : List (List Recorded) → ℕ → List Recorded
-history_in [] id = []
-history_in (h ∷ hs) id = if owner h == id then h else history_in hs id
+-- beside the latest revision of each document the places of all its revisions are kept
+pub record AreHistories (kept : List (List ℕ)) (latest revisions : List Recorded) : Type 0 where
+  pub long : length kept ≡ length latest
+  pub places : (id : ℕ) → history_at kept (place_in (ids_of latest) id) ≡ places_of revisions id
 
 -- the revisions of the document of this id, in order
 abbrev pub revisions_of : List state.Recorded → ℕ → List state.Recorded
 revisions_of revisions id = filter (λ (r : state.Recorded). r.revision.metadata.id.raw == id) revisions
-
--- beside all revisions stand the latest one and the history of each document
-pub record IsShelf (revisions latest : List Recorded) (kept : List (List Recorded)) : Type 0 where
-  pub newest_is : latest ≡ newest revisions
-  pub kept_is : kept ≡ histories revisions

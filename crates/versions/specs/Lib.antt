@@ -7,3 +7,4 @@ pub mod Live
 pub mod Lookups
 pub mod Newest
 pub mod Places
+pub mod Redactions

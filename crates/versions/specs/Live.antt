@@ -9,7 +9,7 @@ use Rattle.versions.specs.declared.recorded.Recorded.{Recorded}
 use Rattle.versions.specs.Held.{recorded_of}
 use Rattle.versions.specs.ByTable.{AreByTable, by_table}
 use Rattle.versions.specs.Filing.{AreFiled}
-use Rattle.versions.specs.Histories.{histories}
+use Rattle.versions.specs.Histories.{AreHistories}
 use Rattle.versions.specs.Newest.{newest}
 
 abbrev pub live_in : TableId → Content → Option TableId
@@ -32,13 +32,12 @@ is_same_table (Some a) (Some b) = a.raw == b.raw
 abbrev pub AllFit : List state.Recorded → Type 0
 AllFit revisions = AllByRecursion (λ (r : state.Recorded). r.revision.metadata.id.raw < 2 ^ 128) revisions
 
--- beside all revisions stand the latest one and the history of each document, the revisions of each table, and the
--- places of its documents that aren't deleted
-pub record IsWhole (revisions latest : List Recorded) (kept : List (List Recorded))
-    (tables : List (TableId × List Recorded))
+-- beside all revisions stand the latest one of each document, the places of its revisions and of those of each table,
+-- and the places of the table's documents that aren't deleted
+pub record IsWhole (revisions latest : List Recorded) (kept : List (List ℕ)) (tables : List (TableId × List ℕ))
     (live : List (TableId × List ℕ)) : Type 0 where
   pub newest_is : latest ≡ newest revisions
-  pub kept_is : kept ≡ histories revisions
+  pub kept_are : AreHistories kept latest revisions
   pub tables_are : AreByTable tables revisions
   pub live_are : AreFiled by_table live_table live latest
   pub fits : AllFit (map recorded_of revisions)

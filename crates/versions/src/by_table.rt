@@ -1,11 +1,8 @@
-//! The revisions of each table.
-ghost use Rattle.std.specs.Prelude.{◌≡◌, [], ◌∷◌, ◌++◌, List, IfOk, slice_get};
+//! The revisions of each table, by their places in block order.
+ghost use Rattle.std.specs.Prelude.{◌≡◌, [], ◌∷◌, ◌++◌, IfOk, slice_get};
 ghost use Rattle.std.specs.Arc.{arc_value};
-ghost use Rattle.std.specs.Option.{option_copied};
-ghost use Rattle.versions.specs.declared.recorded.Recorded as held;
-ghost use Rattle.versions.specs.ByTable.{AreByTable, had_of};
+ghost use Rattle.versions.specs.ByTable.{IsEntered, had_of};
 
-use crate::recorded::Recorded;
 use ion_values::OutOfMemory;
 use pmap::PMap;
 use pvec::PVec;
@@ -13,45 +10,44 @@ use ql_types::{Steps, TableId};
 use std::alloc::Global;
 use std::sync::Arc;
 
-/// The revisions of each table in block order.
-pub(crate) type ByTable = PMap<TableId, PVec<Recorded>>;
+/// The places of the revisions of each table in order.
+pub(crate) type ByTable = PMap<TableId, PVec<u64>>;
 
-/// The revisions of the table with one more.
+/// The places of the table's revisions with one more.
 fn had_with(
     alloc: Global,
     tables: &ByTable,
     table: TableId,
-    item: Arc<Recorded>,
-) -> Result<PVec<Recorded>, OutOfMemory>
-    ensures { IfOk result (λ had. had ≡ had_of tables.now table ++ arc_value item ∷ []) }
+    place: Arc<u64>,
+) -> Result<PVec<u64>, OutOfMemory>
+    ensures { IfOk result (λ had. had ≡ had_of tables.now table ++ arc_value place ∷ []) }
 {
     match tables.get(&table, &mut Steps { taken: 0 }) {
-        None => PVec::new(alloc).push(item),
-        Some(had) => had.push(item),
+        None => PVec::new(alloc).push(place),
+        Some(had) => had.push(place),
     }
 }
 
-/// The revisions of each table with one more.
+/// The places of each table's revisions with one more, of this table.
 pub(crate) fn table_entered(
     alloc: Global,
     tables: &ByTable,
-    item: Arc<Recorded>,
+    table: TableId,
+    place: Arc<u64>,
 ) -> Result<ByTable, OutOfMemory>
-    ensures { IfOk result (λ new. (rs : List held.Recorded) → AreByTable tables.now rs →
-        AreByTable new (rs ++ arc_value item ∷ [])) }
+    ensures { IfOk result (λ new. IsEntered tables.now table (arc_value place) new) }
 {
-    let table = item.table;
-    let rows = had_with(alloc, tables, table, item)?;
+    let places = had_with(alloc, tables, table, place)?;
     let key = Arc::new(alloc, table)?;
-    let had = Arc::new(alloc, rows)?;
+    let had = Arc::new(alloc, places)?;
     let new = tables.insert(key, had)?;
     Ok(new)
 }
 
-/// The revision of this number of a table, counted from 0.
-pub(crate) fn revision_of(tables: &ByTable, table: TableId, number: u64) -> Option<&Recorded>
-    ensures { option_copied result ≡ slice_get (had_of tables.now table) number }
+/// The place of the revision of this number of a table, counted from 0.
+pub(crate) fn place_of(tables: &ByTable, table: TableId, number: u64) -> Option<u64>
+    ensures { result ≡ slice_get (had_of tables.now table) number }
 {
     let had = tables.get(&table, &mut Steps { taken: 0 })?;
-    had.get(number)
+    had.get(number).copied()
 }

@@ -1,9 +1,10 @@
 //! All revisions and the fields with an index, with the postings of each index beside them.
 ghost use Rattle.std.specs.Prelude.{◌≡◌, [], ◌∷◌, ◌++◌, map, true, IfOk};
 ghost use Rattle.ledger_model.specs.Follows.{has_index};
-ghost use Rattle.ledger_model.specs.State.{all_indexed, indexed, recorded_in};
+ghost use Rattle.ledger_model.specs.State.{all_indexed, indexed, recorded_in, revisions_after};
 ghost use Rattle.versions.specs.Held.{indexed_of, recorded_of};
 ghost use Rattle.versions.specs.Indexes.{documents_with};
+ghost use Rattle.versions.specs.Redactions.{IsOfDocument, all_changed};
 
 use crate::indexes::{built, indexes_with, tree_on};
 use crate::kept::Kept;
@@ -16,7 +17,7 @@ use ion_values::{Key, OutOfMemory, Text};
 use ledger_model::{Revision, Schema};
 use pql_model::DocIds;
 use pvec::Shared;
-use ql_types::TableId;
+use ql_types::{DocId, TableId};
 use std::alloc::Global;
 use std::marker::Model;
 
@@ -127,6 +128,47 @@ impl Documents {
                 return Ok(new);
             };
             new = new.push(record(self.alloc, *table, revision)?)?;
+        }
+        Ok(new)
+    }
+
+    /// The documents after a change, which redacts none but of this document, and not its latest revision.
+    fn redacted(&self, change: &Schema, id: DocId) -> Result<Documents, OutOfMemory>
+        requires { IsOfDocument change.now id }
+        ensures { IfOk result (λ new. new ≡ (all_changed change.now self.now.0, self.now.1)) }
+    {
+        let shelf = self.shelf.redacted(change, id)?;
+        let indexes = self.indexes.share()?;
+        let trees = self.trees.share()?;
+        Ok(Documents {
+            alloc: self.alloc,
+            shelf,
+            indexes,
+            trees,
+        })
+    }
+
+    fn redacted_one(&self, change: &Schema) -> Result<Documents, OutOfMemory>
+        ensures { IfOk result (λ new. new ≡ (all_changed change.now self.now.0, self.now.1)) }
+    {
+        match change {
+            Schema::Redact { document, .. } => self.redacted(change, *document),
+            Schema::Create { .. } | Schema::Index { .. } | Schema::Drop { .. } => {
+                let same = self.share()?;
+                Ok(same)
+            }
+        }
+    }
+
+    /// The documents after the redactions among the changes.
+    pub(crate) fn redacted_all(&self, changes: &[Schema]) -> Result<Documents, OutOfMemory>
+        ensures revisions { IfOk result (λ new. map recorded_of new.0
+            ≡ revisions_after changes.now (map recorded_of self.now.0)) }
+        ensures indexes { IfOk result (λ new. new.1 ≡ self.now.1) }
+    {
+        let mut new = self.share()?;
+        'changes: for change in changes {
+            new = new.redacted_one(change)?;
         }
         Ok(new)
     }

@@ -1,52 +1,49 @@
-//! The revisions of each document.
-ghost use Rattle.std.specs.Prelude.{◌≡◌, ℕ, IfOk, slice_get};
+//! The revisions of each document, by their places in block order.
+ghost use Rattle.std.specs.Prelude.{◌≡◌, ℕ, ◌<◌, [], Some, length, IfOk, slice_get};
 ghost use Rattle.std.specs.Arc.{arc_value};
-ghost use Rattle.std.specs.Option.{option_copied};
-ghost use Rattle.versions.specs.Histories.{enter, history_in, owners};
-ghost use Rattle.versions.specs.Newest.{id_of};
-ghost use Rattle.versions.specs.Places.{place_in};
+ghost use Rattle.std.specs.Option.{option_copied, unwrap_or};
+ghost use Rattle.versions.specs.Histories.{entered, history_at};
 
-use crate::recorded::Recorded;
 use ion_values::OutOfMemory;
 use pvec::PVec;
 use std::alloc::Global;
 use std::sync::Arc;
 
-/// The revisions of each document in order, the documents in order of first insertion.
-pub(crate) type Histories = PVec<PVec<Recorded>>;
+/// The places of the revisions of each document in order, the documents in order of first insertion.
+pub(crate) type Histories = PVec<PVec<u64>>;
 
-/// The histories with a revision more, of the document at this place, or of a new one.
-#[tactic(auto, using(crate::proofs::Entering::enter_at, crate::proofs::Entering::enter_new, crate::proofs::Entering::history_at, crate::proofs::Entering::history_within))]
+/// The histories with a place more, of a revision of the document at `document`, or of a new one.
 pub(crate) fn entered(
     alloc: Global,
     histories: &Histories,
-    place: Option<u64>,
-    item: Arc<Recorded>,
+    document: Option<u64>,
+    place: Arc<u64>,
 ) -> Result<Histories, OutOfMemory>
-    requires { place ≡ place_in (owners histories.now) (id_of (arc_value item)) }
-    ensures { IfOk result (λ new. new ≡ enter histories.now (arc_value item)) }
+    requires { (at : ℕ) → document ≡ Some at → at < length histories.now }
+    ensures { IfOk result (λ new. new ≡ entered histories.now document (arc_value place)) }
 {
-    let Some(at) = place else {
-        let first = PVec::new(alloc).push(item)?;
+    let Some(at) = document else {
+        let first = PVec::new(alloc).push(place)?;
         return histories.push(Arc::new(alloc, first)?);
     };
     let Some(history) = histories.get(at) else {
         unreachable!()
     };
-    let longer = history.push(item)?;
+    let longer = history.push(place)?;
     histories.set(at, Arc::new(alloc, longer)?)
 }
 
-/// The revision of this number, counted from 0, of the document at a place.
-#[tactic(auto, using(crate::proofs::Entering::history_at, crate::proofs::Entering::history_nowhere))]
-pub(crate) fn revision_in(
-    histories: &Histories,
-    place: Option<u64>,
-    number: u64,
-) -> Option<&Recorded>
-    ensures { (id : ℕ) → place ≡ place_in (owners histories.now) id →
-        option_copied result ≡ slice_get (history_in histories.now id) number }
+/// The places of the revisions of the document at `document`, or None where there is none.
+pub(crate) fn history_at(histories: &Histories, document: Option<u64>) -> Option<&PVec<u64>>
+    ensures { unwrap_or (option_copied result) [] ≡ history_at histories.now document }
 {
-    let history = histories.get(place?)?;
-    history.get(number)
+    histories.get(document?)
+}
+
+/// The place of the revision of this number, counted from 0, of the document at `document`.
+pub(crate) fn place_at(histories: &Histories, document: Option<u64>, number: u64) -> Option<u64>
+    ensures { result ≡ slice_get (history_at histories.now document) number }
+{
+    let history = history_at(histories, document)?;
+    history.get(number).copied()
 }

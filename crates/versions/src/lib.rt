@@ -11,11 +11,13 @@ mod keys;
 mod latest;
 mod live;
 mod recorded;
+mod redactions;
 mod shelf;
 mod tables;
 mod versions;
 
 pub use recorded::{Recorded, copy_content};
+pub use redactions::redacts;
 pub use tables::{
     Indexed, Table, active_count, active_table, change_all, copy_indexes, copy_tables, has_index,
     index_all, index_count, is_active,

@@ -1,8 +1,8 @@
-//! All revisions, with the latest one and the history of each document beside them.
-ghost use Rattle.std.specs.Prelude.{◌≡◌, ◌<◌, ◌^◌, [], ◌∷◌, ◌++◌, length, map, slice_get, Some, option_map, IfOk};
+//! All revisions, with the latest one of each document and the places of each document's revisions beside them.
+ghost use Rattle.std.specs.Prelude.{◌≡◌, ◌<◌, ◌^◌, [], ◌∷◌, ◌++◌, length, map, slice_get, Some, option_and_then, option_map, IfOk};
 ghost use Rattle.std.specs.Arc.{arc_value};
 ghost use Rattle.std.specs.Option.{option_copied};
-ghost use Rattle.ledger_model.specs.Follows.{latest_of};
+ghost use Rattle.ledger_model.specs.Follows.{latest_of, named_by};
 ghost use Rattle.ledger_model.specs.State.{draft_of};
 ghost use Rattle.ledger_model.specs.Views.{latest};
 ghost use Rattle.versions.specs.Held.{drafts_lent, recorded_lent, recorded_of};
@@ -11,15 +11,18 @@ ghost use Rattle.versions.specs.Histories.{revisions_of};
 ghost use Rattle.versions.specs.Live.{AllFit};
 ghost use Rattle.versions.specs.Lookups.{documents_of, last_among, last_of_each, those_among};
 ghost use Rattle.versions.specs.Newest.{id_of, newest};
+ghost use Rattle.versions.specs.Redactions.{IsOfDocument, all_changed};
 
-use crate::by_table::{ByTable, revision_of, table_entered};
-use crate::histories::{Histories, entered, revision_in};
+use crate::by_table::{ByTable, place_of, table_entered};
+use crate::histories::{Histories, entered, history_at, place_at};
 use crate::latest::Latest;
 use crate::live::{Live, ids_at, live_after};
 use crate::recorded::Recorded;
+use crate::redactions::{changed_in, named_in};
 use containers::Sequence;
 use index_post::Filed;
 use ion_values::OutOfMemory;
+use ledger_model::Schema;
 use pmap::PMap;
 use pql_model::DocIds;
 use pvec::PVec;
@@ -28,8 +31,8 @@ use std::alloc::Global;
 use std::marker::Model;
 use std::sync::Arc;
 
-/// All revisions in order, which contracts see as their list, the latest one and the history of each document, and the
-/// revisions of each table and the places of its documents that aren't deleted.
+/// All revisions in order, which contracts see as their list, the latest one of each document, the places of each
+/// document's revisions and of those of each table, and the places of the table's documents that aren't deleted.
 #[derive(Drop)]
 pub(crate) struct Shelf {
     alloc: Global,
@@ -93,12 +96,35 @@ impl Shelf {
         let id = item.revision.metadata.id;
         let spot = self.latest.spot(id);
         let live = live_after(self.alloc, &self.live, &spot, &item)?;
-        let place = self.latest.place_of(id);
-        let (one, other, third, fourth) = four(self.alloc, item)?;
+        let document = self.latest.place_of(id);
+        let table = item.table;
+        let (place, same_place) = two(self.alloc, self.revisions.len())?;
+        let (one, other) = two(self.alloc, item)?;
         let revisions = self.revisions.push(one)?;
         let latest = self.latest.put(other)?;
-        let histories = entered(self.alloc, &self.histories, place, third)?;
-        let by_table = table_entered(self.alloc, &self.by_table, fourth)?;
+        let histories = entered(self.alloc, &self.histories, document, place)?;
+        let by_table = table_entered(self.alloc, &self.by_table, table, same_place)?;
+        Ok(Shelf {
+            alloc: self.alloc,
+            revisions,
+            latest,
+            histories,
+            by_table,
+            live,
+        })
+    }
+
+    /// The revisions after a change, which redacts none but of this document, and not its latest.
+    pub(crate) fn redacted(&self, change: &Schema, id: DocId) -> Result<Shelf, OutOfMemory>
+        requires { IsOfDocument change.now id }
+        ensures { IfOk result (λ new. new ≡ all_changed change.now self.now) }
+    {
+        let history = history_at(&self.histories, self.latest.place_of(id));
+        let revisions = changed_in(self.alloc, &self.revisions, history, change)?;
+        let latest = self.latest.share()?;
+        let histories = self.histories.share()?;
+        let by_table = self.by_table.share()?;
+        let live = self.live.share()?;
         Ok(Shelf {
             alloc: self.alloc,
             revisions,
@@ -176,7 +202,18 @@ impl Shelf {
         ensures { option_map recorded_of (option_copied result)
             ≡ slice_get (revisions_of (map recorded_of self.now) id.raw) number }
     {
-        revision_in(&self.histories, self.latest.place_of(id), number)
+        let place = place_at(&self.histories, self.latest.place_of(id), number);
+        at_place(&self.revisions, place)
+    }
+
+    /// The first revision that the change redacts, which is of this document, or None where there is none.
+    pub(crate) fn named(&self, change: &Schema, id: DocId) -> Option<&Recorded>
+        requires { IsOfDocument change.now id }
+        ensures { option_map recorded_of (option_copied result)
+            ≡ named_by (map recorded_of self.now) change.now }
+    {
+        let history = history_at(&self.histories, self.latest.place_of(id));
+        named_in(&self.revisions, history, change)
     }
 
     /// The revision of this number of a table in block order, counted from 0, or None where it has no more.
@@ -184,7 +221,8 @@ impl Shelf {
         ensures { option_map recorded_of (option_copied result)
             ≡ slice_get (revisions_in (map recorded_of self.now) table) i }
     {
-        revision_of(&self.by_table, table, i)
+        let place = place_of(&self.by_table, table, i);
+        at_place(&self.revisions, place)
     }
 
     /// The ids of the table's documents that aren't deleted, in order of first insertion.
@@ -203,17 +241,18 @@ fn id_fits(recorded: &Recorded)
     let _raw = recorded.revision.metadata.id.raw;
 }
 
-/// An owner of the revision.
-type Owner = Arc<Recorded>;
-
-/// Four owners of the revision.
-fn four(alloc: Global, item: Recorded) -> Result<(Owner, Owner, Owner, Owner), OutOfMemory>
-    ensures { IfOk result (λ all. (arc_value all.0 ≡ item) × (arc_value all.1 ≡ item) × (arc_value all.2 ≡ item)
-        × (arc_value all.3 ≡ item)) }
+/// The revision at a place, if there is one.
+fn at_place(revisions: &PVec<Recorded>, place: Option<u64>) -> Option<&Recorded>
+    ensures { option_copied result ≡ option_and_then (slice_get revisions.now) place }
 {
-    let one = Arc::new(alloc, item)?;
+    revisions.get(place?)
+}
+
+/// Two owners of a value.
+fn two<T: Drop>(alloc: Global, value: T) -> Result<(Arc<T>, Arc<T>), OutOfMemory>
+    ensures { IfOk result (λ both. (arc_value both.0 ≡ value) × (arc_value both.1 ≡ value)) }
+{
+    let one = Arc::new(alloc, value)?;
     let other = Arc::try_clone(&one)?;
-    let third = Arc::try_clone(&one)?;
-    let fourth = Arc::try_clone(&one)?;
-    Ok((one, other, third, fourth))
+    Ok((one, other))
 }

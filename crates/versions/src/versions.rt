@@ -1,7 +1,7 @@
 //! A version of the state after a list of blocks.
 ghost use Rattle.std.specs.Prelude.{◌≡◌, length, map, slice_get, true, Some, option_map, IfOk};
 ghost use Rattle.std.specs.Option.{option_copied};
-ghost use Rattle.ledger_model.specs.Follows.{has_index, latest_of};
+ghost use Rattle.ledger_model.specs.Follows.{has_index, latest_of, named_by};
 ghost use Rattle.ledger_model.specs.Run.{active_count};
 ghost use Rattle.ledger_model.specs.SchemaChanges.{index_count};
 ghost use Rattle.ledger_model.specs.State.{active_table, after, draft_of, empty};
@@ -21,7 +21,7 @@ use crate::tables::{
 };
 use containers::Sequence;
 use ion_values::{Key, OutOfMemory, Text};
-use ledger_model::{Block, Revision};
+use ledger_model::{Block, Revision, Schema};
 use pql_model::DocIds;
 use ql_types::{DocId, TableId};
 use std::alloc::Global;
@@ -63,17 +63,19 @@ impl Versions {
         }
     }
 
-    /// The state after one block more, as a new version. The block's revisions are copied; all others are shared, but
-    /// for some hundred pointers a revision and, over many blocks, the square root of the number of documents. Tables
-    /// and indexes are copied where the block changes the schema.
+    /// The state after one block more, as a new version. The block's revisions are copied, and those that it redacts
+    /// are made anew; all others are shared, but for some hundred pointers a revision and, over many blocks, the square
+    /// root of the number of documents. Tables and indexes are copied where the block changes the schema.
     pub fn after(&self, block: &Block) -> Result<Versions, OutOfMemory>
         ensures { IfOk result (λ v. v ≡ after self.now block.now) }
     {
         let changes = block.info.schema.as_slice();
         let tables = tables_after(self.alloc, &self.tables, changes)?;
-        let documents = self
-            .documents
-            .with_all(block.info.tables.as_slice(), block.revisions.as_slice())?;
+        let documents = self.documents.redacted_all(changes)?;
+        let documents = documents.with_all(
+            block.info.tables.as_slice(),
+            block.revisions.as_slice(),
+        )?;
         let documents = documents.indexed_all(changes)?;
         Ok(Versions {
             alloc: self.alloc,
@@ -172,6 +174,16 @@ impl Versions {
         match self.documents.shelf().revision(id, version) {
             Some(recorded) => Some(&recorded.revision),
             None => None,
+        }
+    }
+
+    /// The first revision that the change redacts, with its table, or None where there is none.
+    pub fn named(&self, change: &Schema) -> Option<&Recorded>
+        ensures { option_map recorded_of (option_copied result) ≡ named_by self.now.revisions change.now }
+    {
+        match change {
+            Schema::Redact { document, .. } => self.documents.shelf().named(change, *document),
+            Schema::Create { .. } | Schema::Index { .. } | Schema::Drop { .. } => None,
         }
     }
 

@@ -3,18 +3,19 @@ ghost use Rattle.std.specs.Prelude.{◌≡◌, ◌+◌, ◌==◌, ◌&&◌, List
 ghost use Rattle.std.specs.List.{filter};
 ghost use Rattle.ledger_model.specs.State.{Recorded, recorded_in};
 ghost use Rattle.ledger_model.specs.Follows as spec;
-ghost use Rattle.ledger_model.specs.Follows.{continues, document_ids, is_new, latest_of};
+ghost use Rattle.ledger_model.specs.Follows.{continues, document_ids, is_latest_at, is_new, latest_of};
 ghost use Rattle.journal_text.specs.Stands.{DocumentsStand, latest_from};
 
 use ion_values::OutOfMemory;
 use ledger_model::{Content, Revision};
-use ql_types::TableId;
+use ql_types::{BlockAddress, DocId, TableId};
 use std::alloc::Global;
 use std::collections::BTreeMap;
 
-/// A document's latest revision: its table, its version, and whether it keeps the document.
+/// A document's latest revision: its block, its table, its version, and whether it keeps the document.
 #[derive(Clone, Copy)]
 struct Latest {
+    address: BlockAddress,
     table: TableId,
     version: u64,
     is_kept: bool,
@@ -52,6 +53,7 @@ impl Latest {
         ensures { result ≡ latest_from (record { table = table; revision = revision.now }) }
     {
         Latest {
+            address: revision.address,
             table,
             version: revision.metadata.version,
             is_kept: is_kept(&revision.content),
@@ -88,6 +90,20 @@ impl Documents {
         match self.latest.get(&revision.metadata.id.raw) {
             Some(latest) => latest.is_continued(table, revision),
             None => revision.metadata.version == 0 && is_kept(&revision.content),
+        }
+    }
+
+    /// Whether the document's latest revision is in the block at this address.
+    pub(super) fn is_latest(&self, address: &BlockAddress, id: DocId) -> bool
+        ensures { (revisions : List Recorded) → DocumentsStand revisions self.now
+            → result ≡ is_latest_at revisions address.now id }
+    {
+        match self.latest.get(&id.raw) {
+            Some(latest) => {
+                latest.address.strand.raw == address.strand.raw
+                    && latest.address.sequence == address.sequence
+            }
+            None => false,
         }
     }
 

@@ -99,8 +99,7 @@ impl Tables {
             Schema::Create { name, table } => self.create(alloc, name, *table),
             Schema::Index { field, table } => self.index(alloc, field, *table),
             Schema::Drop { name, table } => Ok(self.remove(name, *table)),
-            // Nothing is redacted so far.
-            Schema::Redact { .. } => Ok(false),
+            Schema::Redact { .. } => Ok(true),
         }
     }
 

@@ -36,6 +36,14 @@ pub fn put_cause(alloc: Global, out: &mut Text, cause: &Refusal) -> Result<(), O
         Refusal::TooDeep { depth } => { put_counted(alloc, out, "code:12,depth:", *depth as u64) }
         Refusal::Ended => out.push_str("code:13"),
         Refusal::OutOfMemory => out.push_str("code:14"),
+        Refusal::NoSuchRevision => out.push_str("code:15"),
+        Refusal::StillLatest { version } => {
+            put_counted(alloc, out, "code:16,version:", *version)
+        }
+        Refusal::AlreadyRedacted { version } => {
+            put_counted(alloc, out, "code:17,version:", *version)
+        }
+        Refusal::TooManyRedactions { count } => put_counted(alloc, out, "code:18,count:", *count),
     }
 }
 

@@ -7,7 +7,7 @@ use Rattle.block_form.proofs.checked.checked_from_ion.Goals as goal
 
 -- a value that tells no parts is that of no block
 pub returns-in_default : goal.returns-in_default
-returns-in_default c = λ b whole. subst (λ (x : Option PartHashes). TellParts c.args.v x) c.in_default.is c.in_ok-parts.ensures b
+returns-in_default c = λ b whole. subst (λ (x : Option PartHashes). TellParts c.args.v x) c.in_default.is c.in_ok-parts.ensures b whole
 
 pub has_hashes-requires : goal.has_hashes-requires
 has_hashes-requires c =

@@ -1,8 +1,7 @@
-use Rattle.std.proofs.Common.{ap, subst, sym}
+use Rattle.std.proofs.Common.{true, subst, sym}
 use Rattle.ledger_model.specs.declared.block.Schema.{Schema}
-use Rattle.ledger_model.specs.Follows.{change_follows}
 use Rattle.journal_text.specs.Stands.{Changes}
-use Rattle.journal_text.proofs.TableSteps.{refused}
+use Rattle.journal_text.proofs.TableSteps.{redacted_by}
 use Rattle.journal_text.proofs.registry.tables.Tables.change.Goals as goal
 
 pub returns-in-Drop : goal.returns-in-Drop
@@ -11,4 +10,4 @@ returns-in-Drop c = λ tables indexes h ids.
 
 pub returns-in-Redact : goal.returns-in-Redact
 returns-in-Redact c = λ tables indexes h ids.
-    refused tables indexes c.args.change.now c.args.self.now (ap (change_follows tables indexes) c.in-Redact.is)
+    subst (λ (x : Schema). Changes tables indexes x true c.args.self.now) (sym c.in-Redact.is) (redacted_by tables indexes _ _ _ c.args.self.now h)

@@ -1,0 +1,3 @@
+//! Redactions over a journal of three blocks: what one leaves of the state and of a history, and which ones are refused.
+//! The rows stand in proofs/.
+#![tactic(auto)]
