@@ -253,6 +253,44 @@ def wrong_hashes(journal):
     yield "the same moment otherwise", "WrongHash", 1, journal.changed(1, lambda block: setattr(block, "time", time), False), rule
 
 
+def redaction(journal, place, document, table=None):
+    """The entry that redacts the revision of a document in the block at a place."""
+    of = structure(strandId=string(journal.strand), sequenceNo=number(place))
+    return structure(redact=of, tableId=string(table or journal.id(1, 1)), documentId=string(document))
+
+
+def redacting(journal):
+    """Lines that redact: each with its place, how many blocks and revisions the journal then has, and what it is."""
+    first, deleted = journal.id(1, 2), journal.id(1, 4)
+    add = lambda *entries: lambda block: block.schema.extend(entries)  # noqa: E731
+    drop = structure(drop=string("Vehicle"), tableId=string(journal.id(1, 1)))
+    yield "an older revision is redacted", 2, add(redaction(journal, 0, first)), 4
+    yield "an older revision is redacted where its table is dropped", 2, add(drop, redaction(journal, 0, first)), 4
+    yield "the content of a deleted document is redacted", 4, add(redaction(journal, 0, deleted)), 7
+    yield "two revisions are redacted", 4, add(redaction(journal, 0, deleted), redaction(journal, 0, first)), 7
+
+
+def wrong_redactions(journal):
+    table, first, second, deleted = (journal.id(1, thing) for thing in range(1, 5))
+    add = lambda *entries: lambda block: block.schema.extend(entries)  # noqa: E731
+    other = structure(strandId=string(journal.id(9, 9)), sequenceNo=number(0))
+    changes = {
+        "the latest revision of its document is redacted": (2, add(redaction(journal, 1, first))),
+        "the only revision of its document is redacted": (2, add(redaction(journal, 0, second))),
+        "a delete is redacted": (4, add(redaction(journal, 3, deleted))),
+        "a revision is redacted twice": (2, add(redaction(journal, 0, first), redaction(journal, 0, first))),
+        "a revision of no document is redacted": (2, add(redaction(journal, 0, journal.id(1, 9)))),
+        "a revision in another table is redacted": (2, add(redaction(journal, 0, first, second))),
+        "a revision in a block without one is redacted": (3, add(redaction(journal, 2, first))),
+        "a revision in a block that isn't there is redacted": (2, add(redaction(journal, 9, first))),
+        "a revision of another strand is redacted": (2, add(structure(redact=other, tableId=string(table), documentId=string(first)))),
+        "a revision of the block itself is redacted": (1, add(redaction(journal, 1, first))),
+        "the revision that the block makes an older one is redacted": (1, add(redaction(journal, 0, first))),
+    }
+    rule = "a redaction names an earlier revision that isn't its document's latest before the block, and once"
+    yield from ((name, "WrongState", place, journal.changed(place, change), rule) for name, (place, change) in changes.items())
+
+
 def wrong_states(journal):
     table, first, deleted = journal.id(1, 1), journal.id(1, 2), journal.id(1, 4)
     add = lambda *changes: lambda block: block.schema.extend(changes)  # noqa: E731
@@ -337,5 +375,5 @@ def in_order(journal):
 
 
 def damages(journal):
-    for family in (not_lines, wrong_places, wrong_ids, wrong_times, wrong_hashes, wrong_states, in_order):
+    for family in (not_lines, wrong_places, wrong_ids, wrong_times, wrong_hashes, wrong_states, wrong_redactions, in_order):
         yield from family(journal)

@@ -127,6 +127,10 @@ def journal_vectors(registry, other):
     ]
     deep = registry.changed(0, lambda block: setattr(block.revisions[0], "data", journals.nested(64)))
     sound = [behind("a document 64 deep", 0, [deep], blocks=1, revisions=3)]
+    sound += [
+        behind(name, place, [registry.changed(place, change)], blocks=place + 1, revisions=count)
+        for name, place, change, count in journals.redacting(registry)
+    ]
     return {"whole": good, "sound": sound, "damaged": damaged}
 
 

@@ -11,8 +11,8 @@ Whether the block fits those before it is for `ledger.checks`. (This package is 
 """
 from __future__ import annotations
 
-from dataclasses import dataclass, field
-from typing import Any, NamedTuple
+from dataclasses import dataclass, field, replace
+from typing import Any, NamedTuple, Optional, Union
 
 from . import ion
 from .hashing import dot, hash_value, root
@@ -60,25 +60,45 @@ class Change(NamedTuple):
     table: str
 
 
+class Redaction(NamedTuple):
+    """The redaction of the revision of a document in the block at an address; `table` is the id of its table."""
+
+    address: Address
+    table: str
+    document: str
+
+
 @dataclass(frozen=True)
 class Revision:
-    """What a transaction made of one document. `table` is the id of its table, and `index` its place in its block."""
+    """What a transaction made of one document. `table` is the id of its table, and `index` its place in its block.
+
+    A redacted revision has the hash of its data as `data_hash` in place of `data`.
+    """
 
     address: Address
     index: int
     hash: bytes
     deleted: bool
-    data: Value  # None if it is deleted
+    data: Value  # None if it is deleted or redacted
     metadata: Struct
     id: str
     version: int
     time: Timestamp
     transaction_id: str
     table: str
+    data_hash: Optional[bytes] = None  # None unless it is redacted
+
+    def content_hash(self) -> bytes:
+        """The hash of its data, and no bytes if it is deleted."""
+        return self.data_hash or (b"" if self.deleted else hash_value(self.data))
 
     def computed_hash(self) -> bytes:
         """The hash of its metadata and its data, which `hash` has to be."""
-        return dot(hash_value(self.metadata), b"" if self.deleted else hash_value(self.data))
+        return dot(hash_value(self.metadata), self.content_hash())
+
+    def redacted(self) -> Revision:
+        """The revision with the hash of its data in their place."""
+        return self if self.deleted else replace(self, data=None, data_hash=self.content_hash())
 
 
 @dataclass(frozen=True)
@@ -95,6 +115,7 @@ class Block:
     place: Place
     statements: list[Said]
     schema: list[Change]
+    redactions: list[Redaction]
     revisions: list[Revision]
     value: Struct = field(repr=False)
 
@@ -188,8 +209,11 @@ def _said(value: Value) -> Said:
     return Said(_string(text), _list(parameters), _list(answer))
 
 
-def _change(value: Value) -> Change:
-    _need(type(value) is Struct and len(value) == 2, "no change of the schema")
+def _change(value: Value) -> Union[Change, Redaction]:
+    _need(type(value) is Struct and len(value) in (2, 3), "no change of the schema")
+    if len(value) == 3:
+        address, table, document = _fields(value, ["redact", "tableId", "documentId"], "a redaction")
+        return Redaction(_address(address), _id(table), _id(document))
     kind, name = value.fields[0]
     _need(kind in ("create", "index", "drop"), "no change of the schema")
     _, table = _fields(value, [kind, "tableId"], "a change of the schema")
@@ -214,9 +238,11 @@ def block_of(value: Value) -> Block:
     place, statements, schema, documents = _fields(info, ["place", "statements", "schema", "documents"], "transactionInfo")
     _need(len(_list(hashes)) == 3, "no list of three hashes")
     _need(len(_list(found)) == len(_list(documents)), "not a document for each revision")
+    changes = list(map(_change, _list(schema)))
     return Block(
         _address(address), _id(transaction_id), _time(time), _hash(block_hash), _hash(entries), _hash(previous),
-        list(map(_entry, hashes)), _place(place), list(map(_said, _list(statements))), list(map(_change, _list(schema))),
+        list(map(_entry, hashes)), _place(place), list(map(_said, _list(statements))),
+        [entry for entry in changes if isinstance(entry, Change)], [entry for entry in changes if isinstance(entry, Redaction)],
         [_revision(revision, index, document) for index, (revision, document) in enumerate(zip(found, documents))],
         value,
     )

@@ -32,6 +32,8 @@ CAUSES = {
     8: "a transaction touches at most 40 documents", 9: "a document of {bytes} bytes is too large",
     10: "a document is a struct, and not {kind}", 11: "{wanted} parameters are wanted and {given} given",
     12: "a value that nests {depth} deep is too deep", 13: "a statement before it was refused", 14: "out of memory",
+    15: "no committed revision has this address, table and document", 16: "version {version} is its document's latest",
+    17: "version {version} is redacted already", 18: "a transaction redacts at most 40 revisions",
 }
 INPUT_KINDS = {
     "NotUtf8": "bytes that aren't UTF-8",

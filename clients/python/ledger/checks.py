@@ -14,7 +14,7 @@ from __future__ import annotations
 from collections.abc import Callable, Iterable
 from typing import NamedTuple, Optional
 
-from .blocks import Block, Change, NotALine, Revision, read_block
+from .blocks import Address, Block, Change, NotALine, Redaction, Revision, read_block
 from .hashing import dot, hash_value
 from .ids import Id, id_number
 
@@ -41,6 +41,7 @@ class Audit(NamedTuple):
 class Latest(NamedTuple):
     """The latest revision of a document."""
 
+    address: Address
     table: str
     version: int
     deleted: bool
@@ -54,6 +55,8 @@ class _State:
         self.active: set[str] = set()
         self.indexes: set[tuple[str, str]] = set()
         self.latest: dict[str, Latest] = {}
+        self.revisions: set[tuple[Address, str, str]] = set()  # by address, table and document
+        self.redacted: set[tuple[Address, str, str]] = set()
 
     def change(self, change: Change) -> Optional[str]:
         """Makes a change of the schema, or returns why it can't be made."""
@@ -71,6 +74,17 @@ class _State:
                 return f"drops the table {change.name!r}, which isn't active with this id"
             del self.names[change.name]
             self.active.discard(change.table)
+        return None
+
+    def redact(self, redaction: Redaction) -> Optional[str]:
+        """Redacts an earlier revision, or returns why it can't be redacted."""
+        if redaction not in self.revisions:
+            return "redacts what is no earlier revision"
+        if self.latest[redaction.document].address == redaction.address:
+            return "redacts the latest revision of its document"
+        if redaction in self.redacted:
+            return "redacts what is redacted"
+        self.redacted.add(redaction)
         return None
 
     def revision_fault(self, revision: Revision, tables: set[str]) -> Optional[str]:
@@ -161,6 +175,10 @@ class Checker:
             reason = self._state.change(change)
             if reason is not None:
                 return reason
+        for redaction in block.redactions:
+            reason = self._state.redact(redaction)
+            if reason is not None:
+                return reason
         return self._ids_fault(block) or self._revisions_fault(block, tables)
 
     def _ids_fault(self, block: Block) -> Optional[str]:
@@ -186,7 +204,8 @@ class Checker:
             if reason is not None:
                 return reason
         for revision in block.revisions:
-            self._state.latest[revision.id] = Latest(revision.table, revision.version, revision.deleted)
+            self._state.latest[revision.id] = Latest(revision.address, revision.table, revision.version, revision.deleted)
+            self._state.revisions.add((revision.address, revision.table, revision.id))
         return None
 
 

@@ -237,7 +237,8 @@ class Journal:
 
     blocks: list[Block] = field(default_factory=list)
     tables: list[Table] = field(default_factory=list)
-    documents: dict[str, list[Revision]] = field(default_factory=dict)  # the revisions of each document, oldest first
+    # The revisions of each document, oldest first, without the data that a block redacts; `blocks` has them still.
+    documents: dict[str, list[Revision]] = field(default_factory=dict)
     damage: Optional[Damage] = None
     rest: int = 0  # how many bytes stand after the last line feed
 
@@ -268,6 +269,10 @@ class Journal:
         self.blocks.append(block)
         for change in block.schema:
             self._change(change, block.address.sequence)
+        for redaction in block.redactions:
+            revisions = self.documents[redaction.document]
+            at = next(at for at, revision in enumerate(revisions) if revision.address == redaction.address)
+            revisions[at] = revisions[at].redacted()
         for revision in block.revisions:
             self.documents.setdefault(revision.id, []).append(revision)
 

@@ -131,7 +131,8 @@ const LedgerJournal = (() => {
       const last = this.blocks.length ? this.blocks[this.blocks.length - 1] : null;
       const block = blockOf(line, this.blocks.length, last);
       this.blocks.push(block);
-      for (const [[kind, name], [, table]] of block.schema) {
+      for (const [[kind, name], [, table], of] of block.schema) {
+        if (kind === "redact") this.redact(name, of[1].content);
         if (kind === "create") this.tables.set(table.content, { name: name.content, made: block.sequence, dropped: null });
         if (kind === "drop" && this.tables.has(table.content)) this.tables.get(table.content).dropped = block.sequence;
       }
@@ -140,6 +141,15 @@ const LedgerJournal = (() => {
         this.documents.get(revision.id).push(revision);
       }
       return block;
+    }
+
+    /** Hides the data of the revision of a document in the block at an address; its block shows them still. */
+    redact(address, id) {
+      const sequence = Number(fieldsOf(address, ["strandId", "sequenceNo"], "an address").sequenceNo.content);
+      const revisions = this.documents.get(id) || [];
+      const at = revisions.findIndex((revision) => revision.sequence === sequence);
+      need(at >= 0, "redacts what is no earlier revision");
+      revisions[at] = { ...revisions[at], redacted: true };
     }
 
     tableName(id) {
@@ -182,7 +192,7 @@ if (typeof document !== "undefined") (() => {
 
   const shown = (value) => LedgerVerify.shown(value);
   const plain = (text) => shown({ annotations: [], kind: "string", content: text }).slice(1, -1).replace(/\\"/g, '"');
-  const dataOf = (revision) => (revision.data === null ? "deleted" : shown(revision.data));
+  const dataOf = (revision) => (revision.redacted ? "redacted" : revision.data === null ? "deleted" : shown(revision.data));
   /** A number and a word, in the plural unless it is one. */
   const counted = (number, word) => `${number} ${word}${number === 1 ? "" : "s"}`;
 

@@ -79,7 +79,9 @@ def shown(value: Value) -> str:
 
 
 def content(revision: Revision) -> str:
-    """A revision's data, or the word that says that it deletes."""
+    """A revision's data, or the word that says that it deletes or is redacted."""
+    if revision.data_hash is not None:
+        return "REDACTED"
     return "DELETED" if revision.deleted else shown(revision.data)
 
 
@@ -180,8 +182,10 @@ def cell(value: Value) -> str:
 
 
 def as_struct(value: Value) -> Struct:
-    """A document, or another value as the field `value`."""
+    """A document, or another value as the field `value`; no fields of a redacted one."""
     value = bare(value)
+    if value is None:
+        return Struct([])
     return value if isinstance(value, Struct) else Struct([("value", value)])
 
 

@@ -8,7 +8,7 @@ from typing import Optional
 
 import made
 from common import AT, WithJournal
-from ledger import Damage, DamagedJournal, Journal, Statement, Struct, Timestamp, Transaction, check_lines, ion
+from ledger import Damage, DamagedJournal, Journal, Refused, Statement, Struct, Timestamp, Transaction, check_lines, ion
 from ledger.blocks import block_of
 from ledger.checks import whole_lines
 from ledger.hashing import GrowingTree, dot, fold, hash_value, path, root
@@ -48,6 +48,13 @@ def with_metadata(value: Struct, name: str, new: object) -> Struct:
     return replaced(value, "revisions", [replaced(first, "metadata", replaced(first["metadata"], name, new)), *more])
 
 
+def redacting(value: Struct, sequence: int) -> Struct:
+    """A block that redacts the revision of its first revision's document in another block."""
+    address = replaced(value["blockAddress"], "sequenceNo", sequence)
+    document, table = value["transactionInfo"]["documents"][0].values()
+    return with_info(value, "schema", [Struct([("redact", address), ("tableId", table), ("documentId", document)])])
+
+
 OTHER_ID = "0000000000000000018OWZ"  # of transaction 1's, without a mask
 CHANGES: dict[str, list[Callable[[Struct], Struct]]] = {
     "WrongAddress": [lambda b: replaced(b, "blockAddress", replaced(b["blockAddress"], "sequenceNo", 7)),
@@ -71,6 +78,7 @@ FOLLOWING: list[Callable[[Struct], Struct]] = [  # each fails WrongState once it
     lambda b: with_info(b, "schema", [Struct([("create", "v"), ("tableId", OTHER_ID)])]),
     lambda b: with_info(b, "schema", [Struct([("drop", "t"), ("tableId", OTHER_ID)])]),
     lambda b: with_info(b, "schema", [Struct([("index", "k"), ("tableId", OTHER_ID)])]),
+    lambda b: redacting(b, 1), lambda b: redacting(b, 2), lambda b: redacting(b, 0),
     lambda b: replaced(b, "revisions", [replaced(r, "blockAddress", replaced(r["blockAddress"], "sequenceNo", 0)) for r in b["revisions"]]),
 ]
 
@@ -176,6 +184,25 @@ class Read(WithJournal):
         self.assertEqual([(r.version, r.deleted, r.address.sequence, r.index) for r in history], [(0, False, 2, 0), (1, False, 3, 0), (2, True, 4, 0)])
         found = journal.revision(history[0].id, 1)
         self.assertEqual(found and (found.address.sequence, found.index), (3, 0))
+
+    def test_redaction(self) -> None:
+        """A redacted revision has the hash of its data in their place, its block has the data, and the hashes hold."""
+        run = ["CREATE TABLE t", Statement("INSERT INTO t ?", {"k": 1}), "UPDATE t AS d SET d.k = 2"]
+        self.ledger.run([Transaction([statement]) for statement in run], at=AT, plain_ids=True)
+        (revisions,) = self.ledger.read().histories("t")
+        address = Struct([("strandId", revisions[0].address.strand), ("sequenceNo", revisions[0].address.sequence)])
+        redact = Statement("EXEC REDACT_REVISION ?, ?, ?", address, revisions[0].table, revisions[0].id)
+        self.ledger.run([Transaction([redact])], at=AT, plain_ids=True)
+        with self.assertRaises(Refused) as refused:
+            self.ledger.run([Transaction([redact])], at=AT, plain_ids=True)
+        self.assertEqual(refused.exception.cause, Struct([("code", 17), ("version", 0)]))
+        journal = self.ledger.read()
+        ((first, second),) = journal.histories("t")
+        self.assertEqual((first.data, first.data_hash, first.deleted), (None, hash_value({"k": 1}), False))
+        self.assertEqual((second.data, second.data_hash), ({"k": 2}, None))
+        self.assertEqual((first.computed_hash(), journal.blocks[1].revisions[0].data), (first.hash, {"k": 1}))
+        self.assertEqual((len(journal.blocks), journal.damage), (4, None))
+        self.assertEqual(list(journal.with_value("t", "k", 1)), [])
 
     def test_damage_and_rest(self) -> None:
         self.ledger.run([Transaction(["CREATE TABLE t"]), Transaction(["CREATE TABLE u"])], at=AT, plain_ids=True)
