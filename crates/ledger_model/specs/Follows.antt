@@ -98,7 +98,8 @@ is_kept Deleted = false
 is_kept (Kept v) = true
 is_kept (Redacted hash) = true
 
--- a new document has version 0 and content or its hash; another one has its own table and the next version, and isn't deleted
+-- a new document has version 0 and content or its hash; another one has its own table and the next version, and isn't
+-- deleted
 abbrev pub continues : Recorded → Option Recorded → Bool
 continues r None = (r.revision.metadata.version == 0) && is_kept r.revision.content
 continues r (Some last) =

@@ -251,4 +251,5 @@ footprint_of now views params (statement.Select select from) = read_by_sources n
 footprint_of now views params (statement.Update from change) = read_by_sources now views params from
 footprint_of now views params (statement.From from change) = read_by_sources now views params from
 footprint_of now views params (statement.Delete from) = read_by_sources now views params from
-footprint_of now views params (statement.Redact address table document) = items_named (named_revision params address table document)
+footprint_of now views params (statement.Redact address table document) =
+    items_named (named_revision params address table document)

@@ -67,7 +67,8 @@ revision_touches blocks now (item.TableName name) r = false
 revision_touches blocks now item.TableList r = false
 revision_touches blocks now (item.Table table) r = is_of table r
 revision_touches blocks now (item.Doc table id) r = is_of_document table id.raw r
-revision_touches blocks now (item.IndexValue table field k) r = is_of table r && changes_key blocks now field k r.revision
+revision_touches blocks now (item.IndexValue table field k) r =
+    is_of table r && changes_key blocks now field k r.revision
 
 -- ---- a block
 

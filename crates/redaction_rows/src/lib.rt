@@ -1,3 +1,3 @@
-//! Redactions over a journal of three blocks: what one leaves of the state and of a history, and which ones are refused.
+//! Redactions over a journal of three blocks: what one leaves of the state and of a history, and which are refused.
 //! The rows stand in proofs/.
 #![tactic(auto)]

@@ -45,7 +45,7 @@ pub fn lines_of(alloc: Global, later: &str) -> Option<Text> {
     Some(text)
 }
 
-/// The first conflict of a transaction that began behind so many blocks of the journal and read these items.
+/// The first conflict of a transaction that began after `since` blocks and read these items.
 fn conflict_in(alloc: Global, lines: &str, since: u64, items: &[Item]) -> Option<Option<Named>> {
     let (blocks, _) = read_journal(alloc, lines.as_bytes()).ok()?;
     let now = state_of(alloc, blocks.as_slice()).ok()?;

@@ -108,8 +108,8 @@ impl Redactions {
         Ok(is_new)
     }
 
-    /// Takes in a change of the schema behind the earlier ones of its block, and returns whether it can be made, as far
-    /// as it is a redaction.
+    /// Takes in a change, and returns whether it follows, if it is a redaction. Earlier changes of its block count as
+    /// taken in; any other change is accepted.
     fn change(
         &mut self,
         documents: &Documents,
@@ -139,8 +139,8 @@ impl Redactions {
         }
     }
 
-    /// Takes in the changes of a block behind these in order, as far as they can be made, and returns whether all its
-    /// redactions can.
+    /// Takes in the changes of a block in order, and returns whether all its redactions follow. It stops at the first
+    /// that doesn't.
     pub(super) fn change_all(
         &mut self,
         documents: &Documents,
