@@ -1,5 +1,5 @@
 -- Reading a block is inverse to writing it.
-use Rattle.std.proofs.Common.{◌≡◌, ◌∙◌, ◌&&◌, ◌==◌, not, ℕ, ◌^◌, Bool, true, false, List, [], ◌∷◌, ◌++◌, take, drop, map, length, nat_lt, Some, None, refl, sym, ap, subst, codes, if◌then◌else◌, arith, length-append}
+use Rattle.std.proofs.Common.{◌≡◌, ◌∙◌, ◌&&◌, ◌==◌, ℕ, ◌^◌, Bool, true, false, List, [], ◌∷◌, ◌++◌, take, drop, map, length, nat_lt, Some, None, refl, sym, ap, subst, codes, if◌then◌else◌, arith, length-append}
 use Rattle.std.specs.List.{list_all}
 use Rattle.std.specs.Cmp.Derive.{both_true}
 use Rattle.std.proofs.lemmas.Bool.Decides.{nat_tests}
@@ -14,15 +14,15 @@ use Rattle.ledger_model.specs.declared.block.Block.{Block}
 use Rattle.ledger_model.specs.Values.{field, fields_in, list_in}
 use Rattle.ledger_model.specs.Journal.{structure, list, moment, id_value, hash_value, address_value, revision_value, info_value, front_fields, block_value}
 use Rattle.ledger_model.specs.Script.{and_then, each}
-use Rattle.ledger_model.specs.Whole.{id_fits, hash_fits, entry_fits, address_fits, revision_fits, info_fits, header_fits, hashes_fit, block_fits, is_plain_revision, is_redacted, is_unredacted}
+use Rattle.ledger_model.specs.Whole.{id_fits, hash_fits, entry_fits, address_fits, revision_fits, info_fits, header_fits, hashes_fit, block_fits}
 use Rattle.block_form.specs.declared.read_blocks.Hashes.{Hashes}
 use Rattle.value_codec.specs.ReadParts.{named, moment_in, id_in, hash_in, entry_in, address_in}
 use Rattle.block_form.specs.ReadBack.{revision_in, revisions_in, info_in, header_of, entries_of, hashes_of, count_of, block_with, parts_of, block_of, block_in}
 use Rattle.value_codec.proofs.Inverse.{took, fields-gets, left, right, cons}
 use Rattle.value_codec.proofs.SmallParts.{fields-puts, list-gets, list-puts, id-gets, id-puts, hash-gets, hash-puts, entry_value, entry-gets, entry-puts, moment-gets, moment-puts}
-use Rattle.value_codec.proofs.Fields.{named-is, taken, always, address-gets, address-puts, each-gets, each-puts, both_of, all_of}
+use Rattle.value_codec.proofs.Fields.{named-is, taken, always, address-gets, address-puts, each-gets, each-puts}
 use Rattle.block_form.proofs.OfRevisions.{revision-gets, revision-puts}
-use Rattle.block_form.proofs.OfInfo.{is_plain_info, info-gets, info-puts}
+use Rattle.block_form.proofs.OfInfo.{info-gets, info-puts}
 
 -- ---- headers
 
@@ -139,7 +139,6 @@ pub record IsRead (b : Block) : Type 0 where
   pub count : b.header.revisions ≡ length b.revisions
   pub tables : length b.info.tables ≡ length b.revisions
   pub fits : block_fits b ≡ true
-  pub unredacted : is_unredacted b ≡ true
 
 pub record ArePartsOf (front hashes entries : List Field) (b : Block) : Type 0 where
   pub front_is : front ≡ front_fields b.header
@@ -150,11 +149,10 @@ pub record ArePartsOf (front hashes entries : List Field) (b : Block) : Type 0 w
 assembled : (front hashes : List Field) (f g : Field) (h : Hashes) (rs : List Revision) (n : ℕ) (head : Header) (i : Info)
     → (hashes ≡ fields_of_hashes h) × (all_fit h ≡ true) → (n ≡ length rs) × (nat_lt n (2 ^ 32) ≡ true)
     → (front ≡ front_fields head) × (address_fits head.address && id_fits head.tx.raw ≡ true) × (head.revisions ≡ n)
-    → f ≡ field (codes "transactionInfo") (info_value i rs) → info_fits i ≡ true → length i.tables ≡ length rs → is_plain_info i ≡ true
-    → g ≡ field (codes "revisions") (list (map revision_value rs)) → list_all is_plain_revision rs ≡ true
+    → f ≡ field (codes "transactionInfo") (info_value i rs) → info_fits i ≡ true → length i.tables ≡ length rs
+    → g ≡ field (codes "revisions") (list (map revision_value rs)) → list_all revision_fits rs ≡ true
     → ArePartsOf front hashes (f ∷ g ∷ []) (block_with head h i rs)
-assembled front hashes f g h rs n head i he ne front-is fe info tables plain ge revisions =
-    let both = both_of revision_fits (λ (r : Revision). not (is_redacted r.content)) rs revisions in
+assembled front hashes f g h rs n head i he ne front-is fe info tables ge revisions =
     let small : nat_lt head.revisions (2 ^ 32) ≡ true = subst (λ k. nat_lt k (2 ^ 32) ≡ true) (sym front-is.2) ne.1 in
     record {
       front_is = front-is.0;
@@ -163,8 +161,7 @@ assembled front hashes f g h rs n head i he ne front-is fe info tables plain ge 
       read = record {
         count = front-is.2 ∙ ne.0;
         tables = tables;
-        fits = both_true (both_true (both_true (both_true front-is.1 small) he.1) info) both.0;
-        unredacted = both_true plain both.1;
+        fits = both_true (both_true (both_true (both_true front-is.1 small) he.1) info) revisions;
       };
     }
 
@@ -179,11 +176,11 @@ parts_of-is front hashes (f ∷ g ∷ []) b e =
     let q = info-gets rs.0 w.0 i.0 w.2 in
     let u = took (named (codes "revisions") g) revisions_in rs.0 rs.1 in
     let l = took (list_in u.0) (each revision_in) rs.0 u.2 in
-    let s = each-gets revision_in revision_value is_plain_revision revision-gets l.0 rs.0 l.2 in
+    let s = each-gets revision_in revision_value revision_fits revision-gets l.0 rs.0 l.2 in
     let same : block_with head.0 h.0 i.0 rs.0 ≡ b = cc in
     subst (ArePartsOf front hashes (f ∷ g ∷ [])) same
     (assembled front hashes f g h.0 rs.0 n.0 head.0 i.0 (hashes_of-is hashes h.0 h.1) (count_of-is rs.0 n.0 n.1) (header_of-is n.0 front head.0 head.1)
-    (named-is (codes "transactionInfo") f w.0 w.1 ∙ ap (field (codes "transactionInfo")) q.0) q.1 q.2 q.3
+    (named-is (codes "transactionInfo") f w.0 w.1 ∙ ap (field (codes "transactionInfo")) q.0) q.1 q.2
     (named-is (codes "revisions") g u.0 u.1 ∙ ap (field (codes "revisions")) (list-gets u.0 l.0 l.1 ∙ ap list s.0)) s.1)
 parts_of-is front hashes [] b e = cc
 parts_of-is front hashes (f ∷ []) b e = cc
@@ -217,13 +214,12 @@ block-puts b r =
     let head-fits = left _ _ two in
     let revisions = right (header_fits b.header && hashes_fit b && info_fits b.info) _ fits in
     let h = hashes-puts (hashes_in b) (right (header_fits b.header) _ two) in
-    let plain = all_of revision_fits (λ (r : Revision). not (is_redacted r.content)) b.revisions revisions (right (is_plain_info b.info) _ r.unredacted) in
-    let rs = each-puts revision_in revision_value is_plain_revision revision-puts b.revisions plain in
+    let rs = each-puts revision_in revision_value revision_fits revision-puts b.revisions revisions in
     let small : nat_lt (length b.revisions) (2 ^ 32) ≡ true =
     subst (λ k. nat_lt k (2 ^ 32) ≡ true) r.count (right (address_fits b.header.address && id_fits b.header.tx.raw) _ head-fits) in
     let head : header_of (length b.revisions) (front_fields b.header) ≡ Some b.header =
     subst (λ n. header_of n (front_fields b.header) ≡ Some b.header) r.count (header-puts b.header (left _ _ head-fits)) in
-    let i = info-puts b.revisions b.info (right (header_fits b.header && hashes_fit b) _ (left _ _ fits)) (left (is_plain_info b.info) _ r.unredacted) r.tables revisions in
+    let i = info-puts b.revisions b.info (right (header_fits b.header && hashes_fit b) _ (left _ _ fits)) r.tables revisions in
     rw (fields-puts _, h, list-puts (map revision_value b.revisions), rs, small, head, i) refl
 
 -- ---- the last two of nine fields, and the others

@@ -8,6 +8,7 @@ use Rattle.std.proofs.lemmas.Bool.Decides.{nat_tests}
 use Rattle.std.proofs.lemmas.Slice.Eq.{bytes_eq-Decides}
 use Rattle.ion_values.specs.declared.value.Value.{Value}
 use Rattle.ion_values.specs.declared.value.Field.{Field}
+use Rattle.ql_types.specs.declared.Hash32.{Hash32}
 use Rattle.ql_types.specs.declared.Place.{Place}
 use Rattle.ql_types.specs.declared.TableId.{TableId}
 use Rattle.ledger_model.specs.declared.block.Said.{Said}
@@ -18,14 +19,14 @@ use Rattle.ledger_model.specs.declared.block.Told.{Told}
 use Rattle.ledger_model.specs.declared.block.Told.TheVariants as told
 use Rattle.ledger_model.specs.declared.block.Info.{Info}
 use Rattle.ledger_model.specs.Values.{field, fields_in, list_in, string_in}
-use Rattle.ledger_model.specs.Journal.{structure, list, string, number, id_value, address_value, place_value, said_value, change_value, schema_value, document_value, document_values, info_value}
-use Rattle.ledger_model.specs.Script.{and_then}
-use Rattle.ledger_model.specs.Whole.{id_fits, table_fits, place_fits, schema_fits, info_fits, revision_fits, address_fits, is_said}
-use Rattle.value_codec.specs.ReadParts.{address_in, named, number_in, id_in}
-use Rattle.block_form.specs.ReadBack.{place_of, place_in, said_of, said_in, change_of, redaction_of, schema_of, schema_in, table_of, table_in, tables_of, info_of, info_in}
+use Rattle.ledger_model.specs.Journal.{structure, list, string, number, id_value, address_value, place_value, said_value, change_value, schema_value, document_value, document_values, told_field, info_value}
+use Rattle.ledger_model.specs.Script.{and_then, each}
+use Rattle.ledger_model.specs.Whole.{id_fits, table_fits, place_fits, schema_fits, info_fits, revision_fits, told_fits, address_fits}
+use Rattle.value_codec.specs.ReadParts.{address_in, hash_in, named, number_in, id_in}
+use Rattle.block_form.specs.ReadBack.{place_of, place_in, said_of, said_in, change_of, redaction_of, schema_of, schema_in, table_of, table_in, tables_of, told_of, info_of, info_in}
 use Rattle.value_codec.proofs.Inverse.{Gets, Puts, took, fields-gets, left, right, cons}
-use Rattle.value_codec.proofs.SmallParts.{fields-puts, list-gets, list-puts, string-gets, string-puts, below, number-gets, number-puts, id-gets, id-puts}
-use Rattle.value_codec.proofs.Fields.{named-is, taken, taken_all, always, each-puts, address-gets, address-puts}
+use Rattle.value_codec.proofs.SmallParts.{fields-puts, list-gets, list-puts, string-gets, string-puts, below, number-gets, number-puts, id-gets, id-puts, hash-gets, hash-puts}
+use Rattle.value_codec.proofs.Fields.{named-is, taken, taken_all, always, each-gets, each-puts, address-gets, address-puts}
 
 -- ---- places
 
@@ -217,30 +218,69 @@ tables-puts (t ∷ ts) (r ∷ rs) long fits revisions =
 
 -- ---- the whole
 
-abbrev pub is_plain_info : Info → Bool
-is_plain_info i = is_said i.said
+-- the statements, or their hash
+abbrev ToldOf : Field → Told → Type 0
+ToldOf g t = (g ≡ told_field t) × (told_fits t ≡ true)
+
+told-gets : (g : Field) (t : Told) → told_of g ≡ Some t → ToldOf g t
+told-gets g t e = go (bytes_eq g.name (codes "statementsHash")) refl e where
+  hashed : bytes_eq g.name (codes "statementsHash") ≡ true → (o : Option Hash32) → hash_in g.value ≡ o → option_map (λ h. told.Hashed h) o ≡ Some t
+      → ToldOf g t
+  hashed same None is e = cc
+  hashed same (Some h) is e =
+      let s = hash-gets g.value h is in
+      let this : told.Hashed h ≡ t = cc in
+      let name : g.name ≡ codes "statementsHash" = (bytes_eq-Decides g.name (codes "statementsHash")).0 same in
+      subst (λ x. ToldOf g x) this (ap (λ n. field n g.value) name ∙ ap (field (codes "statementsHash")) s.0, s.1)
+
+  said : (o : Option (List Said)) → and_then (and_then (named (codes "statements") g) list_in) (each said_in) ≡ o
+      → option_map (λ xs. told.Said xs) o ≡ Some t → ToldOf g t
+  said None is e = cc
+  said (Some xs) is e =
+      let u = took (and_then (named (codes "statements") g) list_in) (each said_in) xs is in
+      let w = took (named (codes "statements") g) list_in u.0 u.1 in
+      let s = each-gets said_in said_value always said-gets u.0 xs u.2 in
+      let this : told.Said xs ≡ t = cc in
+      subst (λ x. ToldOf g x) this
+      (named-is (codes "statements") g w.0 w.1 ∙ ap (field (codes "statements")) (list-gets w.0 u.0 w.2 ∙ ap list s.0), refl)
+
+  go : (b : Bool) → bytes_eq g.name (codes "statementsHash") ≡ b
+      → (if b then option_map (λ h. told.Hashed h) (hash_in g.value)
+      else option_map (λ xs. told.Said xs) (and_then (and_then (named (codes "statements") g) list_in) (each said_in))) ≡ Some t → ToldOf g t
+  go true same e = hashed same (hash_in g.value) refl e
+  go false same e = said (and_then (and_then (named (codes "statements") g) list_in) (each said_in)) refl e
+
+all_always : {A : Type 0} → (xs : List A) → list_all always xs ≡ true
+all_always [] = refl
+all_always (x ∷ xs) = all_always xs
+
+told-puts : (t : Told) → told_fits t ≡ true → told_of (told_field t) ≡ Some t
+told-puts (told.Said said) fits =
+    let b = each-puts said_in said_value always said-puts said (all_always said) in
+    rw (list-puts (map said_value said), b) refl
+told-puts (told.Hashed hash) fits = rw (hash-puts hash fits) refl
 
 -- the value holds what was said and done, which fits
 abbrev pub IsInfo : Value → List Revision → Info → Type 0
-IsInfo v rs i = (v ≡ info_value i rs) × (info_fits i ≡ true) × (length i.tables ≡ length rs) × (is_plain_info i ≡ true)
+IsInfo v rs i = (v ≡ info_value i rs) × (info_fits i ≡ true) × (length i.tables ≡ length rs)
 
 info_of-is : (rs : List Revision) (fs : List Field) (i : Info) → info_of rs fs ≡ Some i
     → IsInfo (structure fs) rs i
 info_of-is rs (f ∷ g ∷ h ∷ j ∷ []) i e =
     let a = taken place_in place_value place_fits place-gets (codes "place") f _ i e in
-    let b = taken_all said_in said_value always said-gets (codes "statements") g _ i a.3 in
-    let c = taken_all schema_in schema_value schema_fits schema-gets (codes "schema") h _ i b.3 in
+    let t = took (told_of g) _ i a.3 in
+    let b = told-gets g t.0 t.1 in
+    let c = taken_all schema_in schema_value schema_fits schema-gets (codes "schema") h _ i t.2 in
     let d = took (and_then (and_then (named (codes "documents") j) list_in) (λ values. tables_of values rs)) _ i c.3 in
     let u = took (and_then (named (codes "documents") j) list_in) (λ values. tables_of values rs) d.0 d.1 in
     let w = took (named (codes "documents") j) list_in u.0 u.1 in
     let s = tables-gets u.0 rs d.0 u.2 in
-    let made : Info = record { place = a.0; said = told.Said b.0; schema = c.0; tables = d.0 } in
+    let made : Info = record { place = a.0; said = t.0; schema = c.0; tables = d.0 } in
     let same : made ≡ i = cc in
     subst (λ (x : Info). IsInfo (structure (f ∷ g ∷ h ∷ j ∷ [])) rs x) same (
-      ap structure (cons a.1 (cons b.1 (cons c.1 (cons (named-is (codes "documents") j w.0 w.1 ∙ ap (field (codes "documents")) (list-gets w.0 u.0 w.2 ∙ ap list s.0)) refl)))),
-      both_true (both_true (both_true a.2 c.2) s.1) refl,
+      ap structure (cons a.1 (cons b.0 (cons c.1 (cons (named-is (codes "documents") j w.0 w.1 ∙ ap (field (codes "documents")) (list-gets w.0 u.0 w.2 ∙ ap list s.0)) refl)))),
+      both_true (both_true (both_true a.2 c.2) s.1) b.1,
       s.2,
-      refl,
     )
 info_of-is rs [] i e = cc
 info_of-is rs (f ∷ []) i e = cc
@@ -252,29 +292,24 @@ pub info-gets : (rs : List Revision) (v : Value) (i : Info) → info_in rs v ≡
 info-gets rs v i e =
     let t = took (fields_in v) (info_of rs) i e in
     let c = info_of-is rs t.0 i t.2 in
-    (fields-gets v t.0 t.1 ∙ c.0, c.1, c.2, c.3)
-
-all_always : {A : Type 0} → (xs : List A) → list_all always xs ≡ true
-all_always [] = refl
-all_always (x ∷ xs) = all_always xs
+    (fields-gets v t.0 t.1 ∙ c.0, c.1, c.2)
 
 -- what was said and done, by its parts
 abbrev info_with : Place → Told → List Schema → List TableId → Info
 info_with place t schema tables = record { place = place; said = t; schema = schema; tables = tables }
 
 put_info : (rs : List Revision) (place : Place) (t : Told) (schema : List Schema) (tables : List TableId) → info_fits (info_with place t schema tables) ≡ true
-    → is_plain_info (info_with place t schema tables) ≡ true → length tables ≡ length rs → list_all revision_fits rs ≡ true
+    → length tables ≡ length rs → list_all revision_fits rs ≡ true
     → info_in rs (info_value (info_with place t schema tables) rs) ≡ Some (info_with place t schema tables)
-put_info rs place (told.Said said) schema tables fits plain long revisions =
+put_info rs place t schema tables fits long revisions =
     let three = left (place_fits place && list_all schema_fits schema && list_all table_fits tables) _ fits in
     let two = left (place_fits place && list_all schema_fits schema) _ three in
     let a = place-puts place (left (place_fits place) _ two) in
-    let b = each-puts said_in said_value always said-puts said (all_always said) in
+    let b = told-puts t (right (place_fits place && list_all schema_fits schema && list_all table_fits tables) _ fits) in
     let c = each-puts schema_in schema_value schema_fits schema-puts schema (right (place_fits place) _ two) in
     let d = tables-puts tables rs long (right (place_fits place && list_all schema_fits schema) _ three) revisions in
-    rw (fields-puts _, a, list-puts (map said_value said), b, list-puts (map schema_value schema), c, list-puts (document_values tables rs), d) refl
-put_info rs place (told.Hashed hash) schema tables fits plain long revisions = cc
+    rw (fields-puts _, a, b, list-puts (map schema_value schema), c, list-puts (document_values tables rs), d) refl
 
-pub info-puts : (rs : List Revision) (i : Info) → info_fits i ≡ true → is_plain_info i ≡ true → length i.tables ≡ length rs → list_all revision_fits rs ≡ true
+pub info-puts : (rs : List Revision) (i : Info) → info_fits i ≡ true → length i.tables ≡ length rs → list_all revision_fits rs ≡ true
     → info_in rs (info_value i rs) ≡ Some i
-info-puts rs i fits plain long revisions = put_info rs i.place i.said i.schema i.tables fits plain long revisions
+info-puts rs i fits long revisions = put_info rs i.place i.said i.schema i.tables fits long revisions

@@ -15,7 +15,7 @@ use Rattle.value_codec.proofs.Inverse.{took, left, right}
 use Rattle.block_form.proofs.OfBlocks.{IsRead, block-gets, block-puts}
 
 read_of_whole : (b : Block) → IsWhole b → IsRead b
-read_of_whole b w = record { count = w.count; tables = w.tables; fits = w.fits; unredacted = w.unredacted }
+read_of_whole b w = record { count = w.count; tables = w.tables; fits = w.fits }
 
 -- the value of a whole block is read as the block
 pub whole-puts : (b : Block) → IsWhole b → whole_in (block_value b) ≡ Some b
@@ -44,7 +44,6 @@ whole-gets v b e =
               depth = subst (λ x. depth_of x ≤ 256) g.0 deep;
               fits = g.1.fits;
               ranges = subst (λ x. within x ≡ true) g.0 ranges;
-              unredacted = g.1.unredacted;
             },
           )
       go c g false t e = cc

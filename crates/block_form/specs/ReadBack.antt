@@ -1,6 +1,5 @@
 -- The parts of blocks read back from values (Ion 1.0, "The Ion data model"): each reading gives the part whose value
--- it is given, and None for a value of no part. Fields stand in the written order, with none beside them. Hashes in
--- place of data and of statements are read as no part, since no block has them so far.
+-- it is given, and None for a value of no part. Fields stand in the written order, with none beside them.
 use Rattle.std.specs.Prelude.{◌≡◌, ◌≢◌, ◌&&◌, IsTrue, nat_le, ℕ, ◌^◌, ◌==◌, nat_lt, List, [], ◌∷◌, take, drop, length, codes, Option, Some, None, option_map, if◌then◌else◌}
 use Rattle.std.specs.List.{list_all}
 use Rattle.std.specs.Str.{bytes_eq}
@@ -15,9 +14,10 @@ use Rattle.ledger_model.specs.declared.block.Said.{Said}
 use Rattle.ledger_model.specs.declared.block.Schema.{Schema}
 use Rattle.ledger_model.specs.declared.block.Schema.TheVariants.{Create, Index, Drop, Redact}
 use Rattle.ledger_model.specs.declared.block.Content.{Content}
-use Rattle.ledger_model.specs.declared.block.Content.TheVariants.{Deleted, Kept}
+use Rattle.ledger_model.specs.declared.block.Content.TheVariants.{Deleted, Kept, Redacted}
 use Rattle.ledger_model.specs.declared.block.Metadata.{Metadata}
 use Rattle.ledger_model.specs.declared.block.Revision.{Revision}
+use Rattle.ledger_model.specs.declared.block.Told.{Told}
 use Rattle.ledger_model.specs.declared.block.Told.TheVariants as told
 use Rattle.ledger_model.specs.declared.block.Info.{Info}
 use Rattle.ledger_model.specs.declared.block.Header.{Header}
@@ -51,10 +51,16 @@ with_content content f g h =
     and_then (and_then (named (codes "metadata") h) metadata_in) (λ metadata.
     Some (record { address = address; hash = hash; content = content; metadata = metadata }))))
 
+-- the data, or their hash in their place
+abbrev pub content_of : Field → Option Content
+content_of d =
+    if bytes_eq d.name (codes "dataHash") then option_map (λ h. Redacted h) (hash_in d.value)
+    else option_map (λ v. Kept v) (named (codes "data") d)
+
 -- a delete has no data
 abbrev pub revision_of : List Field → Option Revision
 revision_of (f ∷ g ∷ h ∷ []) = with_content Deleted f g h
-revision_of (f ∷ g ∷ d ∷ h ∷ []) = and_then (named (codes "data") d) (λ v. with_content (Kept v) f g h)
+revision_of (f ∷ g ∷ d ∷ h ∷ []) = and_then (content_of d) (λ content. with_content content f g h)
 revision_of _ = None
 
 abbrev pub revision_in : Value → Option Revision
@@ -129,16 +135,22 @@ tables_of [] [] = Some []
 tables_of (v ∷ vs) (r ∷ rs) = and_then (table_in r v) (λ t. option_map (λ ts. t ∷ ts) (tables_of vs rs))
 tables_of _ _ = None
 
+-- the statements, or their hash in their place
+abbrev pub told_of : Field → Option Told
+told_of g =
+    if bytes_eq g.name (codes "statementsHash") then option_map (λ h. told.Hashed h) (hash_in g.value)
+    else option_map (λ said. told.Said said) (and_then (and_then (named (codes "statements") g) list_in) (each said_in))
+
 -- each part has to be there
-abbrev pub info_from : Option Place → Option (List Said) → Option (List Schema) → Option (List TableId) → Option Info
-info_from place said schema tables =
-    and_then place (λ place. and_then said (λ said. and_then schema (λ schema. and_then tables (λ tables.
-    Some (record { place = place; said = told.Said said; schema = schema; tables = tables })))))
+abbrev pub info_from : Option Place → Option Told → Option (List Schema) → Option (List TableId) → Option Info
+info_from place told schema tables =
+    and_then place (λ place. and_then told (λ said. and_then schema (λ schema. and_then tables (λ tables.
+    Some (record { place = place; said = said; schema = schema; tables = tables })))))
 
 abbrev pub info_of : List Revision → List Field → Option Info
 info_of revisions (f ∷ g ∷ h ∷ i ∷ []) = info_from
     (and_then (named (codes "place") f) place_in)
-    (and_then (and_then (named (codes "statements") g) list_in) (each said_in))
+    (told_of g)
     (and_then (and_then (named (codes "schema") h) list_in) (each schema_in))
     (and_then (and_then (named (codes "documents") i) list_in) (λ values. tables_of values revisions))
 info_of revisions _ = None

@@ -16,7 +16,9 @@ pub use checked::{CheckedBlock, checked_from_ion};
 pub use read_blocks::{from_ion, values_tell_blocks};
 pub use read_revisions::revision_in;
 pub use revisions::{metadata_value, revision_value};
+pub use said::told_hash;
 pub use seals::{
-    Valued, header_hash, revision_hash, seal, seal_revision, seal_with_value, strand_hash,
+    Valued, header_hash, info_form, revision_hash, seal, seal_revision, seal_with_value,
+    strand_hash,
 };
 pub use values::{header_value, to_ion};

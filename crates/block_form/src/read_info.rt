@@ -1,5 +1,5 @@
 //! What a transaction said and did, as values spell it. Texts and values are moved out of them.
-ghost use Rattle.std.specs.Prelude.{◌≡◌, ◌≢◌, [], ◌∷◌, codes, length, IfOk, MatchOption};
+ghost use Rattle.std.specs.Prelude.{◌≡◌, ◌≢◌, [], ◌∷◌, codes, length, option_map, IfOk, MatchOption};
 ghost use Rattle.std.specs.Option.{option_copied};
 ghost use Rattle.ledger_model.specs.Script.{and_then, each};
 ghost use Rattle.ledger_model.specs.Values.{list_in};
@@ -10,7 +10,9 @@ use ion_values::{Field, Fields, OutOfMemory, Text, Value, Values};
 use ledger_model::{Answer, Info, Revision, Said, SaidList, Schema, SchemaList, TableIds, Told};
 use ql_types::{DocId, Place, TableId};
 use std::alloc::Global;
-use value_codec::read_parts::{address_in, fields_in, id_in, list_in, named, small_number_in};
+use value_codec::read_parts::{
+    address_in, fields_in, hash_in, id_in, list_in, named, small_number_in,
+};
 use value_codec::takes::{into_fields, into_members, into_string, into_text, with_room};
 
 fn place_in(v: &Value) -> Option<Place>
@@ -187,15 +189,15 @@ fn tables_of(
 /// What a transaction said and did, where each part of it is known.
 fn info_from(
     place: Option<Place>,
-    said: Option<SaidList>,
+    told: Option<Told>,
     schema: Option<SchemaList>,
     tables: Option<TableIds>,
 ) -> Option<Info>
-    ensures { result ≡ spec.info_from place said schema tables }
+    ensures { result ≡ spec.info_from place told schema tables }
 {
     Some(Info {
         place: place?,
-        said: Told::Said(said?),
+        said: told?,
         schema: schema?,
         tables: tables?,
     })
@@ -212,9 +214,9 @@ fn info_of(
         return Ok(None);
     };
     let tables = documents_of(alloc, &documents, revisions)?;
-    let said = statements_of(alloc, statements)?;
+    let told = told_of(alloc, statements)?;
     let schema = changes_of(alloc, schema)?;
-    Ok(info_from(placed(&place), said, schema, tables))
+    Ok(info_from(placed(&place), told, schema, tables))
 }
 
 /// The fields, where there are four.
@@ -247,6 +249,32 @@ fn statements_of(alloc: Global, field: Field) -> Result<Option<SaidList>, OutOfM
     };
     let said = all_said(alloc, values)?;
     Ok(said)
+}
+
+/// The statements, or the hash that stands in their place.
+fn told_of(alloc: Global, field: Field) -> Result<Option<Told>, OutOfMemory>
+    ensures { IfOk result (λ told. told ≡ spec.told_of field) }
+{
+    if field.name.as_str() == "statementsHash" {
+        return Ok(hashed_in(&field.value));
+    }
+    let said = statements_of(alloc, field)?;
+    Ok(said_from(said))
+}
+
+/// The hash in place of the statements.
+fn hashed_in(v: &Value) -> Option<Told>
+    ensures { result ≡ option_map (λ h. Told.Hashed h) (spec.hash_in v.now) }
+{
+    let hash = hash_in(v)?;
+    Some(Told::Hashed(hash))
+}
+
+/// The statements, if there are any.
+fn said_from(said: Option<SaidList>) -> Option<Told>
+    ensures { result ≡ option_map (λ said. Told.Said said) said }
+{
+    Some(Told::Said(said?))
 }
 
 fn changes_of(alloc: Global, field: Field) -> Result<Option<SchemaList>, OutOfMemory>

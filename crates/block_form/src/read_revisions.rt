@@ -48,15 +48,27 @@ fn with_content(
     })
 }
 
-/// The revision that keeps the data of a field.
-fn with_data(address: &Field, hash: &Field, kept: Field, metadata: &Field) -> Option<Revision>
-    ensures { result ≡ spec.revision_of (address.now ∷ hash.now ∷ kept ∷ metadata.now ∷ []) }
+/// The data of a field, or the hash that stands in their place.
+fn content_of(field: Field) -> Option<Content>
+    ensures { result ≡ spec.content_of field }
 {
-    let value = into_named(kept, "data")?;
-    with_content(Content::Kept(value), address, hash, metadata)
+    if field.name.as_str() == "dataHash" {
+        let hash = hash_in(&field.value)?;
+        return Some(Content::Redacted(hash));
+    }
+    let value = into_named(field, "data")?;
+    Some(Content::Kept(value))
 }
 
-/// The revision of four fields.
+/// The revision that has the data of a field, or their hash.
+fn with_data(address: &Field, hash: &Field, told: Field, metadata: &Field) -> Option<Revision>
+    ensures { result ≡ spec.revision_of (address.now ∷ hash.now ∷ told ∷ metadata.now ∷ []) }
+{
+    let content = content_of(told)?;
+    with_content(content, address, hash, metadata)
+}
+
+/// The revision of four fields, which is no delete.
 fn kept_in(fields: Fields) -> Option<Revision>
     requires { length fields ≢ 3 }
     ensures { result ≡ spec.revision_of fields }
@@ -88,7 +100,7 @@ fn into_revision(v: Value) -> Option<Revision>
     revision_of(into_fields(v)?)
 }
 
-/// The revision whose value this is, or None where it is no revision's that keeps its data or is a delete.
+/// The revision whose value this is, or None where it is no revision's.
 pub fn revision_in(alloc: Global, v: &Value) -> Result<Option<Revision>, OutOfMemory>
     ensures { IfOk result (λ r. r ≡ spec.revision_in v.now) }
 {

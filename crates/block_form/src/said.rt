@@ -1,11 +1,13 @@
 //! What a transaction said and did, as a value.
 ghost use Rattle.std.specs.Prelude.{◌≡◌, ◌++◌, [], ◌∷◌, map, IfOk, OnOk};
 ghost use Rattle.ledger_model.specs.Journal.{list, place_value, said_value, told_field, change_value, redact_value, schema_value, document_value, document_values, info_fields, info_value};
+ghost use Rattle.ledger_model.specs.Seals.{told_hash};
 
 use containers::Sequence;
+use ion_hash::field_hash;
 use ion_values::{Fields, OutOfMemory, Text, Value, Values, copy_values};
 use ledger_model::{Info, Revision, Said, Schema, Told};
-use ql_types::{BlockAddress, DocId, Place, TableId};
+use ql_types::{BlockAddress, DocId, Hash32, Place, TableId};
 use std::alloc::Global;
 use value_codec::parts::{
     address_value, hash_value, id_value, list, number, put, string, structure,
@@ -76,6 +78,23 @@ fn put_told(alloc: Global, fields: &mut Fields, told: &Told) -> Result<(), OutOf
             put(alloc, fields, "statements", list(alloc, said))
         }
         Told::Hashed(hash) => put(alloc, fields, "statementsHash", hash_value(alloc, hash)?),
+    }
+}
+
+/// The hash of the statements' field, or the one that stands in its place.
+pub fn told_hash(alloc: Global, told: &Told) -> Result<Hash32, OutOfMemory>
+    ensures { IfOk result (λ h. h.bytes ≡ told_hash told.now) }
+{
+    if let Told::Hashed(hash) = told {
+        return Ok(*hash);
+    }
+    let mut fields = Sequence::new(alloc);
+    put_told(alloc, &mut fields, told)?;
+    match fields.get(0) {
+        Some(field) => Ok(Hash32 {
+            bytes: field_hash(alloc, field)?,
+        }),
+        None => unreachable!(),
     }
 }
 

@@ -1,15 +1,15 @@
 //! The hashes of revisions and blocks.
 ghost use Rattle.std.specs.Prelude.{◌≡◌, length, map, IfOk};
-ghost use Rattle.hash_model.specs.Serialize.{hash_of, struct_hash};
+ghost use Rattle.hash_model.specs.Serialize.{hash_of, struct_bytes, struct_hash};
 ghost use Rattle.ledger_model.specs.Journal.{block_value, header_value, info_fields, info_value, metadata_value, revision_value};
-ghost use Rattle.ledger_model.specs.Seals.{revision_hash, entries_hash, info_hash, revisions_root, sealed, strand_hash};
+ghost use Rattle.ledger_model.specs.Seals.{revision_hash, entries_hash, info_hash, info_hashes, revisions_root, sealed, strand_hash};
 ghost use Rattle.block_form.specs.Hashed as spec;
 
 use crate::revisions::{metadata_value, revision_with};
 use crate::said::info_fields;
 use crate::values::{header_value, value_with};
-use containers::Sequence;
-use ion_hash::{field_hash, hash, struct_hash};
+use containers::{Bytes, Sequence};
+use ion_hash::{field_hash, hash, struct_form, struct_hash};
 use ion_values::{Field, OutOfMemory, Value, Values};
 use ledger_model::{Block, Content, Header, Info, Metadata, Revision, Revisions, Told};
 use pad_tree::root;
@@ -99,10 +99,14 @@ fn told_hash(alloc: Global, told: &Told, field: &Field) -> Result<[u8; 32], OutO
     }
 }
 
-/// The hash of what a transaction said and did, by its four fields.
-fn hash_of_told(alloc: Global, told: &Told, fields: &[Field]) -> Result<Hash32, OutOfMemory>
+/// The hashes of the four fields of what a transaction said and did.
+fn hashes_of_told(
+    alloc: Global,
+    told: &Told,
+    fields: &[Field],
+) -> Result<Vec<[u8; 32]>, OutOfMemory>
     requires { length fields.now ≡ 4 }
-    ensures { IfOk result (λ hash. hash ≡ struct_hash (spec.hashes_told told.now fields.now)) }
+    ensures { IfOk result (λ hashes. hashes.items ≡ spec.hashes_told told.now fields.now) }
 {
     let [place, said, schema, documents] = fields else {
         unreachable!();
@@ -112,7 +116,18 @@ fn hash_of_told(alloc: Global, told: &Told, fields: &[Field]) -> Result<Hash32, 
     hashes.push(told_hash(alloc, told, said)?)?;
     hashes.push(field_hash(alloc, schema)?)?;
     hashes.push(field_hash(alloc, documents)?)?;
-    struct_hash(alloc, hashes)
+    Ok(hashes)
+}
+
+/// What the hash of what a transaction said and did is the hash of.
+#[tactic(auto, using(crate::proofs::Hashing::told_same))]
+pub fn info_form(alloc: Global, info: &Info, revisions: &[Revision]) -> Result<Bytes, OutOfMemory>
+    ensures { IfOk result (λ form. form ≡ struct_bytes (info_hashes info.now revisions.now)) }
+{
+    let fields = info_fields(alloc, info, revisions)?;
+    let hashes = hashes_of_told(alloc, &info.said, fields.as_slice())?;
+    let form = struct_form(alloc, hashes)?;
+    Ok(form)
 }
 
 /// What a transaction said and did, as a value and its hash.
@@ -126,7 +141,8 @@ fn info_and_hash(
     ensures hash { IfOk result (λ made. made.1 ≡ info_hash info.now revisions.now) }
 {
     let fields = info_fields(alloc, info, revisions)?;
-    let hash = hash_of_told(alloc, &info.said, fields.as_slice())?;
+    let hashes = hashes_of_told(alloc, &info.said, fields.as_slice())?;
+    let hash = struct_hash(alloc, hashes)?;
     Ok((structure(alloc, fields), hash))
 }
 

@@ -4,7 +4,7 @@ use Rattle.clap.specs.Faults.{defaults_fault, walk_fault}
 use Rattle.clap.specs.Walk.{walked}
 use Rattle.cli_args.specs.declared.Command.TheVariants as command
 use Rattle.cli_args.specs.declared.IdSource.TheVariants as ids
-use Rattle.cli_args.specs.Forms.{audit_app, digest_app, export_app, extract_app, found_in, make_app, prove_app, run_app, verify_app}
+use Rattle.cli_args.specs.Forms.{audit_app, compact_app, digest_app, export_app, extract_app, found_in, make_app, prove_app, run_app, verify_app}
 use Rattle.cli_args.specs.Numbers.{number_of}
 use Rattle.cli_args.specs.Words.{asked}
 
@@ -86,6 +86,14 @@ extracts = refl
 extract_more : asked (codes "extract" ∷ codes "1" ∷ []) ≡ None
 unfolding found_in walk_fault defaults_fault walked extract_app
 extract_more = refl
+
+compacts : asked (codes "compact" ∷ []) ≡ Some command.Compact
+unfolding found_in walk_fault defaults_fault walked compact_app
+compacts = refl
+
+compact_more : asked (codes "compact" ∷ codes "1" ∷ []) ≡ None
+unfolding found_in walk_fault defaults_fault walked compact_app
+compact_more = refl
 
 exports : asked (codes "export" ∷ []) ≡ Some command.Export
 unfolding found_in walk_fault defaults_fault walked export_app

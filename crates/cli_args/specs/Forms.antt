@@ -61,6 +61,10 @@ extract_app = bare_app (codes "extract")
 unfoldable pub audit_app : App
 audit_app = bare_app (codes "audit")
 
+-- `compact`
+unfoldable pub compact_app : App
+compact_app = bare_app (codes "compact")
+
 -- `export`
 unfoldable pub export_app : App
 export_app = bare_app (codes "export")

@@ -3,7 +3,7 @@ use Rattle.std.specs.Prelude.{ℕ, ℤ, ◌*◌, nat_lt, Bool, true, false, List
 use Rattle.std.specs.Option.{option_map_or}
 use Rattle.std.specs.Str.{bytes_eq}
 use Rattle.clap.specs.Words.{Row, Text, first_of}
-use Rattle.cli_args.specs.Forms.{run_app, digest_app, prove_app, verify_app, extract_app, audit_app, export_app, make_app, found_in}
+use Rattle.cli_args.specs.Forms.{run_app, digest_app, prove_app, verify_app, extract_app, audit_app, compact_app, export_app, make_app, found_in}
 use Rattle.cli_args.specs.Numbers.{count_of, number_of}
 use Rattle.cli_args.specs.Times.{time_of}
 use Rattle.cli_args.specs.declared.Command.{Command}
@@ -99,6 +99,7 @@ asked_by word rest =
     else if bytes_eq word (codes "verify") then option_map (λ rows. command.Verify) (found_in verify_app rest)
     else if bytes_eq word (codes "extract") then option_map (λ rows. command.Extract) (found_in extract_app rest)
     else if bytes_eq word (codes "audit") then option_map (λ rows. command.Audit) (found_in audit_app rest)
+    else if bytes_eq word (codes "compact") then option_map (λ rows. command.Compact) (found_in compact_app rest)
     else if bytes_eq word (codes "export") then option_map (λ rows. command.Export) (found_in export_app rest)
     else if bytes_eq word (codes "make") then option_and_then make_of (found_in make_app rest)
     else None

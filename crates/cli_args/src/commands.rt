@@ -5,8 +5,8 @@ ghost use Rattle.cli_args.specs.Forms.{Gives, extract_app, found_in, rows_in};
 ghost use Rattle.cli_args.specs.Words as spec;
 
 use crate::forms::{
-    audit_form, digest_form, export_form, extract_form, found_in, make_form, prove_form, run_form,
-    verify_form,
+    audit_form, compact_form, digest_form, export_form, extract_form, found_in, make_form,
+    prove_form, run_form, verify_form,
 };
 use crate::values::{
     count_at, ids_of, number_at, number_at_will, small_number_at, text_at_will, time_at_will,
@@ -106,6 +106,14 @@ pub fn audit_in(alloc: Global, words: &[String]) -> Result<Command, WordsFault>
 {
     let _found = found_in(audit_form(alloc), words)?;
     Ok(Command::Audit)
+}
+
+/// What the words behind `compact` ask for.
+pub fn compact_in(alloc: Global, words: &[String]) -> Result<Command, WordsFault>
+    ensures { Gives result (option_map (λ _. Command.Compact) (found_in form.compact_app (map string_bytes words.now))) }
+{
+    let _found = found_in(compact_form(alloc), words)?;
+    Ok(Command::Compact)
 }
 
 /// What the words behind `export` ask for.

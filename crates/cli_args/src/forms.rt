@@ -69,6 +69,15 @@ pub fn audit_form<'a>(alloc: Global) -> Command<'a>
     bare(alloc, "audit")
 }
 
+/// `compact`.
+#[tactic(auto, unfolding(crate::specs::Forms::compact_app))]
+pub fn compact_form<'a>(alloc: Global) -> Command<'a>
+    ensures app { app_of result ≡ spec.compact_app }
+    ensures simple { is_simple_and_free spec.compact_app ≡ true }
+{
+    bare(alloc, "compact")
+}
+
 /// `export`.
 #[tactic(auto, unfolding(crate::specs::Forms::export_app))]
 pub fn export_form<'a>(alloc: Global) -> Command<'a>

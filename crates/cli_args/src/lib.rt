@@ -12,7 +12,9 @@ mod numbers;
 mod times;
 mod values;
 
-use commands::{audit_in, digest_in, export_in, extract_in, make_in, prove_in, run_in, verify_in};
+use commands::{
+    audit_in, compact_in, digest_in, export_in, extract_in, make_in, prove_in, run_in, verify_in,
+};
 use ion_values::{OutOfMemory, Text};
 use std::alloc::{AllocError, Global};
 
@@ -38,6 +40,8 @@ pub enum Command {
     Extract,
     /// Counts the blocks and the revisions of the journal.
     Audit,
+    /// Writes the lines of the journal without what its blocks redact.
+    Compact,
     /// Writes the blocks of the journal in Ion's binary encoding.
     Export,
     /// Runs a workload that is made from a seed.
@@ -113,7 +117,8 @@ impl From<OutOfMemory> for WordsFault {
 }
 
 /// The command that the words name. The first word is the command's own: `run`, `digest`, `prove`,
-/// `verify`, `extract`, `audit`, `export` or `make`. Those behind it are read by `clap`, each option at most once.
+/// `verify`, `extract`, `audit`, `compact`, `export` or `make`. Those behind it are read by `clap`,
+/// each option at most once.
 /// `Refused` comes exactly where there is no first word or another; where `clap` has a cause to
 /// refuse those behind it; where a number isn't decimal digits without a sign and without a zero in
 /// front, or passes 64 bits or, for the index of a revision, 32; where the number of workers isn't
@@ -150,6 +155,9 @@ fn asked_by(alloc: Global, word: &str, rest: &[String]) -> Result<Command, Words
     }
     if word == "audit" {
         return audit_in(alloc, rest);
+    }
+    if word == "compact" {
+        return compact_in(alloc, rest);
     }
     if word == "export" {
         return export_in(alloc, rest);

@@ -5,6 +5,7 @@ use Rattle.std.proofs.lemmas.List.{take-append-drop}
 use mathlib.Core.List.{IsPrefix}
 use Rattle.ledger_model.specs.declared.block.Block.{Block}
 use Rattle.ledger_model.specs.Damages.{Undamaged}
+use Rattle.ledger_model.specs.HashesAsked.{AreAsked}
 use Rattle.ledger_model.specs.Recovered.{IsJournal}
 use Rattle.outside.specs.Told.{StoreTold}
 use Rattle.outside.specs.Store.{Content, moment_of}
@@ -70,7 +71,7 @@ recovers_from before blocks tried image begins (inr h) = record {
 }
 
 pub sound_from : SafeRecovers → (before blocks tried : List Block) (marked : Bool) (content : Option Content) → take (length before) blocks ≡ before
-    → Undamaged blocks → IfSome content (IsSound blocks tried marked) → IfSome content (λ c. ImagesAre (RecoversFrom before) (moment_of c))
-sound_from law before blocks tried marked None is undamaged h = tt
-sound_from law before blocks tried marked (Some c) is undamaged h = λ image here.
-    recovers_from before blocks tried image (begins_by before blocks is) (law blocks tried (moment_of c) undamaged h.safe image here)
+    → Undamaged blocks → AreAsked blocks → IfSome content (IsSound blocks tried marked) → IfSome content (λ c. ImagesAre (RecoversFrom before) (moment_of c))
+sound_from law before blocks tried marked None is undamaged asked h = tt
+sound_from law before blocks tried marked (Some c) is undamaged asked h = λ image here.
+    recovers_from before blocks tried image (begins_by before blocks is) (law blocks tried (moment_of c) undamaged asked h.safe image here)

@@ -4,13 +4,10 @@ use Rattle.std.specs.Prelude.{◌≡◌, ℕ, List, map}
 use Rattle.ion_binary_out.specs.BinaryText.{Denotes, binary_text}
 use Rattle.ion_values.specs.declared.value.Value.{Value}
 use Rattle.ledger_model.specs.declared.block.Block.{Block}
+use Rattle.ledger_model.specs.Compaction.{compacted}
 use Rattle.ledger_model.specs.Journal.{block_value}
 
--- The blocks that are exported: those of the journal, which keeps the data of redacted revisions.
-abbrev pub compacted : List Block → List Block
-compacted blocks = blocks
-
--- the values that the lines of these blocks spell in the journal
+-- the values that the lines of these blocks spell in the journal, without what they redact
 abbrev pub exported_values : List Block → List Value
 exported_values blocks = map block_value (compacted blocks)
 

@@ -1,8 +1,11 @@
--- The commands `digest`, `prove`, `audit` and `export`, which ask something of a journal: its digest, the proof of a
--- revision, how much it holds, and its blocks (QLDB Developer Guide, "Data verification in Amazon QLDB", for digests).
+-- The commands `digest`, `prove`, `audit`, `compact` and `export`, which ask something of a journal: its digest, the
+-- proof of a revision, how much it holds, and its blocks without what they redact (QLDB Developer Guide, "Data
+-- verification in Amazon QLDB", for digests and proofs).
 use Rattle.std.specs.Prelude.{◌≡◌, ◌-◌, ◌⊎◌, ℕ, List, length, Option, Some, None, slice_get}
 use Rattle.ledger_model.specs.declared.block.Block.{Block}
 use Rattle.ledger_model.specs.declared.block.Revision.{Revision}
+use Rattle.ledger_model.specs.Compaction.{compacted, shown_revisions}
+use Rattle.ledger_model.specs.Journal.{journal_bytes}
 use Rattle.proof_model.specs.declared.Digest.{Digest}
 use Rattle.proof_model.specs.declared.Proof.{Proof}
 use Rattle.proof_model.specs.Issued.{IsDigest, proof_for}
@@ -35,8 +38,8 @@ pub record PublishesDigest (tip : ℕ) (blocks : List Block) (text : List ℕ) :
 
 -- ---- proofs
 
--- The text is that of the digest with this tip, the revision at this index of this block, and its proof, which shows
--- that the revision is in the journal.
+-- The text is that of the digest with this tip, the revision at this index of this block, with its data's hash where a
+-- block redacts it, and its proof, which shows that the revision is in the journal.
 pub record PublishesProof (sequence index tip : ℕ) (blocks : List Block) (text : List ℕ) : Type 0 where
   pub there : refusal blocks sequence index tip ≡ None
   pub digest : Digest
@@ -44,7 +47,7 @@ pub record PublishesProof (sequence index tip : ℕ) (blocks : List Block) (text
   pub block : Block
   pub block_is : slice_get blocks sequence ≡ Some block
   pub revision : Revision
-  pub revision_is : slice_get block.revisions index ≡ Some revision
+  pub revision_is : slice_get (shown_revisions blocks block.info.tables block.revisions) index ≡ Some revision
   pub proof : Proof
   pub proof_is : proof ≡ proof_for blocks block sequence index tip
   pub accepted : Verified digest revision proof
@@ -57,6 +60,7 @@ abbrev pub Answers : Question → List Block → List ℕ → Type 0
 Answers (asks.Digest tip) blocks text = PublishesDigest (tip_in tip blocks) blocks text
 Answers (asks.Proof sequence index tip) blocks text = PublishesProof sequence index (tip_in tip blocks) blocks text
 Answers asks.Counts blocks text = text ≡ counts_text blocks
+Answers asks.Compact blocks text = text ≡ journal_bytes (compacted blocks)
 Answers asks.Export blocks bytes = IsExport blocks bytes
 
 -- there is no such digest or proof
@@ -64,6 +68,7 @@ abbrev pub HasNone : Question → List Block → NoSuch → Type 0
 HasNone (asks.Digest tip) blocks why = past_end blocks (tip_in tip blocks) ≡ Some why
 HasNone (asks.Proof sequence index tip) blocks why = refusal blocks sequence index (tip_in tip blocks) ≡ Some why
 HasNone asks.Counts blocks why = ⊥
+HasNone asks.Compact blocks why = ⊥
 HasNone asks.Export blocks why = ⊥
 
 -- ---- the claim

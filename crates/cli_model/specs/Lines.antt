@@ -107,6 +107,7 @@ damage_name damage.TimeFell = codes "TimeFell"
 damage_name damage.WrongPrevious = codes "WrongPrevious"
 damage_name damage.WrongHash = codes "WrongHash"
 damage_name damage.WrongState = codes "WrongState"
+damage_name damage.Unasked = codes "Unasked"
 
 abbrev pub damaged_line : ℕ → Damage → List ℕ
 damaged_line sequence kind =

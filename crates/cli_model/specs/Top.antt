@@ -41,6 +41,7 @@ claim_of (Some (command.Prove sequence index tip)) = asks_journal (asks.Proof se
 claim_of (Some command.Verify) = verifies
 claim_of (Some command.Extract) = extracts
 claim_of (Some command.Audit) = asks_journal asks.Counts
+claim_of (Some command.Compact) = asks_journal asks.Compact
 claim_of (Some command.Export) = asks_journal asks.Export
 claim_of (Some (command.Make options)) = makes options
 

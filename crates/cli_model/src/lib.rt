@@ -16,6 +16,8 @@ pub enum Question {
     },
     /// The number of blocks and the number of their revisions.
     Counts,
-    /// The blocks, in Ion's binary encoding.
+    /// The lines of the blocks without what they redact.
+    Compact,
+    /// The blocks, in Ion's binary encoding, without what they redact.
     Export,
 }

@@ -20,8 +20,8 @@ pub struct Pair {
     pub second: Bytes,
 }
 
-// Returns the hashed bytes of a field: the serializations of its name as a symbol and of its value.
-fn field_form(alloc: Global, field: &Field) -> Result<Bytes, OutOfMemory>
+/// The hashed bytes of a field: the serializations of its name as a symbol and of its value.
+pub fn field_form(alloc: Global, field: &Field) -> Result<Bytes, OutOfMemory>
     ensures { IfOk result (λ form. form ≡ symbol_bytes field.now.name ++ serialize field.now.value) }
 {
     let name = Value {

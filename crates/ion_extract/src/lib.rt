@@ -7,6 +7,7 @@ mod find;
 mod laws;
 
 pub use compare::{Compared, compare_hashed};
+pub use find::field_form;
 pub use laws::{
     annotated_is_injective, bytes_determine_bodies, equivalent_serialize_alike,
     escape_is_injective, field_form_is_injective, frame_is_injective, hashes_determine_fields,

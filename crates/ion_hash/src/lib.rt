@@ -5,4 +5,4 @@ mod fields;
 mod scalars;
 mod values;
 
-pub use values::{field_hash, hash, serialize, struct_hash};
+pub use values::{field_hash, hash, serialize, struct_form, struct_hash};

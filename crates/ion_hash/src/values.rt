@@ -44,15 +44,23 @@ pub fn field_hash(alloc: Global, field: &Field) -> Result<[u8; 32], OutOfMemory>
     Ok(hash)
 }
 
+/// The serialization of a struct without annotations, from the hashes of its fields.
+pub fn struct_form(alloc: Global, hashes: Vec<[u8; 32]>) -> Result<Bytes, OutOfMemory>
+    ensures { IfOk result (λ form. form ≡ struct_bytes hashes.items) }
+{
+    let mut out = Buffer::new(alloc)?;
+    put_struct(&mut out, hashes)?;
+    Ok(out.into_bytes())
+}
+
 /// The hash of a struct without annotations, from the hashes of its fields.
 #[tactic(auto, unfolding(hash_model::specs::Serialize::struct_hash))]
 pub fn struct_hash(alloc: Global, hashes: Vec<[u8; 32]>) -> Result<Hash32, OutOfMemory>
     ensures { IfOk result (λ hash. hash ≡ struct_hash hashes.items) }
 {
-    let mut out = Buffer::new(alloc)?;
-    put_struct(&mut out, hashes)?;
+    let form = struct_form(alloc, hashes)?;
     Ok(Hash32 {
-        bytes: Sha256::digest(out.as_slice()),
+        bytes: Sha256::digest(form.as_slice()),
     })
 }
 

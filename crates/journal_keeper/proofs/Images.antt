@@ -5,6 +5,7 @@ use Rattle.std.specs.Prelude.{option_map, IfSome}
 use Rattle.std.specs.List.{AllByRecursion}
 use Rattle.ledger_model.specs.declared.block.Block.{Block}
 use Rattle.ledger_model.specs.Damages.{Undamaged}
+use Rattle.ledger_model.specs.HashesAsked.{AreAsked}
 use Rattle.ledger_model.specs.Journal.{journal_bytes}
 use Rattle.ledger_model.specs.Journal as journal
 use Rattle.outside.specs.Store.{AppendLeaves, Content, CutLeaves, Moment, appended, cut_to, lowered, moment_of, past_after, synced_whole}
@@ -186,14 +187,15 @@ untouched T F r done size marked before now out none same =
 
 -- ---- the append and its sync
 
-module _ (blocks tried : List Block) (b : Block) (sound : Undamaged (blocks ++ b ∷ [])) where
+module _ (blocks tried : List Block) (b : Block) (sound : Undamaged (blocks ++ b ∷ []))
+    (asked : AreAsked (blocks ++ b ∷ [])) where
   put_by : (kept : ℕ) (before now : Option Content) → now ≡ option_map (λ c. appended c (take kept (journal.line b))) before
       → IsSoundTold blocks tried false before → Keeps (IsSafe blocks (tried ++ b ∷ [])) blocks (tried ++ b ∷ []) true before now
   put_by kept before now e s =
       changes (IsSafe blocks (tried ++ b ∷ [])) blocks (tried ++ b ∷ []) true (IsSound blocks tried false)
       (λ c. appended c (take kept (journal.line b))) before now e
-      (λ c s. append_keeps blocks tried b kept c s sound)
-      (λ c s. one_moment (IsSafe blocks (tried ++ b ∷ [])) c (appended c (take kept (journal.line b))) refl (append_keeps blocks tried b kept c s sound).safe) s
+      (λ c s. append_keeps blocks tried b kept c s sound asked)
+      (λ c s. one_moment (IsSafe blocks (tried ++ b ∷ [])) c (appended c (take kept (journal.line b))) refl (append_keeps blocks tried b kept c s sound asked).safe) s
 
   failed_put : (T : Type 0) (fault : OutFault) (before now : Option Content) → AppendLeaves {T = T} (Err fault) before now (journal.line b)
       → IsSoundTold blocks tried false before → Keeps (IsSafe blocks (tried ++ b ∷ [])) blocks (tried ++ b ∷ []) true before now
@@ -205,7 +207,7 @@ module _ (blocks tried : List Block) (b : Block) (sound : Undamaged (blocks ++ b
   put_whole : (c : Content) → IsSound blocks tried false c → IsSound blocks (tried ++ b ∷ []) true (appended c (journal.line b))
   put_whole c s =
       subst (λ (l : List ℕ). IsSound blocks (tried ++ b ∷ []) true (appended c l)) (take-length (journal.line b))
-      (append_keeps blocks tried b (length (journal.line b)) c s sound)
+      (append_keeps blocks tried b (length (journal.line b)) c s sound asked)
 
   put_passes : (c : Content) → IsSound blocks tried false c → Passes (IsAmidLine blocks tried b) c (synced_whole (appended c (journal.line b)))
   put_passes c s =
@@ -226,24 +228,24 @@ pub append_failed : (T : Type 0) (r : Result T OutFault) (fault : OutFault) (lin
     → AppendLeaves {T = T} (Err fault) before now line → AppendKeeps r line before now
 append_failed T r fault line before now out left =
     subst (λ (x : Result T OutFault). AppendKeeps x line before now) (sym out)
-    (λ blocks tried b is sound s. failed_put blocks tried b sound T fault before now (subst (AppendLeaves {T = T} (Err fault) before now) is left) s)
+    (λ blocks tried b is sound asked s. failed_put blocks tried b sound asked T fault before now (subst (AppendLeaves {T = T} (Err fault) before now) is left) s)
 
 -- the line was appended, and its sync failed
 pub append_unsynced : (T : Type 0) (r : Result T OutFault) (fault : OutFault) (line : List ℕ) (before between now : Option Content) → r ≡ Err fault
     → between ≡ option_map (λ c. appended c line) before → now ≡ between → AppendKeeps r line before now
 append_unsynced T r fault line before between now out e same =
     subst (λ (x : Result T OutFault). AppendKeeps x line before now) (sym out)
-    (λ blocks tried b is sound s.
+    (λ blocks tried b is sound asked s.
     let whole : take (length (journal.line b)) (journal.line b) ≡ line = take-length (journal.line b) ∙ sym is in
-    put_by blocks tried b sound (length (journal.line b)) before now
+    put_by blocks tried b sound asked (length (journal.line b)) before now
     (same ∙ subst (λ (l : List ℕ). between ≡ option_map (λ c. appended c l) before) (sym whole) e) s)
 
 pub append_synced : (T : Type 0) (done : T) (line : List ℕ) (before between now : Option Content)
     → between ≡ option_map (λ c. appended c line) before → now ≡ option_map synced_whole between
     → AppendKeeps {T = T} {F = OutFault} (Ok done) line before now
 append_synced T done line before between now e f =
-    λ blocks tried b is sound s.
-    put_synced blocks tried b sound before between now (subst (λ (l : List ℕ). between ≡ option_map (λ c. appended c l) before) is e) f s
+    λ blocks tried b is sound asked s.
+    put_synced blocks tried b sound asked before between now (subst (λ (l : List ℕ). between ≡ option_map (λ c. appended c l) before) is e) f s
 
 -- ---- the cut, if one is marked, and then the append
 
@@ -252,7 +254,7 @@ pub line_unmade : (T F : Type 0) (r : Result T F) (fault : F) (line : List ℕ) 
     → r ≡ Err fault → now_marked ≡ marked → now ≡ before → LineKeeps r line size marked now_marked before now
 line_unmade T F r fault line size marked now_marked before now out mark same =
     subst (λ (x : Result T F). LineKeeps x line size marked now_marked before now) (sym out)
-    (λ blocks tried b is_long is sound s.
+    (λ blocks tried b is_long is sound asked s.
     stays (IsSafe blocks (tried ++ b ∷ [])) blocks (tried ++ b ∷ []) now_marked before now same
     (tried_told blocks tried b now_marked before (subst (λ (m : Bool). IsSoundTold blocks tried m before) (sym mark) s)))
 
@@ -261,7 +263,7 @@ pub line_unsettled : (T F : Type 0) (r : Result T F) (fault : F) (U : Type 0) (l
     → r ≡ Err fault → now_marked ≡ true → SettleKeeps {T = U} {F = F} (Err fault) size marked before now → LineKeeps r line size marked now_marked before now
 line_unsettled T F r fault U line size marked now_marked before now out mark settles =
     subst (λ (x : Result T F). LineKeeps x line size marked now_marked before now) (sym out)
-    (λ blocks tried b is_long is sound s.
+    (λ blocks tried b is_long is sound asked s.
     subst (λ (m : Bool). Keeps (IsSafe blocks (tried ++ b ∷ [])) blocks (tried ++ b ∷ []) m before now) (sym mark)
     (settles blocks (tried ++ b ∷ []) is_long (tried_told blocks tried b marked before s)))
 
@@ -271,9 +273,9 @@ pub line_unkept : (T F : Type 0) (r : Result T F) (fault : F) (U : Type 0) (done
     → LineKeeps r line size marked now_marked before now
 line_unkept T F r fault U done line size marked now_marked before between now out mark settles appends =
     subst (λ (x : Result T F). LineKeeps x line size marked now_marked before now) (sym out)
-    (λ blocks tried b is_long is sound s.
+    (λ blocks tried b is_long is sound asked s.
     let cut = settles blocks (tried ++ b ∷ []) is_long (tried_told blocks tried b marked before s) in
-    let put = appends blocks tried b is sound (any_told blocks tried false between cut.sound) in
+    let put = appends blocks tried b is sound asked (any_told blocks tried false between cut.sound) in
     subst (λ (m : Bool). Keeps (IsSafe blocks (tried ++ b ∷ [])) blocks (tried ++ b ∷ []) m before now) (sym mark)
     (record { sound = put.sound; passes = told_on (IsSafe blocks (tried ++ b ∷ [])) before between now cut.passes put.passes }))
 
@@ -282,9 +284,9 @@ pub line_kept : (T F U : Type 0) (done : T) (settled : U) (added : U) (line : Li
     → now_marked ≡ false → SettleKeeps {T = U} {F = F} (Ok settled) size marked before between → AppendKeeps {T = U} {F = F} (Ok added) line between now
     → LineKeeps {T = T} {F = F} (Ok done) line size marked now_marked before now
 line_kept T F U done settled added line size marked now_marked before between now mark settles appends =
-    λ blocks tried b is_long is sound s.
+    λ blocks tried b is_long is sound asked s.
     let cut = settles blocks (tried ++ b ∷ []) is_long (tried_told blocks tried b marked before s) in
-    let put = appends blocks tried b is sound (any_told blocks tried false between cut.sound) in
+    let put = appends blocks tried b is sound asked (any_told blocks tried false between cut.sound) in
     subst (λ (m : Bool). Keeps (IsAmidLine blocks tried b) (blocks ++ b ∷ []) [] m before now) (sym mark)
     (record {
       sound = put.sound;

@@ -3,6 +3,7 @@
 use Rattle.std.specs.Prelude.{◌≡◌, ◌⊎◌, ℕ, Bool, true, false, List, [], ◌∷◌, ◌++◌, Option, Result, Ok, Err, IfSome}
 use Rattle.ledger_model.specs.declared.block.Block.{Block}
 use Rattle.ledger_model.specs.Damages.{Undamaged}
+use Rattle.ledger_model.specs.HashesAsked.{AreAsked}
 use Rattle.ledger_model.specs.Journal as journal
 use Rattle.outside.specs.Store.{Content, Moment}
 use Rattle.laws_crash.specs.Sound.{IsSafe, IsSound}
@@ -40,11 +41,11 @@ IsAmidLine blocks tried b m = IsSafe blocks (tried ++ b ∷ []) m ⊎ IsSafe (bl
 abbrev pub AppendKeeps : {T F : Type 0} → Result T F → List ℕ → (before now : Option Content) → Type 0
 AppendKeeps (Ok done) line before now =
     (blocks tried : List Block) (b : Block) → line ≡ journal.line b → Undamaged (blocks ++ b ∷ [])
-    → IsSoundTold blocks tried false before
+    → AreAsked (blocks ++ b ∷ []) → IsSoundTold blocks tried false before
     → Keeps (IsAmidLine blocks tried b) (blocks ++ b ∷ []) [] false before now
 AppendKeeps (Err fault) line before now =
     (blocks tried : List Block) (b : Block) → line ≡ journal.line b → Undamaged (blocks ++ b ∷ [])
-    → IsSoundTold blocks tried false before
+    → AreAsked (blocks ++ b ∷ []) → IsSoundTold blocks tried false before
     → Keeps (IsSafe blocks (tried ++ b ∷ [])) blocks (tried ++ b ∷ []) true before now
 
 -- ---- both, the cut if one is marked
@@ -54,9 +55,9 @@ abbrev pub LineKeeps : {T F : Type 0} → Result T F → List ℕ → (size : �
     (before now : Option Content) → Type 0
 LineKeeps (Ok done) line size marked now_marked before now =
     (blocks tried : List Block) (b : Block) → size ≡ size_of blocks → line ≡ journal.line b
-    → Undamaged (blocks ++ b ∷ []) → IsSoundTold blocks tried marked before
+    → Undamaged (blocks ++ b ∷ []) → AreAsked (blocks ++ b ∷ []) → IsSoundTold blocks tried marked before
     → Keeps (IsAmidLine blocks tried b) (blocks ++ b ∷ []) [] now_marked before now
 LineKeeps (Err fault) line size marked now_marked before now =
     (blocks tried : List Block) (b : Block) → size ≡ size_of blocks → line ≡ journal.line b
-    → Undamaged (blocks ++ b ∷ []) → IsSoundTold blocks tried marked before
+    → Undamaged (blocks ++ b ∷ []) → AreAsked (blocks ++ b ∷ []) → IsSoundTold blocks tried marked before
     → Keeps (IsSafe blocks (tried ++ b ∷ [])) blocks (tried ++ b ∷ []) now_marked before now

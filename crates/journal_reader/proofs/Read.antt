@@ -1,5 +1,5 @@
 -- The front part of a store's bytes, read on.
-use Rattle.std.proofs.Common.{◌≡◌, ◌∙◌, ℕ, zero, suc, ◌+◌, ◌≤◌, Bool, List, [], ◌∷◌, ◌++◌, length, take, drop, refl, sym, ap, subst, Option, Some, None, append_assoc, arith, length-drop, length-take}
+use Rattle.std.proofs.Common.{◌≡◌, ◌∙◌, ℕ, zero, suc, ◌+◌, ◌≤◌, Bool, List, [], ◌∷◌, ◌++◌, length, take, drop, refl, sym, ap, subst, inl, Option, Some, None, append_assoc, arith, length-drop, length-take}
 use Rattle.std.specs.Prelude.{IfSome, nat_lt, option_map}
 use Rattle.std.proofs.Math.ListN.{drop_of_length-le}
 use Rattle.std.proofs.Math.Seq.{take-add, take-length}
@@ -7,12 +7,12 @@ use Rattle.std.proofs.lemmas.Bool.{le-ltb, ltb-false}
 use Rattle.std.proofs.lemmas.List.{take-append-drop}
 use Rattle.ledger_model.specs.declared.block.Block.{Block}
 use Rattle.ledger_model.specs.declared.damage.Damage.{Damage}
-use Rattle.ledger_model.specs.Recovered.{IsDamaged, IsJournal}
+use Rattle.ledger_model.specs.Recovered.{IsDamaged, IsDamagedLine, IsJournal}
 use Rattle.outside.specs.Store.{Content, ReadsAt}
 use Rattle.outside.specs.Told.{StoreTold, held}
 use Rattle.journal_text.specs.declared.journal.JournalFault.{JournalFault}
 use Rattle.journal_text.specs.declared.journal.JournalFault.TheVariants as journal
-use Rattle.journal_text.specs.Reading.{IsFault}
+use Rattle.journal_text.specs.Reading.{IsFault, IsLineFault}
 use Rattle.journal_reader.specs.declared.cause.LoadCause.{LoadCause}
 use Rattle.journal_reader.specs.declared.cause.LoadCause.TheVariants as cause
 use Rattle.journal_reader.specs.Loads.{IsCause, IsLoaded, IsRead, cause_of}
@@ -70,18 +70,27 @@ front-all (Some bytes) all size at front place past within =
 
 -- a fault that is found however the bytes go on is found in the store's bytes
 damaged-held : (held : Option (List ℕ)) (all piece : List ℕ) (size sequence : ℕ) (kind : Damage) → IsFront size (all ++ piece) held
-    → ((rest : List ℕ) → IsDamaged (all ++ (piece ++ rest)) sequence kind) → IfSome held (λ bytes. IsDamaged bytes sequence kind)
+    → ((rest : List ℕ) → IsDamagedLine (all ++ (piece ++ rest)) sequence kind) → IfSome held (λ bytes. IsDamaged bytes sequence kind)
 damaged-held None all piece size sequence kind front is = tt
 damaged-held (Some bytes) all piece size sequence kind front is =
     let rest = drop (length (all ++ piece)) bytes in
     let whole : all ++ (piece ++ rest) ≡ bytes =
     sym (append_assoc all piece rest) ∙ ap (λ xs. xs ++ rest) front.1 ∙ take-append-drop (length (all ++ piece)) bytes in
-    subst (λ (xs : List ℕ). IsDamaged xs sequence kind) whole (is rest)
+    inl (subst (λ (xs : List ℕ). IsDamagedLine xs sequence kind) whole (is rest))
 
 pub fed-cause : (was after : StoreTold) (all piece : List ℕ) (size : ℕ) (fault : JournalFault) → IsFront size (all ++ piece) (held was)
-    → after.faults ≡ was.faults → ((rest : List ℕ) → IsFault (all ++ (piece ++ rest)) fault) → IsCause (cause_of fault) was after
+    → after.faults ≡ was.faults → ((rest : List ℕ) → IsLineFault (all ++ (piece ++ rest)) fault) → IsCause (cause_of fault) was after
 fed-cause was after all piece size (journal.Damaged sequence kind) front same is = (damaged-held (held was) all piece size sequence kind front is, same)
 fed-cause was after all piece size journal.OutOfMemory front same is = same
+
+-- and one that is found at the end of the store's bytes
+pub ended-cause : (was after : StoreTold) (all : List ℕ) (fault : JournalFault) → IfSome (held was) (λ bytes. all ≡ bytes)
+    → after.faults ≡ was.faults → IsFault all fault → IsCause (cause_of fault) was after
+ended-cause was after all (journal.Damaged sequence kind) whole same is = (held-damaged (held was) whole, same) where
+  held-damaged : (h : Option (List ℕ)) → IfSome h (λ bytes. all ≡ bytes) → IfSome h (λ bytes. IsDamaged bytes sequence kind)
+  held-damaged None w = tt
+  held-damaged (Some bytes) w = subst (λ (xs : List ℕ). IsDamaged xs sequence kind) w is
+ended-cause was after all journal.OutOfMemory whole same is = same
 
 -- what went before left the store as it was
 pub cause-since : (why : LoadCause) (was before after : StoreTold) → before.content ≡ was.content → before.faults ≡ was.faults → IsCause why before after

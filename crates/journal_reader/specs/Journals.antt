@@ -4,6 +4,7 @@ use Rattle.std.specs.Coded.{Coded, code_by, coded×, coded_ℕ, coded_bool, code
 use Rattle.ledger_model.specs.declared.block.Block.{Block}
 use Rattle.ledger_model.specs.contracts.block.Block as block
 use Rattle.ledger_model.specs.Damages.{Undamaged}
+use Rattle.ledger_model.specs.HashesAsked.{AreAsked}
 use Rattle.ledger_model.specs.Journal.{journal_bytes}
 
 -- its blocks, the length of their lines in bytes, and whether more bytes stand after them
@@ -20,4 +21,5 @@ journal_code =
 -- what a journal that was read keeps true
 pub record IsSound (j : JournalRead) : Type 0 where
   pub undamaged : Undamaged j.blocks
+  pub asked : AreAsked j.blocks
   pub long : j.size ≡ length (journal_bytes j.blocks)

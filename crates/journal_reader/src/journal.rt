@@ -2,8 +2,10 @@
 ghost use Rattle.std.specs.Prelude.{◌≡◌, ◌+◌, ◌≤◌, ◌-◌, None, true, length, slice_get, IfOk, OnOk, IfErr, IfSome, MatchResult};
 ghost use Rattle.outside.specs.Told.{held};
 ghost use Rattle.ledger_model.specs.Damages.{Undamaged};
+ghost use Rattle.ledger_model.specs.HashesAsked.{AreAsked};
 ghost use Rattle.ledger_model.specs.Journal.{journal_bytes};
 ghost use Rattle.journal_text.specs.Feeding.{taken};
+ghost use Rattle.journal_text.specs.Reading.{IsFault};
 ghost use Rattle.proof_model.specs.Issued.{IsAccepted, IsDigest, proof_for};
 ghost use Rattle.proof_issue.specs.Refusals.{IsRefused, past_end, refusal};
 ghost use Rattle.journal_reader.specs.Loads.{IsCause, IsLoaded, IsRead};
@@ -11,7 +13,7 @@ ghost use Rattle.journal_reader.specs.Loads.{IsCause, IsLoaded, IsRead};
 use crate::cause::LoadCause;
 use crate::chain::Chain;
 use crate::reading::{Stored, read_stored};
-use ion_values::OutOfMemory;
+use journal_text::JournalFault;
 use ledger_model::Blocks;
 use outside::JournalStore;
 use proof_issue::{NoSuch, digest, prove, prove_grown};
@@ -43,7 +45,7 @@ impl Model for Journal {
 
 impl Journal {
     /// Reads the store to its end and returns the journal that it holds. It is read by pieces, and no byte of it
-    /// changes. It returns `Damaged` at the first damaged line, and `StoreFault` only if the store failed.
+    /// changes. It returns `Damaged` at the first damaged block, and `StoreFault` only if the store failed.
     pub fn read<S: JournalStore>(alloc: Global, store: &mut S) -> Result<Journal, LoadCause>
         ensures journal { IfOk result (λ j. IsLoaded (held (S.told store.old)) j.blocks j.rest) }
         ensures content { (S.told store.new).content ≡ (S.told store.old).content }
@@ -59,6 +61,7 @@ impl Journal {
     pub fn blocks(&self) -> &Blocks
         ensures blocks { result.now.list ≡ self.now.blocks }
         ensures undamaged { Undamaged self.now.blocks }
+        ensures asked { AreAsked self.now.blocks }
     {
         self.chain.blocks()
     }
@@ -109,6 +112,7 @@ impl Journal {
     /// The blocks of the journal. It takes no memory.
     pub fn into_blocks(self) -> Blocks
         ensures blocks { result.list ≡ self.blocks }
+        ensures asked { AreAsked self.blocks }
         ensures undamaged { Undamaged self.blocks }
     {
         let Journal {
@@ -122,6 +126,7 @@ impl Journal {
     /// The chain of the blocks, the length of their lines, and whether more bytes stand after them. It takes no memory.
     pub fn into_parts(self) -> (Chain, u64, bool)
         ensures blocks { result.0.list ≡ self.blocks }
+        ensures asked { AreAsked self.blocks }
         ensures size { result.1 ≡ length (journal_bytes self.blocks) }
         ensures rest { result.2 ≡ self.rest }
         ensures undamaged { Undamaged self.blocks }
@@ -132,16 +137,17 @@ impl Journal {
 }
 
 /// The journal of the bytes that were read.
-fn journal_of(alloc: Global, stored: Stored) -> Result<Journal, OutOfMemory>
+fn journal_of(alloc: Global, stored: Stored) -> Result<Journal, JournalFault>
     requires reads { stored.reader.damaged ≡ None }
     requires size { stored.size ≡ length (taken stored.reader) }
-    ensures { IfOk result (λ j. IsRead (taken stored.reader) j.blocks j.rest) }
+    ensures read { IfOk result (λ j. IsRead (taken stored.reader) j.blocks j.rest) }
+    ensures fault { IfErr result (IsFault (taken stored.reader)) }
 {
     let Stored {
         reader,
         size: read_to,
     } = stored;
-    let (listed, size) = reader.end();
+    let (listed, size) = reader.end()?;
     let chain = Chain::of(alloc, listed)?;
     Ok(Journal {
         chain,

@@ -9,12 +9,13 @@ use Rattle.ledger_model.specs.declared.block.Block.{Block}
 use Rattle.ledger_model.specs.declared.damage.Damage.{Damage}
 use Rattle.ledger_model.specs.Journal.{line, journal_bytes}
 use Rattle.ledger_model.specs.Damages.{damage_behind, has_hashes, strand_of, UndamagedBehind, Undamaged}
-use Rattle.ledger_model.specs.Recovered.{Fails, IsLineOf, IsJournal, IsDamaged}
+use Rattle.ledger_model.specs.HashesAsked.{AreAsked}
+use Rattle.ledger_model.specs.Recovered.{Fails, IsLineOf, IsJournal, IsDamagedLine}
 use Rattle.journal_text.specs.declared.journal.JournalFault.{JournalFault}
 use Rattle.journal_text.specs.declared.journal.JournalFault.TheVariants as fault
 use Rattle.journal_text.specs.declared.registry.Registry.{Registry}
 use Rattle.journal_text.specs.Stands.{Stands}
-use Rattle.journal_text.specs.Reading.{IsFault, IsRefused, StandsBehind}
+use Rattle.journal_text.specs.Reading.{IsLineFault, IsRefused, StandsBehind}
 use Rattle.journal_text.specs.Feeding.{IsOneMore, IsReader}
 use Rattle.journal_text.proofs.Feeds.{NoFeed}
 use Rattle.journal_text.proofs.Growing.{hashes_behind, journal_more, stands_more, undamaged_more}
@@ -66,7 +67,7 @@ long_more blocks begun text b is =
 
 damaged_fed : (blocks : List Block) (begun text rest : List ℕ) (sequence : ℕ) (kind : Damage) → Undamaged blocks → NoFeed begun → NoFeed text
     → sequence ≡ length blocks → Fails blocks ((begun ++ text) ++ 10 ∷ []) kind
-    → IsDamaged ((journal_bytes blocks ++ begun) ++ ((text ++ 10 ∷ []) ++ rest)) sequence kind
+    → IsDamagedLine ((journal_bytes blocks ++ begun) ++ ((text ++ 10 ∷ []) ++ rest)) sequence kind
 damaged_fed blocks begun text rest sequence kind u h k is f = (
   blocks,
   is,
@@ -83,7 +84,7 @@ damaged_fed blocks begun text rest sequence kind u h k is f = (
 )
 
 pub fault_fed : (blocks : List Block) (begun text rest : List ℕ) (fault : JournalFault) → Undamaged blocks → NoFeed begun → NoFeed text
-    → IsRefused blocks ((begun ++ text) ++ 10 ∷ []) fault → IsFault ((journal_bytes blocks ++ begun) ++ ((text ++ 10 ∷ []) ++ rest)) fault
+    → IsRefused blocks ((begun ++ text) ++ 10 ∷ []) fault → IsLineFault ((journal_bytes blocks ++ begun) ++ ((text ++ 10 ∷ []) ++ rest)) fault
 fault_fed blocks begun text rest (fault.Damaged sequence kind) u h k r = damaged_fed blocks begun text rest sequence kind u h k r.0 r.1
 fault_fed blocks begun text rest fault.OutOfMemory u h k r = tt
 
@@ -93,12 +94,12 @@ dropped : (front rest : List ℕ) → drop (length front) (front ++ rest) ≡ re
 dropped [] rest = refl
 dropped (x ∷ front) rest = dropped front rest
 
-pub is_journal : (blocks : List Block) (begun : List ℕ) (size : ℕ) → Undamaged blocks → NoFeed begun → size ≡ length (journal_bytes blocks)
+pub is_journal : (blocks : List Block) (begun : List ℕ) (size : ℕ) → Undamaged blocks → AreAsked blocks → NoFeed begun → size ≡ length (journal_bytes blocks)
     → IsJournal (journal_bytes blocks ++ begun) blocks (drop size (journal_bytes blocks ++ begun))
-is_journal blocks begun size u h long =
+is_journal blocks begun size u asked h long =
     let rest : drop size (journal_bytes blocks ++ begun) ≡ begun =
     ap (λ n. drop n (journal_bytes blocks ++ begun)) long ∙ dropped (journal_bytes blocks) begun in
-    subst (λ (z : List ℕ). IsJournal (journal_bytes blocks ++ begun) blocks z) (sym rest) (record { lines = refl; torn = h; undamaged = u })
+    subst (λ (z : List ℕ). IsJournal (journal_bytes blocks ++ begun) blocks z) (sym rest) (record { lines = refl; torn = h; undamaged = u; asked = asked })
 
 -- ---- each block of an undamaged journal
 
@@ -227,7 +228,7 @@ fed_more piece old so_far new at count before more is =
     ap (λ z. take at piece ++ z) (through_front (drop at piece) ∙ ap (λ n. take n (drop at piece)) (sym is)) ∙ sym (take-add at count piece))
 
 pub fed_fault : (piece old so_far : List ℕ) (at : ℕ) (fault : JournalFault) → so_far ≡ old ++ take at piece
-    → ((rest : List ℕ) → IsFault (so_far ++ (take_through 10 (drop at piece) ++ rest)) fault) → (rest : List ℕ) → IsFault (old ++ (piece ++ rest)) fault
+    → ((rest : List ℕ) → IsLineFault (so_far ++ (take_through 10 (drop at piece) ++ rest)) fault) → (rest : List ℕ) → IsLineFault (old ++ (piece ++ rest)) fault
 fed_fault piece old so_far at fault before is rest =
     let left = drop at piece in
     let through = take_through 10 left in
@@ -237,4 +238,4 @@ fed_fault piece old so_far at fault before is rest =
     ap (λ z. so_far ++ z) (sym (append_assoc through (drop (length through) left) rest) ∙ ap (λ z. z ++ rest) cut)
     ∙ ap (λ z. z ++ (left ++ rest)) before ∙ append_assoc old (take at piece) (left ++ rest)
     ∙ ap (λ z. old ++ z) (sym (append_assoc (take at piece) left rest) ∙ ap (λ z. z ++ rest) (take-append-drop at piece)) in
-    subst (λ (bytes : List ℕ). IsFault bytes fault) whole (is (drop (length through) left ++ rest))
+    subst (λ (bytes : List ℕ). IsLineFault bytes fault) whole (is (drop (length through) left ++ rest))

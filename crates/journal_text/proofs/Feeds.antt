@@ -1,6 +1,5 @@
 -- Line feeds in bytes: the first one splits them in one way.
-use Rattle.std.proofs.Common.{◌≡◌, ◌==◌, ℕ, Bool, true, false, not, List, [], ◌∷◌, ◌++◌, refl, ap, sym, subst, eq-eqb}
-use Rattle.std.specs.List.{list_all}
+use Rattle.std.proofs.Common.{◌≡◌, ◌==◌, ℕ, true, false, not, List, [], ◌∷◌, ◌++◌, refl, sym, eq-eqb}
 use Rattle.std.proofs.lemmas.Bool.{and_parts, not-true}
 use Rattle.ledger_model.specs.Recovered.{has_no_line_feed}
 

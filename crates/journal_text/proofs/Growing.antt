@@ -9,7 +9,7 @@ use Rattle.ledger_model.specs.Journal.{line, journal_bytes}
 use Rattle.ledger_model.specs.Whole.{IsWhole}
 use Rattle.ledger_model.specs.Follows.{follows_blocks}
 use Rattle.ledger_model.specs.Damages.{damage_behind, has_address, has_hashes, has_id, has_previous, has_time, strand_of, UndamagedBehind, Undamaged}
-use Rattle.ledger_model.specs.Recovered.{Fails, IsLineOf, IsDamaged}
+use Rattle.ledger_model.specs.Recovered.{Fails, IsLineOf, IsDamagedLine}
 use Rattle.journal_text.specs.declared.registry.Registry.{Registry}
 use Rattle.journal_text.specs.Stands.{Stands}
 use Rattle.journal_text.specs.Reading.{StandsBehind}
@@ -54,7 +54,7 @@ stands_more before b r h = λ next. subst (λ strand. Stands strand (before ++ b
 
 pub damaged :
     (bytes text rest : List ℕ) (at sequence : ℕ) (blocks : List Block) (kind : Damage) → bytes ≡ journal_bytes blocks ++ drop at bytes →
-    drop at bytes ≡ text ++ 10 ∷ rest → feeds.NoFeed text → Undamaged blocks → sequence ≡ length blocks → Fails blocks (text ++ 10 ∷ []) kind → IsDamaged bytes sequence kind
+    drop at bytes ≡ text ++ 10 ∷ rest → feeds.NoFeed text → Undamaged blocks → sequence ≡ length blocks → Fails blocks (text ++ 10 ∷ []) kind → IsDamagedLine bytes sequence kind
 damaged bytes text rest at sequence blocks kind so_far next one_line u is f = (
   blocks,
   is,
@@ -110,3 +110,4 @@ fails before text damage.TimeFell b is e = (b, is, e)
 fails before text damage.WrongPrevious b is e = (b, is, e)
 fails before text damage.WrongHash b is e = (b, is, e)
 fails before text damage.WrongState b is e = (b, is, e)
+fails before text damage.Unasked b is e = (b, is, e)

@@ -3,6 +3,7 @@ mod Scalars
 mod Written
 pub mod Lasts
 pub mod Admits
+pub mod Asked
 pub mod After
 pub mod Changed
 pub mod Distinct

@@ -1,6 +1,6 @@
 -- The bytes of a journal have one reading: the first line feed ends the first line, a line is that of one block, and behind
 -- the same blocks a line fails one check first.
-use Rattle.std.proofs.Common.{◌≡◌, ◌∙◌, ◌⊎◌, inl, inr, ℕ, suc, ◌+◌, ◌-◌, ◌≤◌, true, List, [], ◌∷◌, ◌++◌, length, drop, Option, Some, None, Ok, refl, sym, ap, subst, append_assoc, append-nil, length-append, length-drop, arith}
+use Rattle.std.proofs.Common.{◌≡◌, ◌∙◌, ◌⊎◌, inl, inr, ℕ, suc, ◌+◌, ◌-◌, ◌≤◌, List, [], ◌∷◌, ◌++◌, length, drop, Option, Some, None, Ok, refl, sym, ap, subst, append_assoc, append-nil, length-append, length-drop, arith}
 use Rattle.ion_values.specs.declared.value.Value.{Value}
 use Rattle.ion_model.specs.Write.{value_text}
 use Rattle.ion_model.specs.Read.{Answer, read_text}
@@ -12,7 +12,8 @@ use Rattle.ledger_model.specs.declared.damage.Damage.TheVariants as damage
 use Rattle.ledger_model.specs.Journal.{block_value, line, journal_bytes}
 use Rattle.ledger_model.specs.Whole.{IsWhole}
 use Rattle.ledger_model.specs.Damages.{damage_behind, UndamagedBehind, Undamaged}
-use Rattle.ledger_model.specs.Recovered.{has_no_line_feed, IsLineOf, Fails, IsJournal, IsDamagedBehind, IsDamaged}
+use Rattle.ledger_model.specs.Recovered.{IsLineOf, Fails, IsDamagedLine}
+use Rattle.ledger_model.specs.HashesAsked.{AreAsked, unasked}
 use Rattle.journal_text.specs.Laws.{JournalsTell}
 use Rattle.journal_text.proofs.Written.{written}
 use Rattle.journal_text.proofs.Feeds as feeds
@@ -68,6 +69,7 @@ fails_by before text damage.TimeFell f = inr f
 fails_by before text damage.WrongPrevious f = inr f
 fails_by before text damage.WrongHash f = inr f
 fails_by before text damage.WrongState f = inr f
+fails_by before text damage.Unasked f = inr f
 
 clash : (o : Option Damage) (kind : Damage) → o ≡ None → o ≡ Some kind → ⊥
 clash o kind e f = cc
@@ -170,21 +172,54 @@ same_place at front rest h e =
     let whole : length (front ++ rest) ≡ length front + length rest = length-append front rest in
     omega (arith, left, whole, h)
 
+-- ---- damage
+
+no_line_damaged :
+    Laws → (bytes : List ℕ) (blocks : List Block) (rest : List ℕ) (sequence : ℕ) (kind : Damage) → bytes ≡ journal_bytes blocks ++ rest → feeds.NoFeed rest →
+    Undamaged blocks → IsDamagedLine bytes sequence kind → ⊥
+no_line_damaged laws bytes blocks rest sequence kind lines torn u y =
+    let d = y.2 in
+    not_both laws [] y.0 blocks d.text d.rest rest kind d.undamaged u d.one_line torn d.fails (sym d.lines ∙ lines)
+
+not_asked : (sequence : ℕ) (o : Option ℕ) → o ≡ None → o ≡ Some sequence → ⊥
+not_asked sequence o e f = cc
+
+one_place : (m n : ℕ) (o : Option ℕ) → o ≡ Some m → o ≡ Some n → m ≡ n
+one_place m n o e f = cc
+
 -- ---- the law
 
 pub journals_tell : Laws → JournalsTell
 journals_tell laws = record {
-  written = λ blocks rest u h. record { lines = refl; torn = h; undamaged = u };
+  written = λ blocks rest u asked h. record { lines = refl; torn = h; undamaged = u; asked = asked };
   one_journal = λ bytes a b r s x y. one_journal laws [] a b r s x.undamaged y.undamaged x.torn y.torn (sym x.lines ∙ y.lines);
   offset = λ blocks read rest at u h within x.
       let one = one_journal laws [] read blocks (drop at (journal_bytes blocks ++ rest)) rest x.undamaged u x.torn h (sym x.lines) in
       (one.0, same_place at (journal_bytes blocks) rest within one.1);
-  undamaged = λ bytes blocks rest sequence kind x y.
-      let d = y.2 in
-      not_both laws [] y.0 blocks d.text d.rest rest kind d.undamaged x.undamaged d.one_line x.torn d.fails (sym d.lines ∙ x.lines);
-  one_damage = λ bytes m n j k x y.
-      let d = x.2 in
-      let e = y.2 in
-      let one = one_damage laws [] x.0 y.0 d.text d.rest e.text e.rest j k d.undamaged e.undamaged d.one_line e.one_line d.fails e.fails (sym d.lines ∙ e.lines) in
-      (x.1 ∙ one.0 ∙ sym y.1, one.1);
+  undamaged = λ bytes blocks rest sequence kind x y. elim y [
+    | inl z ↦ no_line_damaged laws bytes blocks rest sequence kind x.lines x.torn x.undamaged z
+    | inr z ↦
+        let u = z.1 in
+        let same = one_journal laws [] blocks u.blocks rest u.rest x.undamaged u.undamaged x.torn u.torn (sym x.lines ∙ u.lines) in
+        not_asked sequence (unasked u.blocks) (subst (λ (bs : List Block). AreAsked bs) same.0 x.asked) u.first
+  ];
+  one_damage = λ bytes m n j k x y. elim x [
+    | inl w ↦ elim y [
+      | inl z ↦
+          let d = w.2 in
+          let e = z.2 in
+          let one = one_damage laws [] w.0 z.0 d.text d.rest e.text e.rest j k d.undamaged e.undamaged d.one_line e.one_line d.fails e.fails (sym d.lines ∙ e.lines) in
+          (w.1 ∙ one.0 ∙ sym z.1, one.1)
+      | inr z ↦ let u = z.1 in absurd (no_line_damaged laws bytes u.blocks u.rest m j u.lines u.torn u.undamaged w)
+    ]
+    | inr w ↦
+        let t = w.1 in
+        elim y [
+          | inl z ↦ absurd (no_line_damaged laws bytes t.blocks t.rest n k t.lines t.torn t.undamaged z)
+          | inr z ↦
+              let u = z.1 in
+              let same = one_journal laws [] t.blocks u.blocks t.rest u.rest t.undamaged u.undamaged t.torn u.torn (sym t.lines ∙ u.lines) in
+              (one_place m n (unasked u.blocks) (subst (λ (bs : List Block). unasked bs ≡ Some m) same.0 t.first) u.first, w.0 ∙ sym z.0)
+        ]
+  ];
 }

@@ -1,7 +1,6 @@
 -- The redactions that are taken in, one behind the other.
 use Rattle.std.proofs.Common.{◌≡◌, ◌∙◌, ℕ, suc, ◌<◌, ◌≤◌, ◌==◌, length, drop, get_or, Bool, true, false, ◌&&◌, ◌||◌, not, cond, List, [], ◌∷◌, ◌++◌, append_assoc, append-nil, refl, sym, ap, subst, ⊎_elim}
-use Rattle.std.specs.List.{find, list_any}
-use Rattle.std.specs.Option.{option_map_or}
+use Rattle.std.specs.List.{list_any}
 use Rattle.std.specs.Ordering.{is_eq, nat_cmp, ordering_then}
 use Rattle.std.specs.declared.cmp.Ordering.{Ordering}
 use Rattle.std.specs.BTreeMap.{is_at}
@@ -16,7 +15,7 @@ use Rattle.ledger_model.specs.declared.block.Block.{Block}
 use Rattle.ledger_model.specs.declared.block.Schema.{Schema}
 use Rattle.ledger_model.specs.declared.block.Schema.TheVariants.{Create, Index, Drop, Redact}
 use Rattle.ledger_model.specs.State.{Recorded, names_revision, redacts, state}
-use Rattle.ledger_model.specs.Follows.{can_be_redacted, is_latest_at, named_by, redaction_follows, redactions_follow}
+use Rattle.ledger_model.specs.Follows.{can_be_redacted, is_latest_at, redaction_follows, redactions_follow}
 use Rattle.journal_text.specs.declared.registry.redactions.Redactions.{Redactions}
 use Rattle.journal_text.specs.Stands.{AreTaken, IsTaken, RedactionsStand, are_placed, has_named, has_redaction}
 use Rattle.journal_text.proofs.Fields.{is_eq-both, is_eq-nat_cmp}

@@ -1,7 +1,9 @@
 //! A journal, read line by line.
-ghost use Rattle.std.specs.Prelude.{◌≡◌, ◌≤◌, ◌+◌, ◌==◌, None, true, [], ◌∷◌, ◌++◌, drop, length, IfOk, IfErr, MatchOption};
+ghost use Rattle.std.specs.Prelude.{◌≡◌, ◌≤◌, ◌+◌, ◌==◌, None, true, [], ◌∷◌, ◌++◌, drop, length, ℕ, List, IfOk, IfErr, OnOk, MatchOption};
 ghost use Rattle.std.specs.List.{position};
-ghost use Rattle.ledger_model.specs.Damages.{damage_behind};
+ghost use Rattle.ledger_model.specs.Damages.{damage_behind, Undamaged};
+ghost use Rattle.ledger_model.specs.HashesAsked.{AreAsked};
+ghost use Rattle.ledger_model.specs.Journal.{journal_bytes};
 ghost use Rattle.ledger_model.specs.Recovered.{has_no_line_feed, IsLineOf, IsJournal};
 ghost use Rattle.journal_text.specs.Reading.{IsFault, IsRefused, StandsBehind};
 
@@ -89,8 +91,26 @@ pub(crate) fn next_block(
     }
 }
 
+/// Reports the first of these blocks with a hash in place of data or statements that isn't asked for, if there is one;
+/// the registry is of the blocks.
+pub(crate) fn check_asked(registry: &Registry, blocks: &[Block]) -> Result<(), JournalFault>
+    requires { StandsBehind blocks.now registry.now }
+    ensures asked { OnOk result (AreAsked blocks.now) }
+    ensures fault { IfErr result (λ fault. (rest : List ℕ) → Undamaged blocks.now → has_no_line_feed rest ≡ true
+        → IsFault (journal_bytes blocks.now ++ rest) fault) }
+{
+    match registry.unasked(blocks) {
+        None => Ok(()),
+        Some(sequence) => Err(JournalFault::Damaged {
+            sequence,
+            kind: Damage::Unasked,
+        }),
+    }
+}
+
 /// The blocks of all whole lines of a journal, and the offset of the rest, in which no line feed stands. `Damaged`
-/// comes exactly at the first whole line that fails a check, with the first check that it fails.
+/// comes exactly at the first whole line that fails a check, with the first check that it fails, or at the first block
+/// with a hash in place of data or statements that isn't asked for.
 pub fn read_journal(alloc: Global, bytes: &[u8]) -> Result<(Blocks, u64), JournalFault>
     ensures journal { IfOk result (λ read. IsJournal bytes.now read.0.list (drop read.1 bytes.now)) }
     ensures within { IfOk result (λ read. read.1 ≤ length bytes.now) }
@@ -104,5 +124,6 @@ pub fn read_journal(alloc: Global, bytes: &[u8]) -> Result<(Blocks, u64), Journa
         blocks.push(block)?;
         at += text.len() + 1;
     }
+    check_asked(&registry, blocks.as_slice())?;
     Ok((blocks, at as u64))
 }

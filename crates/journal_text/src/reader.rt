@@ -4,10 +4,10 @@ ghost use Rattle.std.specs.Io.BufRead.{take_through};
 ghost use Rattle.ledger_model.specs.Damages.{Undamaged};
 ghost use Rattle.ledger_model.specs.Recovered.{has_no_line_feed, IsJournal};
 ghost use Rattle.journal_text.specs.Feeding.{damage_in, lasting, taken, IsOneMore, SameTaken};
-ghost use Rattle.journal_text.specs.Reading.{IsFault, IsRefused, StandsBehind};
+ghost use Rattle.journal_text.specs.Reading.{IsFault, IsLineFault, IsRefused, StandsBehind};
 
 use crate::checks::damage_of;
-use crate::journal::{JournalFault, first_line, next_block};
+use crate::journal::{JournalFault, check_asked, first_line, next_block};
 use crate::registry::Registry;
 use ion_values::OutOfMemory;
 use ledger_model::{Block, Blocks};
@@ -72,7 +72,7 @@ impl JournalReader {
         ensures count { IfOk result (λ count. count ≡ length (take_through 10 piece.now)) }
         ensures same { OnErr result (SameTaken self.old self.new) }
         ensures fault { IfErr result (λ fault. self.old.damaged ≡ None → (rest : List ℕ) →
-            IsFault (taken self.old ++ (take_through 10 piece.now ++ rest)) fault) }
+            IsLineFault (taken self.old ++ (take_through 10 piece.now ++ rest)) fault) }
         ensures lasting { self.old.damaged ≡ None → self.new.damaged ≡ damage_in result }
     {
         if let Some(fault) = self.damaged {
@@ -96,7 +96,7 @@ impl JournalReader {
         ensures taken { OnOk result (taken self.new ≡ taken self.old ++ piece.now) }
         ensures reads { OnOk result (self.new.damaged ≡ None) }
         ensures fault { IfErr result (λ fault. (rest : List ℕ)
-            → IsFault (taken self.old ++ (piece.now ++ rest)) fault) }
+            → IsLineFault (taken self.old ++ (piece.now ++ rest)) fault) }
     {
         let mut at = 0;
         'lines: while at < piece.len() {
@@ -113,7 +113,7 @@ impl JournalReader {
         ensures taken { OnOk result (taken self.new ≡ taken self.old ++ (text.now ++ 10 ∷ [])) }
         ensures same { OnErr result (SameTaken self.old self.new) }
         ensures fault { IfErr result (λ fault. (rest : List ℕ)
-            → IsFault (taken self.old ++ ((text.now ++ 10 ∷ []) ++ rest)) fault) }
+            → IsLineFault (taken self.old ++ ((text.now ++ 10 ∷ []) ++ rest)) fault) }
         ensures lasting { self.new.damaged ≡ damage_in result }
     {
         let begun = self.line.len();
@@ -135,21 +135,27 @@ impl JournalReader {
         }
     }
 
-    /// The blocks of the whole lines that were taken, and the offset of the rest. It takes no memory.
-    pub fn end(self) -> (Blocks, u64)
+    /// The blocks of the whole lines that were taken, and the offset of the rest.
+    ///
+    /// `Damaged` comes exactly if a hash stands for data that no block redacts, or for the statements of a block behind
+    /// the last that redacts anything, with the first such block.
+    pub fn end(self) -> Result<(Blocks, u64), JournalFault>
         requires { self.damaged ≡ None }
-        ensures journal { IsJournal (taken self) result.0.list (drop result.1 (taken self)) }
-        ensures within { result.1 ≤ length (taken self) }
+        ensures journal { IfOk result (λ read. IsJournal (taken self) read.0.list (drop read.1 (taken self))) }
+        ensures within { IfOk result (λ read. read.1 ≤ length (taken self)) }
+        ensures fault { IfErr result (IsFault (taken self)) }
     {
         let JournalReader {
             blocks,
             size,
-            alloc: _,
-            registry: _,
+            alloc,
+            registry,
             line: _,
             damaged: _,
         } = self;
-        (blocks, size)
+        let registry = registry_for(alloc, blocks.as_slice(), registry)?;
+        check_asked(&registry, blocks.as_slice())?;
+        Ok((blocks, size))
     }
 }
 

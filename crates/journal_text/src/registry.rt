@@ -4,6 +4,7 @@ ghost use Rattle.std.specs.List.{list_all};
 ghost use Rattle.ledger_model.specs.declared.block.Block.{Block};
 ghost use Rattle.ledger_model.specs.State.{state, recorded_in};
 ghost use Rattle.ledger_model.specs.Damages.{has_address, has_id};
+ghost use Rattle.ledger_model.specs.HashesAsked.{unasked};
 ghost use Rattle.ledger_model.specs.Follows.{all_differ, created_ids, document_ids, follows_blocks, has_table, ids_follow, is_of, made_ids, revision_follows};
 ghost use Rattle.journal_text.specs.Stands.{HasKeys, Stands, has_transaction};
 
@@ -11,6 +12,7 @@ mod documents;
 mod ids;
 mod redactions;
 mod tables;
+mod unasked;
 
 use crate::registry::documents::Documents;
 use crate::registry::redactions::Redactions;
@@ -87,6 +89,16 @@ impl Registry {
             .record(block.info.tables.as_slice(), block.revisions.as_slice())?;
         self.transactions.insert(block.header.tx.raw)?;
         Ok(true)
+    }
+
+    /// The number of the first of these blocks, of which the registry is, with a hash that isn't asked for.
+    ///
+    /// It stands for data that no block redacts, or for statements although neither the block nor a later one redacts
+    /// anything. It takes no memory.
+    pub(crate) fn unasked(&self, blocks: &[Block]) -> Option<u64>
+        ensures { (strand : ℕ) → Stands strand blocks.now self.now → result ≡ unasked blocks.now }
+    {
+        unasked::first(&self.redactions, blocks)
     }
 
     /// Whether the block made the ids of its new tables and documents, no two of them equal.

@@ -40,7 +40,7 @@ passes_on P a b c ab bc = record {
 }
 
 pub safe_passes_recover : SafeRecovers → SafePassesRecover
-safe_passes_recover law blocks tried before now sound safe passes image left =
+safe_passes_recover law blocks tried before now sound asked safe passes image left =
     passes_leave (IsSafe blocks tried) (Recovers blocks tried) before now passes
-    (law blocks tried (moment_of before) sound safe)
-    (λ m at. law blocks tried m sound at) image left
+    (law blocks tried (moment_of before) sound asked safe)
+    (λ m at. law blocks tried m sound asked at) image left

@@ -7,6 +7,7 @@ use Rattle.std.proofs.lemmas.Bool.{and_parts}
 use Rattle.ledger_model.specs.declared.block.Block.{Block}
 use Rattle.ledger_model.specs.Journal.{line, journal_bytes}
 use Rattle.ledger_model.specs.Damages.{Undamaged}
+use Rattle.ledger_model.specs.HashesAsked.{AreAsked}
 use Rattle.ledger_model.specs.Recovered.{has_no_line_feed}
 use Rattle.outside.specs.Store.{Content, appended, cut_to, synced_whole, fronts_from}
 use Rattle.laws_crash.specs.Sound.{IsPart, IsSound, StandsAfter}
@@ -31,7 +32,7 @@ front_part : (blocks tried : List Block) (part : List ℕ) (k : ℕ) → IsPart 
 front_part blocks tried part k (inl torn) = inl (torn_front k part torn)
 front_part blocks tried part k (inr p) =
     let less = take_less k p.kept (line p.block) in
-    inr (record { block = p.block; kept = less.0; among = p.among; part_is = ap (take k) p.part_is ∙ less.1; undamaged = p.undamaged })
+    inr (record { block = p.block; kept = less.0; among = p.among; part_is = ap (take k) p.part_is ∙ less.1; undamaged = p.undamaged; asked = p.asked })
 
 take_after : (xs ys : List ℕ) (k : ℕ) → length xs ≤ k → take k (xs ++ ys) ≡ xs ++ take (k - length xs) ys
 take_after [] ys k le = ap (λ n. take n ys) (omega arith)
@@ -127,7 +128,7 @@ in_front xs b x h = (h.0, omega (arith, length-append xs (b ∷ []), h.1), at_fr
 more_part : (blocks tried : List Block) (b : Block) (part : List ℕ) → IsPart blocks tried part → IsPart blocks (tried ++ b ∷ []) part
 more_part blocks tried b part (inl torn) = inl torn
 more_part blocks tried b part (inr p) =
-    inr (record { block = p.block; kept = p.kept; among = in_front tried b p.block p.among; part_is = p.part_is; undamaged = p.undamaged })
+    inr (record { block = p.block; kept = p.kept; among = in_front tried b p.block p.among; part_is = p.part_is; undamaged = p.undamaged; asked = p.asked })
 
 more_after : (blocks tried : List Block) (b : Block) (whole : List ℕ) → StandsAfter blocks tried whole → StandsAfter blocks (tried ++ b ∷ []) whole
 more_after blocks tried b whole w = record { part = w.part; whole_is = w.whole_is; is_part = more_part blocks tried b w.part w.is_part }
@@ -152,17 +153,17 @@ at_end xs b = (length xs, omega (arith, length-append xs (b ∷ [])), at_seam xs
 
 -- a front part of the line after the lines
 line_after : (blocks tried : List Block) (b : Block) (kept : ℕ) (c : Content) → c.bytes ≡ journal_bytes blocks → Undamaged (blocks ++ b ∷ [])
-    → StandsAfter blocks (tried ++ b ∷ []) (c.bytes ++ take kept (line b))
-line_after blocks tried b kept c is sound = record {
+    → AreAsked (blocks ++ b ∷ []) → StandsAfter blocks (tried ++ b ∷ []) (c.bytes ++ take kept (line b))
+line_after blocks tried b kept c is sound asked = record {
   part = take kept (line b);
   whole_is = ap (λ bs. bs ++ take kept (line b)) is;
-  is_part = inr (record { block = b; kept = kept; among = at_end tried b; part_is = refl; undamaged = sound });
+  is_part = inr (record { block = b; kept = kept; among = at_end tried b; part_is = refl; undamaged = sound; asked = asked });
 }
 
 pub append_keeps : say.AppendKeeps
-append_keeps blocks tried b kept c s sound =
+append_keeps blocks tried b kept c s sound asked =
     let more = try_keeps blocks tried b false c s in
-    let whole = line_after blocks tried b kept c (s.alone refl) sound in
+    let whole = line_after blocks tried b kept c (s.alone refl) sound asked in
     let long : length c.bytes ≡ size_of blocks = ap length (s.alone refl) in
     record {
       safe = record {

@@ -3,6 +3,7 @@ use Rattle.std.specs.Prelude.{◌≡◌, ◌⊎◌, ℕ, Bool, true, false, List
 use Rattle.ledger_model.specs.declared.block.Block.{Block}
 use Rattle.ledger_model.specs.Journal.{line, journal_bytes}
 use Rattle.ledger_model.specs.Damages.{Undamaged}
+use Rattle.ledger_model.specs.HashesAsked.{AreAsked}
 use Rattle.ledger_model.specs.Recovered.{has_no_line_feed, IsJournal}
 use Rattle.outside.specs.Store.{Content, Moment, moment_of}
 use Rattle.laws_crash.specs.Pending.{AllHeld, ImagesAre, NothingPending}
@@ -17,6 +18,7 @@ pub record IsPartOfLine (blocks tried : List Block) (part : List ℕ) : Type 0 w
   pub among : Contains tried block
   pub part_is : part ≡ take kept (line block)
   pub undamaged : Undamaged (blocks ++ block ∷ [])
+  pub asked : AreAsked (blocks ++ block ∷ [])
 
 -- a rest that is no whole line, or such a part
 abbrev pub IsPart : List Block → List Block → List ℕ → Type 0
@@ -57,11 +59,11 @@ RecoversAlone blocks image = IsJournal image blocks []
 -- every image at a safe moment recovers
 abbrev pub SafeRecovers : Type 0
 SafeRecovers =
-    (blocks tried : List Block) (m : Moment) → Undamaged blocks → IsSafe blocks tried m
+    (blocks tried : List Block) (m : Moment) → Undamaged blocks → AreAsked blocks → IsSafe blocks tried m
     → ImagesAre (Recovers blocks tried) m
 
 -- and if no cut is marked, to the blocks alone
 abbrev pub UnmarkedRecovers : Type 0
 UnmarkedRecovers =
-    (blocks tried : List Block) (content : Content) → Undamaged blocks → IsSound blocks tried false content
-    → ImagesAre (RecoversAlone blocks) (moment_of content)
+    (blocks tried : List Block) (content : Content) → Undamaged blocks → AreAsked blocks
+    → IsSound blocks tried false content → ImagesAre (RecoversAlone blocks) (moment_of content)

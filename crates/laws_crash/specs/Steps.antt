@@ -3,6 +3,7 @@ use Rattle.std.specs.Prelude.{◌≡◌, ℕ, Bool, true, false, List, [], ◌�
 use Rattle.ledger_model.specs.declared.block.Block.{Block}
 use Rattle.ledger_model.specs.Journal.{line, journal_bytes}
 use Rattle.ledger_model.specs.Damages.{Undamaged}
+use Rattle.ledger_model.specs.HashesAsked.{AreAsked}
 use Rattle.ledger_model.specs.Recovered.{IsJournal}
 use Rattle.outside.specs.Store.{Content, appended, cut_to, lowered, synced_whole}
 use Rattle.laws_crash.specs.Pending.{NothingPending}
@@ -67,7 +68,8 @@ CutAndSyncSettles =
 abbrev pub AppendKeeps : Type 0
 AppendKeeps =
     (blocks tried : List Block) (b : Block) (kept : ℕ) (c : Content) → IsSound blocks tried false c
-    → Undamaged (blocks ++ b ∷ []) → IsSound blocks (tried ++ b ∷ []) true (appended c (take kept (line b)))
+    → Undamaged (blocks ++ b ∷ []) → AreAsked (blocks ++ b ∷ [])
+    → IsSound blocks (tried ++ b ∷ []) true (appended c (take kept (line b)))
 
 -- an append and then a sync, both Ok: the block stands after the others
 abbrev pub AppendAndSyncSeals : Type 0

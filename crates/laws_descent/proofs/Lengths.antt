@@ -11,7 +11,7 @@ use Rattle.ion_values.specs.declared.value.Field.{Field}
 use Rattle.ion_values.specs.declared.value.Body.TheFolds.{the_lemmas}
 use Rattle.hash_model.specs.Serialize.{escape, escaped, field_digest, field_hash, framed, in_order, is_control, joined, put_in_order, serialize, struct_bytes, symbol_bytes}
 use Rattle.ledger_model.specs.Journal.{string, structure}
-use Rattle.laws_descent.specs.Laws.{FourFieldsAreLong, IdsAreShort}
+use Rattle.laws_descent.specs.Laws.{FourFieldsAreLong, FourHashesAreLong, IdsAreShort}
 
 -- ---- escapes and frames
 
@@ -73,20 +73,25 @@ field_is : (f : Field) → field_hash f ≡ sha256 (symbol_bytes f.name ++ seria
 unfolding field_digest
 field_is f = search (rules, the_lemmas)
 
-length-field_hash : (f : Field) → length (field_hash f) ≡ 32
+pub length-field_hash : (f : Field) → length (field_hash f) ≡ 32
 length-field_hash f = ap length (field_is f) ∙ length-sha256 (symbol_bytes f.name ++ serialize f.value)
 
 struct_is : (fields : List Field) → serialize (structure fields) ≡ struct_bytes (map field_hash fields)
 struct_is fields = search (rules, the_lemmas)
 
+pub four_hashes_are_long : FourHashesAreLong
+four_hashes_are_long a b c d la lb lc ld =
+    let hashes = a ∷ b ∷ c ∷ d ∷ [] in
+    let size = length-framed 0xD0 (escape (joined (in_order hashes))) in
+    let more = (length-escape (joined (in_order hashes))).0 in
+    let all = length-in_order hashes ∙ four_hashes a b c d la lb lc ld in
+    omega (arith, size, more, all)
+
 pub four_fields_are_long : FourFieldsAreLong
 four_fields_are_long f g h i =
-    let hashes = field_hash f ∷ field_hash g ∷ field_hash h ∷ field_hash i ∷ [] in
-    let size = ap length (struct_is (f ∷ g ∷ h ∷ i ∷ [])) ∙ length-framed 0xD0 (escape (joined (in_order hashes))) in
-    let more = (length-escape (joined (in_order hashes))).0 in
-    let all = length-in_order hashes
-    ∙ four_hashes (field_hash f) (field_hash g) (field_hash h) (field_hash i) (length-field_hash f) (length-field_hash g) (length-field_hash h) (length-field_hash i) in
-    omega (arith, size, more, all)
+    let size = ap length (struct_is (f ∷ g ∷ h ∷ i ∷ [])) in
+    let long = four_hashes_are_long (field_hash f) (field_hash g) (field_hash h) (field_hash i) (length-field_hash f) (length-field_hash g) (length-field_hash h) (length-field_hash i) in
+    omega (arith, size, long)
 
 -- ---- ids
 

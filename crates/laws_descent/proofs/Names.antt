@@ -13,11 +13,9 @@ use Rattle.ion_values.proofs.Matching.{Taken, first, map_all, second, taken}
 use Rattle.ion_values.proofs.Relation.{at_field, int_is}
 use Rattle.ql_types.specs.declared.BlockAddress.{BlockAddress}
 use Rattle.ledger_model.specs.declared.block.Header.{Header}
-use Rattle.ledger_model.specs.declared.block.Told.{Told}
-use Rattle.ledger_model.specs.declared.block.Told.TheVariants as told
-use Rattle.ledger_model.specs.Journal.{address_value, document_values, id_value, list, moment, number, place_value, schema_value, structure, told_field}
+use Rattle.ledger_model.specs.Journal.{address_value, id_value, moment, number, structure}
 use Rattle.ledger_model.specs.Values.{field}
-use Rattle.laws_descent.specs.Laws.{HeadersAgree, MetadataAreNoInfo}
+use Rattle.laws_descent.specs.Laws.{HeadersAgree}
 
 -- ---- one multiset
 
@@ -128,27 +126,3 @@ headers_agree a b e =
     let address = first_of_four (address_field a) (address_field b) (tx_field b) (time_field b) (count_field b) refl refl refl has.0 in
     let count = last_of_four (count_field a) (address_field b) (tx_field b) (time_field b) (count_field b) refl refl refl has.1.1.1.0 in
     (sequences_agree a.address b.address address, numbers_agree a.revisions b.revisions count)
-
--- ---- metadata, and what a transaction said and did
-
-none_of_four : (f g h i j : Field) → bytes_eq f.name g.name ≡ false → bytes_eq f.name h.name ≡ false → bytes_eq f.name i.name ≡ false → bytes_eq f.name j.name ≡ false
-    → Has (is_equivalent_field f) (g ∷ h ∷ i ∷ j ∷ []) → ⊥
-none_of_four f g h i j a b c d (inl e) = differ f g a e
-none_of_four f g h i j a b c d (inr (inl e)) = differ f h b e
-none_of_four f g h i j a b c d (inr (inr (inl e))) = differ f i c e
-none_of_four f g h i j a b c d (inr (inr (inr (inl e)))) = differ f j d e
-none_of_four f g h i j a b c d (inr (inr (inr (inr none)))) = none
-
-no_told : (t : Told) → bytes_eq (codes "id") (told_field t).name ≡ false
-no_told (told.Said said) = refl
-no_told (told.Hashed hash) = refl
-
-pub metadata_are_no_info : MetadataAreNoInfo
-metadata_are_no_info m i revisions e =
-    let id = field (codes "id") (id_value m.id.raw) in
-    let place = field (codes "place") (place_value i.place) in
-    let schema = field (codes "schema") (list (map schema_value i.schema)) in
-    let documents = field (codes "documents") (list (document_values i.tables revisions)) in
-    let has = struct_has (id ∷ field (codes "version") (number m.version) ∷ field (codes "txTime") (moment m.time) ∷ field (codes "txId") (id_value m.tx.raw) ∷ [])
-    (place ∷ told_field i.said ∷ schema ∷ documents ∷ []) e in
-    none_of_four id place (told_field i.said) schema documents refl (no_told i.said) refl refl has.0

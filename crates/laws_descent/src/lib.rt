@@ -1,7 +1,9 @@
 //! What tells a wrong turn on the way from a digest down to a revision, by the definitions: how long what is hashed is,
-//! and what equivalent values of a ledger's parts agree in.
+//! and what equivalent headers agree in.
 #![tactic(auto)]
 
 mod laws;
 
-pub use laws::{four_fields_are_long, headers_agree, ids_are_short, metadata_are_no_info};
+pub use laws::{
+    field_hashes_are_long, four_fields_are_long, four_hashes_are_long, headers_agree, ids_are_short,
+};

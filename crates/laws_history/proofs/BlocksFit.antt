@@ -5,6 +5,8 @@ use Rattle.ion_values.specs.declared.time.TimeParts.{TimeParts}
 use Rattle.ledger_model.specs.declared.block.Block.{Block}
 use Rattle.ledger_model.specs.declared.outcome.PlacedOutcome.{PlacedOutcome}
 use Rattle.ledger_model.specs.Script.{Placed}
+use Rattle.ledger_model.specs.State.{state}
+use Rattle.laws_validity.proofs.Asking.{asked_grows, means_tells}
 use Rattle.laws_validity.proofs.Lists.{all_append, all_like}
 use Rattle.laws_history.specs.Records.{RunRecord, made, IsBehind, IsTimeIn, HasTime, HaveTimes, Before, IsOfSomeJob, InSessionOrder, FitsBlocks}
 use Rattle.laws_history.proofs.Histories.{Legal-more, strand_more, times_more, once_more}
@@ -23,6 +25,7 @@ pub FitsBlocks-same : (t : RunRecord) (outcomes : List PlacedOutcome) (closed : 
 FitsBlocks-same t outcomes closed h = record {
   begins = h.begins;
   undamaged = h.undamaged;
+  asked = h.asked;
   masked = h.masked;
   strand = h.strand;
   serial = h.serial;
@@ -72,6 +75,9 @@ module _ (t : RunRecord) (time : TimeParts) (among : IsTimeIn t.times time) (p :
   FitsBlocks-more outcomes closed among behind = record {
     begins = begins_on t.before t.after (b ∷ []) h.begins;
     undamaged = next.undamaged;
+    asked = λ a.
+        asked_grows t.after b (h.asked a)
+        (means_tells t.mask (state t.after) b (next-Means (standing t last) time p b next));
     masked = h.masked;
     strand = strand_more t.mask t.after b h.strand (next-strand (standing t last) time p b next);
     serial = Legal-more t.mask t.before t.after b h.begins h.serial (next-Means (standing t last) time p b next);

@@ -9,6 +9,7 @@ use Rattle.ledger_model.specs.declared.outcome.Outcome.{Outcome}
 use Rattle.ledger_model.specs.declared.outcome.Outcome.TheVariants.{Committed}
 use Rattle.ledger_model.specs.declared.outcome.PlacedOutcome.{PlacedOutcome}
 use Rattle.ledger_model.specs.Damages.{Undamaged}
+use Rattle.ledger_model.specs.HashesAsked.{AreAsked}
 use Rattle.ledger_model.specs.Follows.{all_differ}
 use Rattle.ledger_model.specs.Legal.{Legal}
 use Rattle.ledger_model.specs.Script.{Placed}
@@ -23,6 +24,7 @@ use Rattle.laws_history.specs.Seen.{blocks_in, reach}
 use Rattle.laws_history.specs.Attempts.{SendsOwn}
 use Rattle.laws_history.specs.Claims.{EachHolds, Fits, IsOfOwnDigest}
 use Rattle.laws_history.specs.Runs.{IsRunBy, RunsFit, Served, opening_of}
+use Rattle.laws_history.proofs.Asked.{asked_reached}
 use Rattle.laws_history.proofs.Dealt.{dealt_in_order, dealt_rest, rest_of, same_served}
 use Rattle.laws_history.proofs.Links.{InTime, IsLink, Link}
 use Rattle.laws_history.proofs.Lists.{all_stand, one_before, one_length, prefix_front, prefix_take, stands_all, stands_contains, stands_map}
@@ -296,6 +298,7 @@ module _ (t : RunRecord) (ss : List Served) (es : List Entry) (pass_of : ℕ →
   blocks_fit = record {
     begins = prefix_take t.before t.after begins_with;
     undamaged = subst (λ (bs : List Block). Undamaged bs) (sym r.after) r.right.undamaged;
+    asked = λ a. subst AreAsked (sym r.after) (asked_reached (reach_at o) es r.right.run a);
     masked = r.masked;
     strand = ap (mask_of t.mask) after_is
         ∙ strand_all t.mask t.before (sealed_in es) r.strand

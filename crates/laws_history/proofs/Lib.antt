@@ -14,6 +14,7 @@ pub mod Told
 pub mod Dealt
 pub mod Sealed
 pub mod Serial
+pub mod Asked
 pub mod Owners
 pub mod Order
 pub mod Fitting

@@ -31,7 +31,7 @@ first_legal r (sealed number b) es m rest = (
 first_legal r (failed number count b) es m rest = rest
 first_legal r (wanted number b) es m rest = rest
 
-all_legal : (r : Reach) (es : List Entry) → IsRunFrom r es → LegalFrom r.mask (state r.blocks) (sealed_in es)
+pub all_legal : (r : Reach) (es : List Entry) → IsRunFrom r es → LegalFrom r.mask (state r.blocks) (sealed_in es)
 all_legal r [] h = tt
 all_legal r (e ∷ es) h = first_legal r e es h.0 (all_legal (comes r e) es h.1)
 

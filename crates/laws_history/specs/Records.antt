@@ -17,6 +17,7 @@ use Rattle.ledger_model.specs.State.{state}
 use Rattle.ledger_model.specs.Run.{Progress, Ran, run, ran, refused}
 use Rattle.ledger_model.specs.Legal.{Legal, asked_in}
 use Rattle.ledger_model.specs.Damages.{Undamaged}
+use Rattle.ledger_model.specs.HashesAsked.{AreAsked}
 use Rattle.ledger_model.specs.Making.{time_behind}
 use Rattle.ledger_model.specs.Script.{Placed}
 use Rattle.laws_footprint.specs.Touches.{conflict}
@@ -113,6 +114,7 @@ InSessionOrder (b ∷ bs) = AllByRecursion (Before b.info.place) bs × InSession
 pub record FitsBlocks (t : RunRecord) : Type 0 where
   pub begins : take (length t.before) t.after ≡ t.before
   pub undamaged : Undamaged t.after
+  pub asked : AreAsked t.before → AreAsked t.after
   pub masked : HasMask t
   pub strand : mask_of t.mask t.after ≡ t.mask
   pub serial : Legal t.mask t.after (length t.before)

@@ -15,6 +15,8 @@ mod Redacted
 pub mod States
 mod Ready
 mod Progress
+mod Unredacted
+pub mod Asking
 mod Changes
 mod Revisions
 mod Revised

@@ -1,5 +1,5 @@
 -- The block of a transaction is whole.
-use Rattle.std.proofs.Common.{◌≡◌, ◌<◌, ◌^◌, ◌&&◌, ℕ, not, true, List, [], ◌∷◌, map, length, codes, refl, arith}
+use Rattle.std.proofs.Common.{◌≡◌, ◌<◌, ◌^◌, ◌&&◌, ℕ, true, List, [], ◌∷◌, map, length, codes, refl, arith}
 use Rattle.std.specs.Prelude.{nat_lt}
 use Rattle.std.specs.List.{AllByRecursion, list_all}
 use Rattle.std.proofs.lemmas.Bool.{and_from, and_parts, lt-ltb, ltb-true, le-leb, eq-eqb}
@@ -27,7 +27,7 @@ use Rattle.ledger_model.specs.declared.block.Block.{Block}
 use Rattle.ledger_model.specs.Values.{plain}
 use Rattle.ledger_model.specs.Journal.{hash_value, hash_bytes, address_value, metadata_value, revision_value, place_value, said_value, change_value, schema_value, document_value, document_values, told_field, info_value, block_value}
 use Rattle.ledger_model.specs.Whole as whole
-use Rattle.ledger_model.specs.Whole.{IsWhole, is_said, is_redacted, is_unredacted, content_fits, told_fits, id_fits, table_fits, hash_fits, entry_fits, address_fits, revision_fits, place_fits, schema_fits, info_fits, header_fits, hashes_fit, block_fits}
+use Rattle.ledger_model.specs.Whole.{IsWhole, content_fits, told_fits, id_fits, table_fits, hash_fits, entry_fits, address_fits, revision_fits, place_fits, schema_fits, info_fits, header_fits, hashes_fit, block_fits}
 use Rattle.laws_validity.specs.Makes.{change_within, said_within}
 use Rattle.laws_validity.proofs.Lists.{all_like, all_mapped, passes}
 use Rattle.laws_validity.proofs.Shapes.{Fine, FineField}
@@ -313,24 +313,6 @@ shallow_is Deleted f = refl
 shallow_is (Kept v) f = le-leb (depth_of v) 64 f.depth
 shallow_is (Redacted hash) f = absurd f
 
--- ---- nothing is redacted
-
-said_told : (t : Told) → FineTold t → is_said t ≡ true
-said_told (told.Said said) f = refl
-said_told (told.Hashed statements) f = absurd f
-
-kept_is : (c : Content) → FineContent c → not (is_redacted c) ≡ true
-kept_is Deleted f = refl
-kept_is (Kept v) f = refl
-kept_is (Redacted hash) f = absurd f
-
-unredacted_is : (b : Block) → FineBlock b → is_unredacted b ≡ true
-unredacted_is b f =
-    let contents = passes (λ r. not (is_redacted r.content)) b.revisions
-    (all_like FineRevision (λ r. not (is_redacted r.content) ≡ true) (λ r x. kept_is r.content x.content)
-    b.revisions f.revisions) in
-    and_from _ _ (said_told b.info.said f.said) contents
-
 pub whole_of : (b : Block) → FineBlock b → b.header.revisions ≡ length b.revisions
     → length b.info.tables ≡ length b.revisions → IsWhole b
 whole_of b f count tables =
@@ -344,5 +326,4 @@ whole_of b f count tables =
       depth = let d = v.depth in omega (arith, d);
       fits = block_is b f;
       ranges = v.ranges;
-      unredacted = unredacted_is b f;
     }

@@ -1,3 +1,4 @@
+pub mod Asking
 pub mod Makes
 pub mod Before
 pub mod Pending

@@ -117,6 +117,10 @@ pub works_counts : (same : Type 0) (x : Outside) (came : Result (List ℕ) Comma
     → Works same (Some command.Audit) came x
 works_counts same x came idle tells = works_so same (Some command.Audit) asks.Counts x idle (λ text g. g) (λ s line r. r) came tells.0
 
+pub works_compact : (same : Type 0) (x : Outside) (came : Result (List ℕ) CommandFault) → IsIdle x.source → Tells asks.Compact came x.store
+    → Works same (Some command.Compact) came x
+works_compact same x came idle tells = works_so same (Some command.Compact) asks.Compact x idle (λ text g. g) (λ s line r. r) came tells.0
+
 pub works_export : (same : Type 0) (x : Outside) (came : Result (List ℕ) CommandFault) → IsIdle x.source → Tells asks.Export came x.store
     → Works same (Some command.Export) came x
 works_export same x came idle tells = works_so same (Some command.Export) asks.Export x idle (λ text g. g) (λ s line r. r) came tells.0

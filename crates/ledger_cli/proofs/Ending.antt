@@ -47,6 +47,7 @@ keeps_all same (Some (command.Prove sequence index tip)) x un idle = (ap (λ (t 
 keeps_all same (Some command.Verify) x un idle = un
 keeps_all same (Some command.Extract) x un idle = ap (λ (t : StoreTold). t.content) un.told
 keeps_all same (Some command.Audit) x un idle = (ap (λ (t : StoreTold). t.content) un.told, idle)
+keeps_all same (Some command.Compact) x un idle = (ap (λ (t : StoreTold). t.content) un.told, idle)
 keeps_all same (Some command.Export) x un idle = (ap (λ (t : StoreTold). t.content) un.told, idle)
 keeps_all same (Some (command.Make options)) x un idle = (inl (stays_still x.store (ap (λ (t : StoreTold). t.content) un.told)), idle)
 

@@ -1,6 +1,7 @@
 pub mod Answering
 pub mod Asked
 pub mod Clocks
+pub mod Compacting
 pub mod Ending
 pub mod Exporting
 pub mod Extracting

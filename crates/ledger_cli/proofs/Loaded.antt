@@ -163,6 +163,7 @@ module _ {S C : Type 0} (told : S → StoreTold) (answers : C → Option (List �
     none_fits = record {
       begins = take_all (length opened.standing.blocks) opened.standing.blocks (omega arith);
       undamaged = has.sound.undamaged;
+      asked = λ asked. asked;
       masked = masked told answers always given before opened has workers some jobs in_order terms masks;
       strand = has.sound.strand;
       serial =
@@ -184,7 +185,7 @@ module _ {S C : Type 0} (told : S → StoreTold) (answers : C → Option (List �
         → StoppedLeaves (span before (told now.store)) opened.standing.blocks
     none_images law now keeps rest =
         sound_from (safe_recovers law) opened.standing.blocks opened.standing.blocks [] now.marked (told now.store).content none_fits.begins
-        none_fits.undamaged
+        none_fits.undamaged has.sound.asked
         (subst (λ (bs : List Block). IfSome (told now.store).content (IsSound bs [] now.marked)) keeps.behind.blocks
         (keeps.images.sound [] (has.images rest)))
 
@@ -249,7 +250,7 @@ module _ {S C : Type 0} (told : S → StoreTold) (answers : C → Option (List �
           synced = λ was. settled.synced (all.keeps.synced (λ unmarked. synced_content before (told opened.store) has.content was));
           images = λ rest.
               unmarked_alone unmarked_recovers (told now.store).content now.standing.blocks [] now.marked settled.clean
-              (as_settled Fits fits).blocks.undamaged (settled.images (tried_from [] all.entries) (all.keeps.images.sound [] (has.images rest)));
+              (as_settled Fits fits).blocks.undamaged ((as_settled Fits fits).blocks.asked has.sound.asked) (settled.images (tried_from [] all.entries) (all.keeps.images.sound [] (has.images rest)));
         }
 
       -- or not
@@ -258,7 +259,7 @@ module _ {S C : Type 0} (told : S → StoreTold) (answers : C → Option (List �
         images : StoppedLeaves (span before (told now.store)) opened.standing.blocks
         images rest =
             sound_from (safe_recovers law) opened.standing.blocks ran.standing.blocks (tried_from [] all.entries) now.marked (told now.store).content
-            fits.blocks.begins fits.blocks.undamaged
+            fits.blocks.begins fits.blocks.undamaged (fits.blocks.asked has.sound.asked)
             (subst (λ (s : Standing). IfSome (told now.store).content (IsSound s.blocks (tried_from [] all.entries) now.marked)) same_standing
             (sound (tried_from [] all.entries) (all.keeps.images.sound [] (has.images rest))))
 

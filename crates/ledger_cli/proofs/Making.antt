@@ -135,6 +135,7 @@ module _ (o : MakeOptions) where
           fits = record {
             begins = fits.begins;
             undamaged = fits.undamaged;
+            asked = fits.asked;
             masked = fits.masked;
             strand = fits.strand;
             serial = fits.serial;

@@ -4,7 +4,7 @@ use Rattle.std.specs.Prelude.{◌||◌, option_and_then, option_map, codes, nat_
 use Rattle.std.specs.Str.{bytes_eq}
 use Rattle.std.proofs.lemmas.Bool.{eqb-false}
 use Rattle.clap.specs.Words.{Row, Text, first_of}
-use Rattle.cli_args.specs.Forms.{audit_app, digest_app, export_app, extract_app, found_in, make_app, prove_app, run_app, verify_app}
+use Rattle.cli_args.specs.Forms.{audit_app, compact_app, digest_app, export_app, extract_app, found_in, make_app, prove_app, run_app, verify_app}
 use Rattle.cli_args.specs.Numbers.{from_one_to, number_of}
 use Rattle.cli_args.specs.Times.{time_of}
 use Rattle.cli_args.specs.Words.{asked, at_will, count_at, digest_of, ids_of, make_of, number_at, prove_of, run_of, tip_of, workers_in, workers_of}
@@ -82,8 +82,9 @@ asked_any (word ∷ rest) =
     (if_any (bytes_eq word (codes "verify")) _ _ (map_any _ (found_in verify_app rest) (λ rows _. tt))
     (if_any (bytes_eq word (codes "extract")) _ _ (map_any _ (found_in extract_app rest) (λ rows _. tt))
     (if_any (bytes_eq word (codes "audit")) _ _ (map_any _ (found_in audit_app rest) (λ rows _. tt))
+    (if_any (bytes_eq word (codes "compact")) _ _ (map_any _ (found_in compact_app rest) (λ rows _. tt))
     (if_any (bytes_eq word (codes "export")) _ _ (map_any _ (found_in export_app rest) (λ rows _. tt))
-    (if_any (bytes_eq word (codes "make")) _ None (then_any make_of (found_in make_app rest) (λ rows _. make_any rows)) tt)))))))
+    (if_any (bytes_eq word (codes "make")) _ None (then_any make_of (found_in make_app rest) (λ rows _. make_any rows)) tt))))))))
 
 pub has_workers : (words : List Text) (c : Command) → asked words ≡ Some c → HasWorkers c
 has_workers words c is = subst IfAny is (asked_any words)

@@ -6,11 +6,13 @@ ghost use Rattle.cli_model.specs.Exports.{IsExport};
 ghost use Rattle.ledger_cli.specs.Stops.{IsAnswerStop};
 
 use crate::command_fault::CommandFault;
+use crate::compact::compacted;
 use block_form::to_ion;
 use containers::Bytes;
 use ion_binary_out::{ValueSource, write_each};
 use ion_values::{OutOfMemory, Value};
-use ledger_model::{Block, Blocks};
+use journal_reader::Journal;
+use ledger_model::Block;
 use std::alloc::Global;
 
 /// The values of blocks, each made when it is asked for.
@@ -31,11 +33,13 @@ impl<'a> ValueSource for BlockValues<'a> {
     }
 }
 
-/// The blocks as a stream of values in Ion's binary encoding. No more than one block's value is held at a time.
-pub fn export_bytes(alloc: Global, blocks: &Blocks) -> Result<Bytes, CommandFault>
-    ensures exported { IfOk result (λ bytes. IsExport blocks.now.list bytes) }
-    ensures stop { IfErr result (λ stop. IsAnswerStop asks.Export blocks.now.list stop) }
+/// The blocks without what they redact, as a stream of values in Ion's binary encoding. No more than one block's value
+/// is held at a time.
+pub fn export_bytes(alloc: Global, journal: &Journal) -> Result<Bytes, CommandFault>
+    ensures exported { IfOk result (λ bytes. IsExport journal.now.blocks bytes) }
+    ensures stop { IfErr result (λ stop. IsAnswerStop asks.Export journal.now.blocks stop) }
 {
+    let blocks = compacted(alloc, journal)?;
     let values = BlockValues {
         blocks: blocks.as_slice(),
     };

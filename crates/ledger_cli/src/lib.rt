@@ -2,6 +2,7 @@
 #![tactic(auto)]
 
 mod command_fault;
+mod compact;
 mod counts;
 mod ends;
 mod export;

@@ -226,5 +226,6 @@ fn damage_name(kind: Damage) -> &'static str
         Damage::WrongPrevious => "WrongPrevious",
         Damage::WrongHash => "WrongHash",
         Damage::WrongState => "WrongState",
+        Damage::Unasked => "Unasked",
     }
 }

@@ -1,6 +1,8 @@
 //! The digest of a journal, and the proof of a revision.
 ghost use Rattle.std.specs.Prelude.{◌≡◌, length, IfOk, IfErr};
-ghost use Rattle.std.specs.Prelude.{slice_get, option_copied, option_and_then};
+ghost use Rattle.std.specs.Prelude.{slice_get, option_and_then};
+ghost use Rattle.ledger_model.specs.Compaction.{shown_revisions};
+ghost use Rattle.ledger_model.specs.Damages.{Undamaged};
 ghost use Rattle.cli_model.specs.Journals.{PublishesDigest, PublishesProof, tip_in};
 ghost use Rattle.cli_model.specs.declared.Question.TheVariants as asks;
 ghost use Rattle.cli_model.specs.Outputs.{bundle_text};
@@ -13,6 +15,7 @@ use ion_values::{OutOfMemory, Text};
 use journal_reader::Journal;
 use ledger_model::{Blocks, Revision};
 use proof_model::{Digest, Proof, digest_value, proof_value, undamaged_is_chained};
+use redact_tool::{Redactions, shown_revision};
 use std::alloc::Global;
 
 /// The tip that the words give, or the last block. If there is no block, it is 0.
@@ -53,12 +56,30 @@ fn bundle_text(
     Ok(text)
 }
 
-/// The revision at an index of the block of this number.
-fn revision_at(blocks: &Blocks, sequence: u64, index: u32) -> Option<&Revision>
-    ensures { option_copied result
-        ≡ option_and_then (λ b. slice_get b.revisions index) (slice_get blocks.now.list sequence) }
+/// The revision at an index of the block of this number, with its data's hash where a block redacts it.
+fn shown_at(
+    alloc: Global,
+    blocks: &Blocks,
+    sequence: u64,
+    index: u32,
+) -> Result<Option<Revision>, OutOfMemory>
+    requires { Undamaged blocks.now.list }
+    ensures { IfOk result (λ found. found ≡ option_and_then
+        (λ b. slice_get (shown_revisions blocks.now.list b.info.tables b.revisions) index)
+        (slice_get blocks.now.list sequence)) }
 {
-    blocks.get(sequence)?.revisions.get(index as usize)
+    let Some(block) = blocks.get(sequence) else {
+        return Ok(None);
+    };
+    let Some(revision) = block.revisions.get(index as usize) else {
+        return Ok(None);
+    };
+    let Some(table) = block.info.tables.get(index as usize) else {
+        return Ok(None);
+    };
+    let redactions = Redactions::of(alloc, blocks.as_slice())?;
+    let shown = shown_revision(alloc, &redactions, *table, revision)?;
+    Ok(Some(shown))
 }
 
 /// The text of the digest with this tip, of a revision, and of its proof.
@@ -78,9 +99,10 @@ pub fn proof_text(
     let digest = journal.digest(alloc, tip)?;
     let proof = journal.prove(alloc, sequence, index, tip)?;
     let blocks = journal.blocks();
-    let Some(revision) = revision_at(blocks, sequence, index) else {
+    let found = shown_at(alloc, blocks, sequence, index)?;
+    let Some(revision) = found else {
         unreachable!();
     };
-    let text = bundle_text(alloc, &digest, revision, &proof)?;
+    let text = bundle_text(alloc, &digest, &revision, &proof)?;
     Ok(text)
 }

@@ -6,6 +6,7 @@ ghost use Rattle.ledger_cli.specs.Questions.{Tells};
 ghost use Rattle.ledger_cli.specs.Stops.{IsAnswerStop};
 
 use crate::command_fault::CommandFault;
+use crate::compact::compact_text;
 use crate::counts::counts_text;
 use crate::export::export_bytes;
 use crate::output::bytes_of;
@@ -65,6 +66,7 @@ fn answer_in(alloc: Global, question: Question, journal: &Journal) -> Result<Byt
             tip,
         } => Ok(bytes_of(proof_text(alloc, journal, sequence, index, tip)?)),
         Question::Counts => Ok(bytes_of(counts_text(alloc, journal.blocks())?)),
-        Question::Export => export_bytes(alloc, journal.blocks()),
+        Question::Compact => Ok(bytes_of(compact_text(alloc, journal)?)),
+        Question::Export => export_bytes(alloc, journal),
     }
 }

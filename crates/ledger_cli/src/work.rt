@@ -79,6 +79,7 @@ pub fn work<
         }
         Command::Extract => extract_input(alloc, source, resources),
         Command::Audit => ask(alloc, Question::Counts, resources),
+        Command::Compact => ask(alloc, Question::Compact, resources),
         Command::Export => ask(alloc, Question::Export, resources),
         Command::Make(options) => make(alloc, host, options, resources),
     }

@@ -3,6 +3,7 @@ use Rattle.std.proofs.Common.{◌≡◌, ◌∙◌, ℕ, inl, inr, Bool, true, f
 use Rattle.std.specs.Prelude.{IfSome, option_map, slice_index_or}
 use Rattle.ledger_model.specs.declared.block.Block.{Block}
 use Rattle.ledger_model.specs.Damages.{Undamaged}
+use Rattle.ledger_model.specs.HashesAsked.{AreAsked}
 use Rattle.ledger_model.specs.Journal.{journal_bytes}
 use Rattle.ledger_model.specs.Journal as journal
 use Rattle.outside.specs.Store.{Content, Moment, moment_of}
@@ -44,10 +45,10 @@ module _ {S C : Type 0} (told : S → StoreTold) (h n : TailHeld S C) where
     passes = told_map P (IsAmid told h n amid) (told h.store).content (told n.store).content f k.passes;
   }
 
-  acknowledged : Undamaged n.standing.blocks → n.marked ≡ false → IsSoundTail told [] n → IsAcknowledged told n
-  acknowledged whole mark s =
+  acknowledged : Undamaged n.standing.blocks → AreAsked n.standing.blocks → n.marked ≡ false → IsSoundTail told [] n → IsAcknowledged told n
+  acknowledged whole asked mark s =
       if_some (IsSound n.standing.blocks [] false) (λ c. ImagesAre (RecoversAlone n.standing.blocks) (moment_of c)) (told n.store).content
-      (λ c sound. unmarked_recovers n.standing.blocks [] c whole sound)
+      (λ c sound. unmarked_recovers n.standing.blocks [] c whole asked sound)
       (subst (λ (x : Bool). IfSome (told n.store).content (IsSound n.standing.blocks [] x)) mark s)
 
   -- ---- a call that leaves the store
@@ -67,7 +68,7 @@ module _ {S C : Type 0} (told : S → StoreTold) (h n : TailHeld S C) where
         → n.standing ≡ h.standing → (tried : List Block) → IsSoundTail told tried h → KeepsSound told h n (tried ++ b ∷ []) (tried ++ b ∷ [])
     unkept_images T fault k same tried s =
         from_keeps (IsSafe h.standing.blocks (tried ++ b ∷ [])) h.standing.blocks (tried ++ b ∷ []) (tried ++ b ∷ []) n.marked
-        (k h.standing.blocks tried b long is stands.undamaged s) (ap (λ (x : Standing). x.blocks) same) refl (λ m safe. inl safe)
+        (k h.standing.blocks tried b long is stands.undamaged stands.asked s) (ap (λ (x : Standing). x.blocks) same) refl (λ m safe. inl safe)
 
     pub unkept_line : (T : Type 0) {U F : Type 0} (r : Result U Unkept) (e : Unkept) (fault : F) → r ≡ Err e → option_map (λ x. x.value) e.tried ≡ Some b
         → LineKeeps {T = T} {F = F} (Err fault) line size h.marked n.marked (told h.store).content (told n.store).content
@@ -84,12 +85,12 @@ module _ {S C : Type 0} (told : S → StoreTold) (h n : TailHeld S C) where
         let more : n.standing.blocks ≡ h.standing.blocks ++ b ∷ [] = ap (λ (x : Standing). x.blocks) now in
         let keeps : KeepsSound told h n [] (tried ++ b ∷ []) =
         from_keeps (IsAmidLine h.standing.blocks tried b) (h.standing.blocks ++ b ∷ []) [] (tried ++ b ∷ []) n.marked
-        (k h.standing.blocks tried b long is stands.undamaged s) more refl
+        (k h.standing.blocks tried b long is stands.undamaged stands.asked s) more refl
         (λ m amid. elim amid [
           | inl safe ↦ inl safe
           | inr safe ↦ inr (subst (λ (bs : List Block). IsSafe bs [] m) (sym more) safe)
         ]) in
-        record { keeps = keeps; acknowledged = acknowledged (subst Undamaged (sym more) stands.undamaged) mark keeps.sound }
+        record { keeps = keeps; acknowledged = acknowledged (subst Undamaged (sym more) stands.undamaged) (subst AreAsked (sym more) stands.asked) mark keeps.sound }
 
     -- the block that came is the last one of the tail that is left
     pub kept_line : (F : Type 0) {T U : Type 0} (done : T) (d : U) (came : Option Block)
@@ -105,16 +106,16 @@ module _ {S C : Type 0} (told : S → StoreTold) (h n : TailHeld S C) where
   -- ---- a settle
 
   module _ (size : ℕ) (long : size ≡ length (journal_bytes h.standing.blocks)) (same : n.standing ≡ h.standing) where
-    pub settled_images : (F : Type 0) {T U : Type 0} (done : T) (d : U) → Undamaged h.standing.blocks
+    pub settled_images : (F : Type 0) {T U : Type 0} (done : T) (d : U) → Undamaged h.standing.blocks → AreAsked h.standing.blocks
         → keeper.SettleKeeps {T = T} {F = F} (Ok done) size h.marked (told h.store).content (told n.store).content
         → n.marked ≡ false → SettleKeeps told {R = U} {F = F} (Ok d) h n
-    settled_images F done d whole k mark = (
+    settled_images F done d whole asked k mark = (
       mark,
       λ tried s.
           let blocks : n.standing.blocks ≡ h.standing.blocks = ap (λ (x : Standing). x.blocks) same in
           let keeps : KeepsSound told h n [] tried =
           from_keeps (IsSafe h.standing.blocks tried) h.standing.blocks [] tried false (k h.standing.blocks tried long s) blocks mark (λ m safe. inl safe) in
-          record { keeps = keeps; acknowledged = acknowledged (subst Undamaged (sym blocks) whole) mark keeps.sound },
+          record { keeps = keeps; acknowledged = acknowledged (subst Undamaged (sym blocks) whole) (subst AreAsked (sym blocks) asked) mark keeps.sound },
     )
 
     pub unsettled_images : (T : Type 0) {U F : Type 0} (r : Result U F) (fault : F) → r ≡ Err fault

@@ -11,6 +11,7 @@ use Rattle.ledger_model.specs.declared.block.Block.{Block}
 use Rattle.ledger_model.specs.declared.outcome.Refusal.{Refusal}
 use Rattle.ledger_model.specs.declared.script.Request.{Request}
 use Rattle.ledger_model.specs.Damages.{Undamaged}
+use Rattle.ledger_model.specs.HashesAsked.{AreAsked}
 use Rattle.ledger_model.specs.Making.{IsMadeOf}
 use Rattle.ledger_model.specs.Run.{Begun, Progress, ran, run, run_from, start, step, then_run}
 use Rattle.ledger_model.specs.State.{State, state}
@@ -20,6 +21,7 @@ use Rattle.laws_footprint.proofs.Journals.{undamaged_follow}
 use Rattle.laws_footprint.proofs.Settling.{run_is_kept}
 use Rattle.laws_validity.specs.Before.{HasStrand, IsUnused, CanFollow}
 use Rattle.laws_validity.specs.Makes.{CanMake, IsWithinAll}
+use Rattle.laws_validity.proofs.Asking.{asked_grows, made_of_tells}
 use Rattle.laws_validity.proofs.Further.{few_made, still_unused}
 use Rattle.laws_validity.proofs.Undamaged.{made_is_undamaged}
 use Rattle.laws_machine.proofs.Fronts.{front_strand, front_undamaged, front_unused, stands_in_none, strand_framed}
@@ -99,6 +101,11 @@ module _ (s : Standing) (t : Opened) (time : TimeParts) (is : IsStanding s) (o :
   open_undamaged =
       made_is_undamaged t.begun s.blocks t.place time o.asked t.done follows can ranges (runs_behind o.asked o.runs)
 
+  open_asked : AreAsked (s.blocks ++ next_block t s.blocks time ∷ [])
+  open_asked =
+      asked_grows s.blocks (next_block t s.blocks time) is.asked
+      (made_of_tells t.begun s.blocks t.place time o.asked (next_block t s.blocks time) (open_made o.asked o.runs))
+
   number : transaction_in s.mask (next_block t s.blocks time).header.tx.raw ≡ t.begun.number
   number =
       ap (λ (m : ℕ). transaction_in s.mask (raw_id m t.begun.number 0)) o.mask ∙ transaction_of_id s.mask t.begun.number
@@ -108,6 +115,7 @@ module _ (s : Standing) (t : Opened) (time : TimeParts) (is : IsStanding s) (o :
       let most = greatest-append s.mask s.blocks (next_block t s.blocks time ∷ []) in
       record {
         undamaged = open_undamaged;
+        asked = open_asked;
         strand = strand_more s.mask s.blocks (next_block t s.blocks time) is.strand o.mask;
         drawn = omega (arith, is.drawn, o.drawn, number, most);
         counted = is.counted;

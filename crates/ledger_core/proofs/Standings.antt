@@ -9,6 +9,7 @@ use Rattle.ledger_model.specs.declared.damage.Damage.TheVariants.{WrongAddress, 
 use Rattle.ledger_model.specs.Journal.{line, journal_bytes}
 use Rattle.ledger_model.specs.State.{State, state, state_from, after}
 use Rattle.ledger_model.specs.Damages.{damage_behind, has_address, has_id, has_time, has_previous, has_hashes, strand_of, UndamagedBehind, Undamaged}
+use Rattle.ledger_model.specs.HashesAsked.{AreAsked}
 use Rattle.ledger_model.specs.Follows.{follows_blocks}
 use Rattle.laws_history.specs.Standings.{IsStanding}
 use Rattle.laws_history.specs.Records.{greatest, mask_of}
@@ -51,21 +52,22 @@ own-mask : (given : ℕ) (blocks : List Block) → mask_of (mask_of given blocks
 own-mask given [] = refl
 own-mask given (b ∷ bs) = refl
 
-standing : (given mask last : ℕ) (blocks : List Block) → Undamaged blocks → mask ≡ mask_of given blocks → last ≡ greatest mask blocks → greatest mask blocks < 2 ^ 64
+standing : (given mask last : ℕ) (blocks : List Block) → Undamaged blocks → AreAsked blocks → mask ≡ mask_of given blocks → last ≡ greatest mask blocks → greatest mask blocks < 2 ^ 64
     → IsStanding (record { mask = mask; last = last; blocks = blocks })
-standing given mask last blocks u m l below = record {
+standing given mask last blocks u a m l below = record {
   undamaged = u;
+  asked = a;
   strand = ap (λ n. mask_of n blocks) m ∙ own-mask given blocks ∙ sym m;
   drawn = omega (arith, l);
   counted = omega (arith, l, below);
 }
 
 -- what is known of a standing, where the last number is the greatest one if that one fits
-pub known : (given mask last : ℕ) (blocks : List Block) → Undamaged blocks → mask ≡ mask_of given blocks → (greatest mask blocks < 2 ^ 64 → last ≡ greatest mask blocks)
+pub known : (given mask last : ℕ) (blocks : List Block) → Undamaged blocks → AreAsked blocks → mask ≡ mask_of given blocks → (greatest mask blocks < 2 ^ 64 → last ≡ greatest mask blocks)
     → IsStanding (record { mask = mask; last = last; blocks = blocks }) × (last ≡ greatest mask blocks)
-known given mask last blocks u m l =
+known given mask last blocks u a m l =
     let below : greatest mask blocks < 2 ^ 64 = subst (λ (n : ℕ). greatest n blocks < 2 ^ 64) (sym m) (bounded given blocks u) in
-    (standing given mask last blocks u m (l below) below, l below)
+    (standing given mask last blocks u a m (l below) below, l below)
 
 -- ---- one block more
 

@@ -27,6 +27,8 @@ pub mod CauseText
 pub mod Report
 pub mod Whole
 pub mod Follows
+pub mod HashesAsked
+pub mod Compaction
 pub mod Damages
 pub mod Making
 pub mod Recovered

@@ -1,6 +1,6 @@
 -- When a block is whole, so that it has a line in a journal: its lists agree, no document and not the block nests too
 -- deep, and each number, id and hash is within its type.
-use Rattle.std.specs.Prelude.{◌≡◌, ℕ, ◌≤◌, ◌^◌, ◌==◌, ◌&&◌, not, Bool, true, false, nat_lt, nat_le, length, IsTrue}
+use Rattle.std.specs.Prelude.{◌≡◌, ℕ, ◌≤◌, ◌^◌, ◌==◌, ◌&&◌, Bool, true, false, nat_lt, nat_le, length, IsTrue}
 use Rattle.std.specs.List.{list_all}
 use Rattle.ion_values.specs.Depth.{depth_of}
 use Rattle.ion_values.specs.Within.{within}
@@ -87,7 +87,7 @@ is_shallow Deleted = true
 is_shallow (Kept v) = nat_le (depth_of v) 64
 is_shallow (Redacted hash) = true
 
--- ---- what comes with journals without the bytes: no block has any of it so far
+-- ---- hashes in place of statements and of data
 
 abbrev pub is_said : Told → Bool
 is_said (told.Said said) = true
@@ -97,14 +97,6 @@ abbrev pub is_redacted : Content → Bool
 is_redacted (Redacted hash) = true
 is_redacted _ = false
 
--- an unredacted revision that fits its types
-abbrev pub is_plain_revision : Revision → Bool
-is_plain_revision r = revision_fits r && not (is_redacted r.content)
-
--- the statements are told, and each revision has its data
-abbrev pub is_unredacted : Block → Bool
-is_unredacted b = is_said b.info.said && list_all (λ r. not (is_redacted r.content)) b.revisions
-
 pub record IsWhole (b : Block) : Type 0 where
   pub count : b.header.revisions ≡ length b.revisions
   pub tables : length b.info.tables ≡ length b.revisions
@@ -112,4 +104,3 @@ pub record IsWhole (b : Block) : Type 0 where
   pub depth : depth_of (block_value b) ≤ 256
   pub fits : IsTrue (block_fits b)
   pub ranges : IsTrue (within (block_value b))
-  pub unredacted : IsTrue (is_unredacted b)

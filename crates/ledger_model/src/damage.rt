@@ -15,4 +15,7 @@ pub enum Damage {
     WrongHash,
     /// What the transaction did can't follow what the blocks before did.
     WrongState,
+    /// All lines pass the other checks, and a hash stands for data that no block redacts, or for statements although
+    /// neither the block nor a later one redacts anything.
+    Unasked,
 }

@@ -38,6 +38,7 @@ module _ (blocks tried more : List Block) (wider : (b : Block) → Contains trie
     among = wider p.block p.among;
     part_is = p.part_is;
     undamaged = p.undamaged;
+    asked = p.asked;
   })
 
   stands_more : (whole : List ℕ) → StandsAfter blocks tried whole → StandsAfter blocks more whole

@@ -6,6 +6,7 @@ use Rattle.std.proofs.lemmas.List.Elements.{Contains-append_left}
 use Rattle.ql_types.specs.declared.Hash32.{Hash32}
 use Rattle.ledger_model.specs.declared.block.Block.{Block}
 use Rattle.ledger_model.specs.Damages.{Undamaged}
+use Rattle.ledger_model.specs.HashesAsked.{AreAsked}
 use Rattle.laws_validity.proofs.Journals.{undamaged_front}
 use Rattle.outside.specs.Told.{StoreTold}
 use Rattle.outside.specs.Store.{Content, Moment, moment_of}
@@ -13,10 +14,11 @@ use Rattle.laws_crash.specs.Pending.{ImagesAre}
 use Rattle.laws_crash.specs.Sound.{IsSafe, IsSound, RecoversAlone, SafeRecovers, UnmarkedRecovers}
 use Rattle.laws_crash.proofs.Lists.{all_append, all_map}
 use Rattle.laws_crash.proofs.Moments.{passes_leave}
-use Rattle.laws_machine.specs.Entries.{Entry, Opening, Reach, reach_at, sealed}
+use Rattle.laws_machine.specs.Entries.{Entry, IsRunFrom, Opening, Reach, reach_at, sealed}
 use Rattle.laws_history.specs.Seen.{blocks_in}
 use Rattle.laws_history.specs.Steps.{knows_behind}
-use Rattle.laws_history.proofs.Reaches.{blocks_on, comes_behind}
+use Rattle.laws_history.proofs.Asked.{asked_reached}
+use Rattle.laws_history.proofs.Reaches.{blocks_on, comes_behind, run_front}
 use Rattle.turn_lock.specs.declared.view.Known.{Known}
 use Rattle.txn_core.specs.Opened.{Opened}
 use Rattle.ledger_core.specs.Tails.{TailHeld}
@@ -36,6 +38,12 @@ front_undamaged : (o : Opening) (es front later : List Entry) → es ≡ front +
 front_undamaged o es front later is u =
     let on = blocks_on (reach_at o) front es (later, sym is) in
     undamaged_front (blocks_in o front) on.0 [] (subst (λ (bs : List Block). Undamaged bs) (sym on.1) u)
+
+-- and their hashes are asked for, if those of the opening's are
+front_asked : (o : Opening) (es front later : List Entry) → es ≡ front ++ later → IsRunFrom (reach_at o) es → AreAsked o.blocks
+    → AreAsked (blocks_in o front)
+front_asked o es front later is run asked =
+    asked_reached (reach_at o) front (run_front (reach_at o) front later (subst (IsRunFrom (reach_at o)) is run)) asked
 
 -- At this moment the first of the entries had come, and the block of the next one may have come to the store.
 pub record ComesAmid (o : Opening) (first : List Block) (es : List Entry) (m : Moment) : Type 0 where
@@ -68,7 +76,7 @@ module _ (o : Opening) (first : List Block) where
       around_amid on m (inr s) = record { front = before ++ e ∷ []; later = es; es_are = on; safe = wide_safe (before ++ e ∷ []) es m s }
 
 pub images_recover : SafeRecovers → ImagesRecover
-images_recover law o first es before now right passes safe image left =
+images_recover law o first es before now right asked passes safe image left =
     passes_leave (ComesAmid o first es) (RecoversAmid o first es) before now
     (record { more = passes.more; grows = passes.grows; each = amid_all o first es [] es passes.more refl passes.order })
     (λ image is. record {
@@ -76,29 +84,37 @@ images_recover law o first es before now right passes safe image left =
       later = es;
       es_are = refl;
       recovers = law o.blocks (first ++ next_tried es) (moment_of before) (front_undamaged o es [] es refl right.undamaged)
-          (wide_safe o first [] es (moment_of before) safe) image is;
+          asked (wide_safe o first [] es (moment_of before) safe) image is;
     })
     (λ m amid image is. record {
       front = amid.front;
       later = amid.later;
       es_are = amid.es_are;
       recovers = law (blocks_in o amid.front) (tried_from first amid.front ++ next_tried amid.later) m
-          (front_undamaged o es amid.front amid.later amid.es_are right.undamaged) amid.safe image is;
+          (front_undamaged o es amid.front amid.later amid.es_are right.undamaged)
+          (front_asked o es amid.front amid.later amid.es_are right.run asked) amid.safe image is;
     })
     image left
 
 -- a store with no mark
-pub unmarked_alone : UnmarkedRecovers → (content : Option Content) (blocks tried : List Block) (marked : Bool) → marked ≡ false → Undamaged blocks
+pub unmarked_alone : UnmarkedRecovers → (content : Option Content) (blocks tried : List Block) (marked : Bool) → marked ≡ false → Undamaged blocks → AreAsked blocks
     → IfSome content (IsSound blocks tried marked) → IfSome content (λ c. ImagesAre (RecoversAlone blocks) (moment_of c))
-unmarked_alone law None blocks tried marked none sound s = tt
-unmarked_alone law (Some c) blocks tried marked none sound s =
-    law blocks tried c sound (subst (λ (m : Bool). IsSound blocks tried m c) none s)
+unmarked_alone law None blocks tried marked none sound asked s = tt
+unmarked_alone law (Some c) blocks tried marked none sound asked s =
+    law blocks tried c sound asked (subst (λ (m : Bool). IsSound blocks tried m c) none s)
 
 module _ {S C : Type 0} (told : S → StoreTold) (answers : C → Option (List ℤ)) (always : C → Option ℤ) (opened : TailHeld S C) where
+  asked_behind : {tail : TailHeld S C} (es : List Entry) → Keeps told answers always opened tail es
+      → AreAsked (blocks_in (opening_of told opened) es)
+  asked_behind es keeps =
+      asked_reached (reach_at (opening_of told opened)) es keeps.behind.run
+      (subst (λ (bs : List Block). AreAsked bs) keeps.behind.of_blocks (keeps.behind.opening).asked)
+
   pub unmarked_is_safe : UnmarkedRecovers → UnmarkedIsSafe told answers always opened
   unmarked_is_safe law tail es keeps right none first s =
       unmarked_alone law (told tail.store).content tail.standing.blocks (tried_from first es) tail.marked (keeps.images.unmarked none)
-      (subst (λ (bs : List Block). Undamaged bs) (sym keeps.behind.blocks) right.undamaged) (keeps.images.sound first s)
+      (subst (λ (bs : List Block). Undamaged bs) (sym keeps.behind.blocks) right.undamaged)
+      (subst (λ (bs : List Block). AreAsked bs) (sym keeps.behind.blocks) (asked_behind es keeps)) (keeps.images.sound first s)
 
   -- a block that was sealed is kept
   pub keeps_block : UnmarkedRecovers → (receipt : Receipt) (tail : TailHeld S C) (es front : List Entry) (number : ℕ) (block : Block)

@@ -3,6 +3,7 @@
 use Rattle.std.specs.Prelude.{◌≡◌, ◌⊎◌, ℕ, Bool, true, false, fold, List, [], ◌∷◌, ◌++◌, Option, Some, None, IfSome, IsSomeAnd}
 use Rattle.std.specs.List.{AllByRecursion}
 use Rattle.ledger_model.specs.declared.block.Block.{Block}
+use Rattle.ledger_model.specs.HashesAsked.{AreAsked}
 use Rattle.outside.specs.Told.{StoreTold}
 use Rattle.outside.specs.Store.{Content, Moment, moment, moment_of, past_after, left_since}
 use Rattle.laws_machine.specs.Entries.{Entry, Opening, begun_at, failed, sealed, wanted}
@@ -92,10 +93,10 @@ module _ {S C : Type 0} (told : S → StoreTold) (o : Opening) where
 
 -- ---- laws
 
--- If the entries are right, what a stop left at any moment of such a stretch recovers to a list of the ledger's own
--- history.
+-- If the entries are right, and the hashes of the opening's blocks are asked for, what a stop left at any moment of such
+-- a stretch recovers to a list of the ledger's own history.
 abbrev pub ImagesRecover : Type 0
 ImagesRecover =
-    (o : Opening) (first : List Block) (es : List Entry) (before now : Content) → IsRight o es
+    (o : Opening) (first : List Block) (es : List Entry) (before now : Content) → IsRight o es → AreAsked o.blocks
     → PassesEntries o first es before now → IsSafe o.blocks first (moment_of before)
     → (image : List ℕ) → left_since now (moment before) image → RecoversAmid o first es image

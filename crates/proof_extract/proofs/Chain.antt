@@ -1,5 +1,5 @@
 -- The hashes of blocks in a chain.
-use Rattle.std.proofs.Common.{◌≡◌, ◌∙◌, not, ℕ, zero, suc, true, List, [], ◌∷◌, get_or, length, take, Some, refl, sym, ap}
+use Rattle.std.proofs.Common.{◌≡◌, ◌∙◌, ◌&&◌, not, ℕ, zero, suc, true, List, [], ◌∷◌, get_or, length, take, Some, refl, sym, ap}
 use Rattle.std.specs.Prelude.{slice_get}
 use Rattle.std.specs.List.{list_all}
 use Rattle.std.specs.Cmp.Lexicographic.{pointwise}
@@ -13,7 +13,7 @@ use Rattle.ledger_model.specs.Damages.{has_hashes, has_revision_hash, same_entry
 use Rattle.ledger_model.specs.Journal.{header_value}
 use Rattle.ledger_model.specs.Legal.{last_hash}
 use Rattle.ledger_model.specs.Seals.{entries_hash, info_hash, revisions_root, sealed, strand_hash}
-use Rattle.ledger_model.specs.Whole.{is_redacted, is_said}
+use Rattle.ledger_model.specs.Whole.{hashes_fit, header_fits, info_fits, place_fits, revision_fits, schema_fits, table_fits, told_fits}
 use Rattle.proof_model.specs.Chained.{Chained}
 use Rattle.proof_model.proofs.Chains.{hash_is, linked, same_hash-is}
 use Rattle.value_codec.proofs.Inverse.{left, right}
@@ -127,11 +127,14 @@ pub count_here : (blocks : List Block) → Chained blocks → (k : ℕ) (b : Blo
     → b.header.revisions ≡ length b.revisions
 count_here blocks chained k b at = let l = linked blocks chained k b at in l.whole.count
 
--- its statements are told
-pub said_here : (blocks : List Block) → Chained blocks → (k : ℕ) (b : Block) → slice_get blocks k ≡ Some b → is_said b.info.said ≡ true
-said_here blocks chained k b at =
+-- the hash of its statements, where it stands in their place, is one
+pub told_here : (blocks : List Block) → Chained blocks → (k : ℕ) (b : Block) → slice_get blocks k ≡ Some b → told_fits b.info.said ≡ true
+told_here blocks chained k b at =
     let l = linked blocks chained k b at in
-    left (is_said b.info.said) (list_all (λ r. not (is_redacted r.content)) b.revisions) l.whole.unredacted
+    let i = b.info in
+    right (place_fits i.place && list_all schema_fits i.schema && list_all table_fits i.tables) (told_fits i.said)
+    (right (header_fits b.header && hashes_fit b) (info_fits i)
+    (left (header_fits b.header && hashes_fit b && info_fits i) (list_all revision_fits b.revisions) l.whole.fits))
 
 -- its hash, from those of its entries and of the block before
 pub hash_here : (blocks : List Block) → Chained blocks → (k : ℕ) (b : Block) → slice_get blocks k ≡ Some b → b.hash ≡ dot32 b.entries b.previous

@@ -5,5 +5,6 @@ pub mod Firsts
 pub mod Found
 pub mod Pairs
 pub mod Parts
+pub mod Places
 pub mod Strings
 pub mod Upward

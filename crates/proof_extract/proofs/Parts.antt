@@ -8,12 +8,10 @@ use Rattle.hash_model.specs.PairHash.{dot32}
 use Rattle.hash_model.specs.Serialize.{hash_of}
 use Rattle.ledger_model.specs.declared.block.Content.{Content}
 use Rattle.ledger_model.specs.declared.block.Content.TheVariants.{Deleted, Kept, Redacted}
-use Rattle.ledger_model.specs.declared.block.Info.{Info}
 use Rattle.ledger_model.specs.declared.block.Metadata.{Metadata}
 use Rattle.ledger_model.specs.declared.block.Revision.{Revision}
-use Rattle.ledger_model.specs.Journal.{info_value, metadata_value}
+use Rattle.ledger_model.specs.Journal.{metadata_value}
 use Rattle.ledger_model.specs.Seals.{revision_hash}
-use Rattle.laws_descent.specs.Laws.{MetadataAreNoInfo}
 use Rattle.tree_descent.specs.Pairs.{IsOnePair}
 use Rattle.proof_extract.specs.Extracts.{AreAlike, SameHashes, data_hash, with_metadata}
 
@@ -46,14 +44,6 @@ both_kept a b m n x y ea eb (inl e) =
 both_kept a b m n x y ea eb (inr e) =
     inr (ap (with_metadata (hash_of (metadata_value m))) ea ∙ (λ i. e.0 i ∷ e.1 i ∷ [])
     ∙ sym (ap (λ (o : Option Hash32). reverse (with_metadata (hash_of (metadata_value n)) o)) eb))
-
--- metadata of the hash of what a transaction said and did aren't equivalent to it
-pub no_info : MetadataAreNoInfo → (m : Metadata) (i : Info) (revisions : List Revision) (v w : Value) → v ≡ metadata_value m
-    → w ≡ info_value i revisions → hash_of (metadata_value m) ≡ hash_of (info_value i revisions) → AreAlike v w → ⊥
-no_info law m i revisions v w is are same alike =
-    law m i revisions
-    (subst (λ (x : Value). is_equivalent (metadata_value m) x ≡ true) are
-    (subst (λ (x : Value). is_equivalent x w ≡ true) is (alike (ap hash_of is ∙ same ∙ sym (ap hash_of are)))))
 
 -- values that are alike, under other names
 pub alike_for : (v w x y : Value) → v ≡ x → w ≡ y → AreAlike v w → AreAlike x y

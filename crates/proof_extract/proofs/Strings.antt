@@ -4,12 +4,13 @@ use Rattle.sha2.specs.Sha256.{sha256}
 use Rattle.ion_values.specs.declared.value.Value.{Value}
 use Rattle.ql_types.specs.declared.Hash32.{Hash32}
 use Rattle.hash_model.specs.PairHash.{dot32}
-use Rattle.hash_model.specs.Serialize.{hash_of, serialize}
+use Rattle.hash_model.specs.Serialize.{hash_of, serialize, struct_bytes, struct_hash}
 use Rattle.ledger_model.specs.declared.block.Header.{Header}
 use Rattle.ledger_model.specs.declared.block.Info.{Info}
 use Rattle.ledger_model.specs.declared.block.Metadata.{Metadata}
 use Rattle.ledger_model.specs.declared.block.Revision.{Revision}
-use Rattle.ledger_model.specs.Journal.{header_value, info_value, metadata_value}
+use Rattle.ledger_model.specs.Journal.{header_value, metadata_value}
+use Rattle.ledger_model.specs.Seals.{info_hash, info_hashes}
 use Rattle.laws_descent.specs.Laws.{FourFieldsAreLong}
 use Rattle.tree_descent.specs.Pairs.{pair_form}
 use Rattle.tree_descent.proofs.OnePair.{pair_hash-is}
@@ -32,9 +33,10 @@ pub metadata_long : FourFieldsAreLong → (m : Metadata) (form : List ℕ) → f
 metadata_long long m form is =
     let longer : 64 < length (serialize (metadata_value m)) = long _ _ _ _ in omega (arith, longer, ap length is)
 
-pub info_long : FourFieldsAreLong → (i : Info) (rs : List Revision) (form : List ℕ) → form ≡ serialize (info_value i rs) → 64 < length form
-info_long long i rs form is =
-    let longer : 64 < length (serialize (info_value i rs)) = long _ _ _ _ in omega (arith, longer, ap length is)
+-- what the hash of what a transaction said and did is the hash of
+pub form_sum : (i : Info) (rs : List Revision) (form : List ℕ) → form ≡ struct_bytes (info_hashes i rs) → (info_hash i rs).bytes ≡ sha256 form
+unfolding info_hash struct_hash
+form_sum i rs form is = ap sha256 (sym is)
 
 -- a pair of hashes is shorter than what has more than 64 bytes
 pub no_pair : (pair form : List ℕ) → length pair ≡ 64 → 64 < length form → pair ≡ form → ⊥

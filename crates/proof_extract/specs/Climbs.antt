@@ -1,5 +1,5 @@
 -- The hashes on the way from a revision up to a digest, and what they are found to be on the way down.
-use Rattle.std.specs.Prelude.{ℕ, ◌+◌, ◌≡◌, List, take, drop, Option, Some, option_map, slice_get}
+use Rattle.std.specs.Prelude.{ℕ, ◌+◌, ◌≡◌, ◌⊎◌, List, [], ◌∷◌, take, drop, Option, Some, option_map, slice_get}
 use Rattle.ion_values.specs.declared.value.Value.{Value}
 use Rattle.ion_values.specs.declared.value.Field.{Field}
 use Rattle.ql_types.specs.declared.Hash.{Hash}
@@ -85,3 +85,8 @@ pub record HasRevision (revisions : List Revision) (h : Hash32) : Type 0 where
   pub own : Revision
   pub is : slice_get revisions index ≡ Some own
   pub hash : own.hash ≡ h
+
+-- the hash is one of these
+abbrev pub IsAmong : List ℕ → List (List ℕ) → Type 0
+IsAmong hash [] = ⊥
+IsAmong hash (h ∷ hs) = (hash ≡ h) ⊎ IsAmong hash hs

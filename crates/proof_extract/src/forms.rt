@@ -1,12 +1,13 @@
 //! What the parts of blocks are hashed as.
-ghost use Rattle.std.specs.Prelude.{◌≡◌, ◌≤◌, ◌<◌, length, true, Some, slice_get, IfOk, MatchResult};
+ghost use Rattle.std.specs.Prelude.{◌≡◌, ◌≢◌, ◌≤◌, ◌<◌, length, true, Some, slice_get, IfOk, MatchResult};
 ghost use Rattle.std.specs.Option.{option_copied};
 ghost use Rattle.sha2.specs.Sha256.{sha256};
 ghost use Rattle.hash_model.specs.PairHash.{dot32};
-ghost use Rattle.hash_model.specs.Serialize.{hash_of, serialize};
+ghost use Rattle.hash_model.specs.Serialize.{field_hash, hash_of, serialize, struct_bytes};
 ghost use Rattle.ledger_model.specs.Damages.{has_hashes};
 ghost use Rattle.ledger_model.specs.Journal.{header_value, info_value};
-ghost use Rattle.ledger_model.specs.Seals.{revision_hash};
+ghost use Rattle.ledger_model.specs.Seals.{info_hash, info_hashes, revision_hash};
+ghost use Rattle.ledger_model.specs.Whole.{told_fits};
 ghost use Rattle.proof_model.specs.Chained.{Chained};
 ghost use Rattle.proof_extract.specs.Climbs as spec;
 ghost use Rattle.proof_extract.specs.Extracts as parts;
@@ -15,10 +16,12 @@ ghost use Rattle.tree_descent.specs.Collisions.{IsStop};
 
 use block_form::{header_value, metadata_value, to_ion};
 use containers::{Bytes, OutOfMemory};
-use ion_extract::{Compared, compare_hashed};
-use ion_hash::{hash, serialize};
-use ion_values::{Value, copy};
-use laws_descent::{four_fields_are_long, ids_are_short};
+use ion_extract::{Compared, compare_hashed, field_form, field_form_is_injective};
+use ion_hash::{field_hash, hash, serialize};
+use ion_values::{Field, Value, copy};
+use laws_descent::{
+    field_hashes_are_long, four_fields_are_long, four_hashes_are_long, ids_are_short,
+};
 use ledger_model::{Block, Content, Header, Revision};
 use pair_hash::dot_full;
 use ql_types::{Hash, Hash32};
@@ -47,6 +50,34 @@ pub fn info_value(alloc: Global, block: &Block) -> Result<Value, OutOfMemory>
     }
 }
 
+/// What the hash of what the block's transaction said and did is the hash of.
+pub fn info_form(alloc: Global, block: &Block) -> Result<Bytes, OutOfMemory>
+    requires { told_fits block.now.info.said ≡ true }
+    ensures form { IfOk result (λ form. form ≡ struct_bytes (info_hashes block.now.info block.now.revisions)) }
+    ensures long { IfOk result (λ form. 64 < length form) }
+{
+    field_hashes_are_long();
+    four_hashes_are_long();
+    let form = block_form::info_form(alloc, &block.info, block.revisions.as_slice())?;
+    Ok(form)
+}
+
+/// Stops with what two fields of one hash and of different names are the hashes of.
+pub fn other_field(alloc: Global, f: &Field, g: &Field) -> Result<(), Stop>
+    requires { f.now.name ≢ g.now.name }
+    ensures { MatchResult result (λ _. field_hash f.now ≢ field_hash g.now) IsStop }
+{
+    field_form_is_injective();
+    let first = field_hash(alloc, f)?;
+    let second = field_hash(alloc, g)?;
+    if first != second {
+        return Ok(());
+    }
+    let form = field_form(alloc, f)?;
+    let other = field_form(alloc, g)?;
+    stop_if_different(form, other)
+}
+
 /// Stops with two byte strings if the values have one hash and aren't equivalent.
 pub fn alike(alloc: Global, v: &Value, w: &Value) -> Result<(), Stop>
     ensures { MatchResult result (λ _. AreAlike v.now w.now) IsStop }
@@ -57,6 +88,17 @@ pub fn alike(alloc: Global, v: &Value, w: &Value) -> Result<(), Stop>
         Compared::Same => Ok(()),
         Compared::Differ => Ok(()),
     }
+}
+
+/// Stops with a pair of hashes and what a block's transaction said and did, of one hash.
+pub fn stop_at_said(alloc: Global, block: &Block, a: &Hash32, b: &Hash32) -> Result<(), Stop>
+    requires fits { told_fits block.now.info.said ≡ true }
+    requires hash { dot32 a.now b.now ≡ info_hash block.now.info block.now.revisions }
+    ensures { MatchResult result (λ _. ⊥) IsStop }
+{
+    let pair = pair_form(alloc, a, b)?;
+    let info = info_form(alloc, block)?;
+    stop_if_different(pair, info)
 }
 
 /// Stops with a pair of hashes and a longer value of the pair's hash.

@@ -1,52 +1,113 @@
 //! The revision of a proof in its block, by the hashes that lead up to the block.
 ghost use Rattle.std.specs.Prelude.{◌≡◌, ◌≢◌, ◌+◌, ◌<◌, ◌≤◌, ◌⊎◌, length, map, reverse, true, Some, None, slice_get, IfOk, IfSome, IsSomeAnd, MatchOption, MatchResult};
 ghost use Rattle.ql_types.specs.declared.Hash.TheVariants.{Full};
-ghost use Rattle.hash_model.specs.Serialize.{hash_of};
+ghost use Rattle.hash_model.specs.Serialize.{field_hash, hash_of, serialize, struct_bytes};
+ghost use Rattle.std.specs.List.{AllByRecursion};
+ghost use Rattle.std.specs.Option.{option_copied};
 ghost use Rattle.hash_model.specs.Tree.{height_of};
 ghost use Rattle.pad_tree.specs.Paths.{folded};
 ghost use Rattle.ledger_model.specs.Damages.{has_hashes};
 ghost use Rattle.ledger_model.specs.Journal as journal;
-ghost use Rattle.ledger_model.specs.Seals.{revision_hash, revisions_root};
-ghost use Rattle.ledger_model.specs.Whole.{is_said};
+ghost use Rattle.ledger_model.specs.Seals.{info_hash, info_hashes, revision_hash, revisions_root};
+ghost use Rattle.ledger_model.specs.Script.{and_then};
+ghost use Rattle.ledger_model.specs.Values as values;
+ghost use Rattle.ledger_model.specs.Whole.{told_fits};
 ghost use Rattle.proof_model.specs.Verified.{block_height};
 ghost use Rattle.proof_extract.specs.Climbs as spec;
-ghost use Rattle.proof_extract.specs.Climbs.{HasRevision, IsStacked};
+ghost use Rattle.proof_extract.specs.Climbs.{HasRevision, IsAmong, IsStacked};
 ghost use Rattle.proof_extract.specs.Extracts as parts;
 ghost use Rattle.proof_extract.specs.Extracts.{AreAlike, IsFirst, IsRevisionOf, SameHashes, SameParts, data_in};
 ghost use Rattle.tree_descent.specs.Collisions.{IsStop};
 
 use crate::climb::{Climb, below};
-use crate::forms::{alike, data_hash, entries_of, info_value, revision_form, stop_at_pair};
+use crate::forms::{
+    alike, data_hash, entries_of, info_form, info_value, other_field, revision_form, stop_at_pair,
+    stop_at_said,
+};
 use block_form::metadata_value;
 use containers::{OutOfMemory, Sequence};
-use ion_hash::hash;
-use ion_values::Value;
-use laws_descent::{four_fields_are_long, metadata_are_no_info};
-use ledger_model::{Block, Content, Revision};
+use ion_extract::{escape_is_injective, frame_is_injective, joined_hashes_are_injective};
+use ion_hash::{hash, serialize};
+use ion_values::{Field, Value};
+use laws_descent::{field_hashes_are_long, four_fields_are_long};
+use ledger_model::{Block, Content, Metadata, Revision};
 use pad_tree::{Hashes, fold_hashes};
 use proof_model::Proof;
 use ql_types::{Hash, Hash32};
 use std::alloc::Global;
-use tree_descent::{Stop, descend, not_a_pad, one_pair};
+use tree_descent::{Stop, descend, not_a_pad, one_pair, stop_if_different};
+use value_codec::read_parts::fields_in;
 
-/// Stops if a revision's hash is that of the info of the block's transaction.
+/// Stops if none of the fields of metadata has the name of another field, and one of them has its hash.
+fn stop_at_field(alloc: Global, fields: &[Field], other: &Field) -> Result<(), Stop>
+    requires names { AllByRecursion (λ f. f.name ≢ other.now.name) fields.now }
+    requires among { IsAmong (field_hash other.now) (map field_hash fields.now) }
+    ensures { MatchResult result (λ _. ⊥) IsStop }
+{
+    'fields: for field in fields {
+        other_field(alloc, field, other)?;
+    }
+    Ok(())
+}
+
+/// Stops if metadata have the form of what the block's transaction said and did: the place of the transaction has a
+/// field there, and none in metadata.
+fn stop_at_place(alloc: Global, block: &Block, metadata: &Metadata) -> Result<(), Stop>
+    requires fits { told_fits block.now.info.said ≡ true }
+    requires form { serialize (journal.metadata_value metadata.now)
+        ≡ struct_bytes (info_hashes block.now.info block.now.revisions) }
+    ensures { MatchResult result (λ _. ⊥) IsStop }
+{
+    field_hashes_are_long();
+    frame_is_injective();
+    escape_is_injective();
+    joined_hashes_are_injective();
+    let value = metadata_value(alloc, metadata)?;
+    let info = info_value(alloc, block)?;
+    let Some(fields) = fields_in(&value) else {
+        unreachable!();
+    };
+    let Some(place) = first_field(&info) else {
+        unreachable!();
+    };
+    stop_at_field(alloc, fields.as_slice(), place)
+}
+
+/// The first field of a struct.
+fn first_field(v: &Value) -> Option<&Field>
+    ensures { option_copied result ≡ and_then (values.fields_in v.now) (λ fields. slice_get fields 0) }
+{
+    let fields = fields_in(v)?;
+    fields.get(0)
+}
+
+/// Stops if a delete's metadata have the hash of what the block's transaction said and did.
+fn stop_at_metadata(alloc: Global, block: &Block, metadata: &Metadata) -> Result<(), Stop>
+    requires fits { told_fits block.now.info.said ≡ true }
+    requires hash { hash_of (journal.metadata_value metadata.now) ≡ info_hash block.now.info block.now.revisions }
+    ensures { MatchResult result (λ _. ⊥) IsStop }
+{
+    let value = metadata_value(alloc, metadata)?;
+    let form = serialize(alloc, &value)?;
+    let info = info_form(alloc, block)?;
+    stop_if_different(form, info)?;
+    stop_at_place(alloc, block, metadata)
+}
+
+/// Stops if a revision's hash is that of what the block's transaction said and did.
 fn stop_at_info(alloc: Global, block: &Block, revision: &Revision) -> Result<(), Stop>
-    requires hash { revision.now.hash ≡ hash_of (journal.info_value block.now.info block.now.revisions) }
+    requires fits { told_fits block.now.info.said ≡ true }
+    requires hash { revision.now.hash ≡ info_hash block.now.info block.now.revisions }
     requires stated { revision.now.hash ≡ revision_hash revision.now.content revision.now.metadata }
     ensures { MatchResult result (λ _. ⊥) IsStop }
 {
-    let info = info_value(alloc, block)?;
-    let metadata = metadata_value(alloc, &revision.metadata)?;
     let found = data_hash(alloc, &revision.content)?;
     match found {
-        None => {
-            metadata_are_no_info();
-            alike(alloc, &metadata, &info)
-        }
+        None => stop_at_metadata(alloc, block, &revision.metadata),
         Some(part) => {
-            four_fields_are_long();
+            let metadata = metadata_value(alloc, &revision.metadata)?;
             let first = hash(alloc, &metadata)?;
-            stop_at_pair(alloc, &first, &part, &info)
+            stop_at_said(alloc, block, &first, &part)
         }
     }
 }
@@ -58,22 +119,20 @@ fn stop_under_info(
     revision: &Revision,
     path: &[Hash32],
 ) -> Result<(), Stop>
-    requires hash { folded revision.now.hash path.now
-        ≡ hash_of (journal.info_value block.now.info block.now.revisions) }
+    requires fits { told_fits block.now.info.said ≡ true }
+    requires hash { folded revision.now.hash path.now ≡ info_hash block.now.info block.now.revisions }
     requires stated { revision.now.hash ≡ revision_hash revision.now.content revision.now.metadata }
     ensures { MatchResult result (λ _. ⊥) IsStop }
 {
     if path.is_empty() {
         return stop_at_info(alloc, block, revision);
     }
-    four_fields_are_long();
     let last = path.len() - 1;
     let under = fold_hashes(&revision.hash, &path[..last]);
-    let info = info_value(alloc, block)?;
-    stop_at_pair(alloc, &under, &path[last], &info)
+    stop_at_said(alloc, block, &under, &path[last])
 }
 
-/// The root of revisions climbed to is that of the block, whose statements are told.
+/// The root of revisions climbed to is that of the block.
 fn same_root(
     alloc: Global,
     block: &Block,
@@ -82,7 +141,7 @@ fn same_root(
     climbed: &Climb,
 ) -> Result<(), Stop>
     requires hashes { has_hashes block.now ≡ true }
-    requires said { is_said block.now.info.said ≡ true }
+    requires fits { told_fits block.now.info.said ≡ true }
     requires some { 1 ≤ length block.now.revisions }
     requires count { 1 ≤ proof.now.header.revisions }
     requires long { block_height proof.now + 2 ≤ length proof.now.path }
@@ -292,7 +351,7 @@ pub fn revision_in(
     climbed: &Climb,
 ) -> Result<u32, Stop>
     requires hashes { has_hashes block.now ≡ true }
-    requires said { is_said block.now.info.said ≡ true }
+    requires fits { told_fits block.now.info.said ≡ true }
     requires revisions { block.now.header.revisions ≡ length block.now.revisions }
     requires header { proof.now.header.revisions ≡ block.now.header.revisions }
     requires count { 1 ≤ proof.now.header.revisions }

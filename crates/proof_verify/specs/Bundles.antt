@@ -3,16 +3,16 @@ use Rattle.std.specs.Prelude.{◌≡◌, ◌≢◌, ◌⊎◌, ℕ, Bool, List, 
 use Rattle.ion_values.specs.declared.value.Value.{Value}
 use Rattle.ledger_model.specs.declared.block.Revision.{Revision}
 use Rattle.ledger_model.specs.Journal.{revision_value}
-use Rattle.ledger_model.specs.Whole.{is_plain_revision}
+use Rattle.ledger_model.specs.Whole.{revision_fits}
 use Rattle.proof_model.specs.declared.Digest.{Digest}
 use Rattle.proof_model.specs.declared.Proof.{Proof}
 use Rattle.proof_model.specs.ProofValues.{digest_value, proof_value, digest_fits, proof_fits}
 use Rattle.proof_verify.specs.declared.ProofFault.{ProofFault}
 use Rattle.proof_verify.specs.declared.ProofFault.TheVariants as fault
 
--- the values of these three, of which the revision isn't redacted
+-- the values of these three, of which the revision fits its types
 abbrev pub IsBundle : List Value → Digest → Revision → Proof → Type 0
-IsBundle values d r p = (values ≡ digest_value d ∷ revision_value r ∷ proof_value p ∷ []) × IsTrue (is_plain_revision r)
+IsBundle values d r p = (values ≡ digest_value d ∷ revision_value r ∷ proof_value p ∷ []) × IsTrue (revision_fits r)
 
 -- the numbers of the digest and of the proof fit their types
 abbrev pub AreWithin : Digest → Proof → Type 0
@@ -30,8 +30,8 @@ SpellsNone {A} value fits v = (x : A) → IsTrue (fits x) → v ≢ value x
 abbrev pub IsUnread : List Value → List ℕ → Type 0
 IsUnread (a ∷ b ∷ c ∷ []) field =
     ((field ≡ codes "digest") × SpellsNone digest_value digest_fits a)
-    ⊎ ((field ≡ codes "revision") × Spells digest_value digest_fits a × SpellsNone revision_value is_plain_revision b)
-    ⊎ ((field ≡ codes "proof") × Spells digest_value digest_fits a × Spells revision_value is_plain_revision b
+    ⊎ ((field ≡ codes "revision") × Spells digest_value digest_fits a × SpellsNone revision_value revision_fits b)
+    ⊎ ((field ≡ codes "proof") × Spells digest_value digest_fits a × Spells revision_value revision_fits b
     × SpellsNone proof_value proof_fits c)
 IsUnread values field = field ≡ codes "count"
 

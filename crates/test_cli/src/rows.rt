@@ -14,7 +14,7 @@ use crate::faults::FAULTS;
 use crate::limits::LONGEST;
 use crate::makes::MAKES;
 use crate::proofs::{PROOFS, QUESTIONS};
-use crate::redacted::REDACTED;
+use crate::redacted::{COMPACTED, REDACTED};
 use crate::ruled::RULED;
 use crate::runs::{LINES, REPORTS, SEEDS};
 use crate::selects::{LIMITS, REFUSED, SELECTS, refused, selected};
@@ -140,7 +140,8 @@ fn fields_hold<R: Threads + Wait + Sync>(rt: &R, alloc: Global, row: &Fields<'_>
 #[test]
 fn rows_of_journals(rt: HostRuntime) {
     for rows in [
-        REPORTS, LINES, REDACTED, RULED, SEEDS, SENT, FAULTS, STREAMS, STORES, MENDED, MAKES,
+        REPORTS, LINES, REDACTED, COMPACTED, RULED, SEEDS, SENT, FAULTS, STREAMS, STORES, MENDED,
+        MAKES,
     ] {
         for row in rows.lines() {
             assert!(rt; row_holds(&rt, rt.alloc(), row) == Some(true), "{row}");

@@ -1,18 +1,21 @@
 //! Texts that rows name.
 use crate::extracts::SIX_BLOCKS;
 use crate::failing::{MENDED_BY_SETTLE, MENDED_LATER, STORE_FAULT, THREE};
-use crate::redacted::{REDACTED_BLOCKS, REDACTION, REDACTION_TOLD};
+use crate::redacted::{
+    COMPACTED_BLOCKS, REDACTED_BLOCKS, REDACTED_BUNDLE, REDACTION, REDACTION_TOLD,
+};
 use crate::ruled::{ALL, KEEP};
 use crate::runs::{COMMITTED, FIRST, FOUR_OUTCOMES, RUN, SESSIONS};
 use crate::verdicts::HONEST;
 use std::alloc::Global;
 use test_fixtures::{ONE_BLOCK, ONE_BUNDLE, THREE_BLOCKS, THREE_BUNDLE, THREE_STATEMENTS};
 
-/// What the third of the three blocks begins with.
+/// What a third block begins with.
 const THIRD: &str = "{blockAddress:{strandId:\"0000000000000000000000\",sequenceNo:2}";
 
-fn two_blocks() -> Option<&'static str> {
-    let (front, _) = THREE_BLOCKS.split_once(THIRD)?;
+/// The first two of these blocks.
+fn two_of(blocks: &'static str) -> Option<&'static str> {
+    let (front, _) = blocks.split_once(THIRD)?;
     Some(front)
 }
 
@@ -32,12 +35,18 @@ fn named(name: &str) -> Option<&'static str> {
         "REDACTION" => Some(REDACTION),
         "REDACTION_TOLD" => Some(REDACTION_TOLD),
         "REDACTED_BLOCKS" => Some(REDACTED_BLOCKS),
+        "REDACTED_BUNDLE" => Some(REDACTED_BUNDLE),
+        "REDACTED_PROOF" => Some(REDACTED_BUNDLE.trim_end()),
+        "COMPACTED_BLOCKS" => Some(COMPACTED_BLOCKS),
+        "COMPACTED_LINES" => Some(COMPACTED_BLOCKS.trim_end()),
+        "TWO_COMPACTED" => two_of(COMPACTED_BLOCKS),
         "SESSIONS" => Some(SESSIONS),
         "FOUR_OUTCOMES" => Some(FOUR_OUTCOMES),
         "ONE_BLOCK" => Some(ONE_BLOCK),
+        "ONE_LINE" => Some(ONE_BLOCK.trim_end()),
         "ONE_BUNDLE" => Some(ONE_BUNDLE),
         "ONE_PROOF" => Some(ONE_BUNDLE.trim_end()),
-        "TWO_BLOCKS" => two_blocks(),
+        "TWO_BLOCKS" => two_of(THREE_BLOCKS),
         "THREE_BLOCKS" => Some(THREE_BLOCKS),
         "THREE_BUNDLE" => Some(THREE_BUNDLE),
         "THREE_PROOF" => Some(THREE_BUNDLE.trim_end()),

@@ -80,6 +80,13 @@ fn is_extract(alloc: Global, line: &str) -> bool {
     }
 }
 
+fn is_compact(alloc: Global, line: &str) -> bool {
+    match asked(alloc, line) {
+        Some(Ok(Command::Compact)) => true,
+        _ => false,
+    }
+}
+
 fn is_export(alloc: Global, line: &str) -> bool {
     match asked(alloc, line) {
         Some(Ok(Command::Export)) => true,
@@ -270,6 +277,8 @@ fn words_without_values(rt: HostRuntime) {
     assert!(rt; is_audit(rt.alloc(), "audit"));
     assert!(rt; is_extract(rt.alloc(), "extract"));
     assert!(rt; is_extract(rt.alloc(), "extract --"));
+    assert!(rt; is_compact(rt.alloc(), "compact"));
+    assert!(rt; is_compact(rt.alloc(), "compact --"));
     assert!(rt; is_export(rt.alloc(), "export"));
     assert!(rt; is_export(rt.alloc(), "export --"));
 }

@@ -124,6 +124,12 @@ audit 1
 audit --plain-ids
 audit --rules r
 audit --version
+compact 1
+compact --tip 1
+compact --plain-ids
+compact --help
+compacts
+Compact
 export 1
 export --tip 1
 Export";

@@ -24,7 +24,7 @@ fn fed(alloc: Global, bytes: &[u8], long: usize) -> Result<(u64, u64), JournalFa
     'pieces: for piece in bytes.chunks(long) {
         reader.feed_all(piece)?;
     }
-    let (blocks, rest) = reader.end();
+    let (blocks, rest) = reader.end()?;
     Ok((blocks.len(), rest))
 }
 
@@ -77,6 +77,7 @@ fn name_of(damage: Damage) -> &'static str {
         Damage::WrongPrevious => "WrongPrevious of ",
         Damage::WrongHash => "WrongHash of ",
         Damage::WrongState => "WrongState of ",
+        Damage::Unasked => "Unasked of ",
     }
 }
 

@@ -12,7 +12,8 @@ Each argument is a block's steps, with `, ` between them:
 - `strand`, `sequence`, `tx`, `second` and `microsecond` set a part of the header: the last two set the second of the
   year 2020 in UTC, of two digits, with three and with six digits behind it,
 - `table TABLE` adds a table of no revision, `forget table` takes the last table away, and `forget hash` makes the last
-  revision's hash zeros.
+  revision's hash zeros,
+- `forget data` and `forget statements` put their hash in place of the last revision's data and of the statements.
 
 An id is the number of its transaction, and a digit, the number of the thing in it.
 """
@@ -24,7 +25,7 @@ from pathlib import Path
 sys.path.insert(0, str(Path(__file__).resolve().parents[3] / "clients" / "python"))
 
 from ledger import ion  # noqa: E402
-from ledger.hashing import dot, hash_value, root  # noqa: E402
+from ledger.hashing import dot, field_hash, hash_value, root, struct_hash  # noqa: E402
 from ledger.values import Struct  # noqa: E402
 
 DIGITS = "0123456789ABCDEFGHIJKLMNOPQRSTUVWXYZabcdefghijklmnopqrstuvwxyz"
@@ -60,6 +61,7 @@ class Steps:
         self.strand, self.sequence, self.tx = 0, 0, 0
         self.time = moment("00", "000")
         self.schema, self.tables, self.revisions = [], [], []
+        self.said = "statements", []
 
     def address(self):
         return Struct([("strandId", id_text(self.strand)), ("sequenceNo", self.sequence)])
@@ -83,9 +85,16 @@ class Steps:
     def forget(self, what):
         if what == "table":
             self.tables.pop()
+        elif what == "statements":
+            self.said = "statementsHash", field_hash(*self.said)
         else:
-            fields = dict(self.revisions[-1].fields)
-            self.revisions[-1] = Struct(list({**fields, "hash": bytes(32)}.items()))
+            self.revisions[-1] = Struct([self.forgotten(what, *field) for field in self.revisions[-1].fields])
+
+    def forgotten(self, what, name, value):
+        """A field of a revision whose hash or data are forgotten."""
+        if name != what:
+            return name, value
+        return ("hash", bytes(32)) if what == "hash" else ("dataHash", hash_value(value))
 
     def take(self, step):
         """Takes one step."""
@@ -126,12 +135,11 @@ def block(previous, text):
     for step in text.split(", "):
         steps.take(step)
     place = Struct([("session", 1), ("transaction", 1)])
-    info = Struct(
-        [("place", place), ("statements", []), ("schema", steps.schema), ("documents", steps.documents())]
-    )
+    info = Struct([("place", place), steps.said, ("schema", steps.schema), ("documents", steps.documents())])
     head = [("blockAddress", steps.address()), ("transactionId", id_text(steps.tx)), ("blockTimestamp", steps.time)]
     header = Struct([*head, ("revisionCount", len(steps.revisions))])
-    hashes = [hash_value(info), root([revision["hash"] for revision in steps.revisions]), hash_value(header)]
+    said = struct_hash(value if name == "statementsHash" else field_hash(name, value) for name, value in info.fields)
+    hashes = [said, root([revision["hash"] for revision in steps.revisions]), hash_value(header)]
     entries = dot(dot(hashes[0], hashes[1]), hashes[2])
     digest = dot(entries, previous)
     more = [

@@ -3,6 +3,8 @@ ghost use Rattle.std.specs.Prelude.{◌≡◌, List, [], true, IfOk};
 ghost use Rattle.std.specs.List.{list_any};
 ghost use Rattle.ledger_model.specs.declared.block.Schema.{Schema};
 ghost use Rattle.ledger_model.specs.declared.block.Schema.TheVariants as change;
+ghost use Rattle.ledger_model.specs.declared.block.Block.{Block};
+ghost use Rattle.ledger_model.specs.Follows.{is_redacted_in};
 ghost use Rattle.ledger_model.specs.State.{recorded_in, redacts, state};
 ghost use Rattle.journal_text.specs.Stands.{AreTaken, DocumentsStand, IsTaken, RedactionsStand, are_placed, has_named};
 
@@ -74,6 +76,19 @@ impl Redactions {
         Redactions {
             revisions: BTreeSet::new(alloc),
         }
+    }
+
+    /// Whether the revision, of a document of this table, is redacted. It takes no memory.
+    pub(super) fn has(&self, table: TableId, revision: &Revision) -> bool
+        ensures { (blocks : List Block) → RedactionsStand blocks [] self.now
+            → result ≡ is_redacted_in blocks (record { table = table; revision = revision.now }) }
+    {
+        self.revisions.contains(&(
+            revision.address.strand.raw,
+            revision.address.sequence,
+            table.raw,
+            revision.metadata.id.raw,
+        ))
     }
 
     /// Takes in the redaction of a revision, if it can be redacted, and returns whether it can.

@@ -5,7 +5,7 @@ use Rattle.ledger_model.specs.declared.block.Block.{Block}
 use Rattle.tree_descent.proofs.Stops.{stop_for}
 use Rattle.proof_extract.specs.Climbs.{HasChanges}
 use Rattle.proof_extract.specs.Extracts.{IsFound, IsRevisionOf}
-use Rattle.proof_extract.proofs.Chain.{count_here, hashes_here, said_here}
+use Rattle.proof_extract.proofs.Chain.{count_here, hashes_here, told_here}
 use Rattle.proof_extract.proofs.Finds.{found_at}
 use Rattle.proof_extract.proofs.Found.{one_there}
 use Rattle.proof_extract.proofs.find.Goals as goal
@@ -21,9 +21,9 @@ pub revision_in-requires-clause-hashes : goal.revision_in-requires-clause-hashes
 revision_in-requires-clause-hashes c =
     hashes_here c.args.blocks.now c.requires.chained c.in_ok-number.number c.block_at-block.result.now c.block_at-block.ensures
 
-pub revision_in-requires-clause-said : goal.revision_in-requires-clause-said
-revision_in-requires-clause-said c =
-    said_here c.args.blocks.now c.requires.chained c.in_ok-number.number c.block_at-block.result.now c.block_at-block.ensures
+pub revision_in-requires-clause-fits : goal.revision_in-requires-clause-fits
+revision_in-requires-clause-fits c =
+    told_here c.args.blocks.now c.requires.chained c.in_ok-number.number c.block_at-block.result.now c.block_at-block.ensures
 
 pub revision_in-requires-clause-revisions : goal.revision_in-requires-clause-revisions
 revision_in-requires-clause-revisions c =

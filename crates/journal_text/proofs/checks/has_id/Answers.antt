@@ -1,6 +1,5 @@
 use Rattle.std.proofs.Common.{◌≡◌, ◌∙◌, ◌&&◌, ◌==◌, ◌^◌, Bool, true, false, not, refl, sym, ap}
 use Rattle.std.specs.Prelude.{nat_le, nat_lt}
-use Rattle.std.specs.List.{list_any}
 use Rattle.ql_types.specs.Ids.{transaction_in, thing_in}
 use Rattle.journal_text.specs.Stands.{has_transaction}
 use Rattle.journal_text.proofs.checks.has_id.Goals as goal

@@ -41,3 +41,6 @@ lines-preserved c =
 
 pub next_block-requires : goal.next_block-requires
 next_block-requires c = subst (λ (blocks : List Block). StandsBehind blocks c.lines.registry) (sym c.as_slice.ensures) c.lines.invariant.stands
+
+pub check_asked-requires : goal.check_asked-requires
+check_asked-requires c = subst (λ (blocks : List Block). StandsBehind blocks c.lines.registry) (sym c.as_slice-2.ensures) c.lines.invariant.stands

@@ -1,4 +1,4 @@
-use Rattle.journal_text.proofs.Readings.{Laws, journals_tell}
+use Rattle.journal_text.proofs.Readings.{journals_tell}
 use Rattle.journal_text.proofs.laws.journals_tell.Goals as goal
 
 pub returns : goal.returns

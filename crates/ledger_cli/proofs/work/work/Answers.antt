@@ -4,7 +4,7 @@ use Rattle.laws_history.specs.Calls.{span}
 use Rattle.cli_model.specs.Calls.{outside}
 use Rattle.cli_model.specs.Top.{Keeps}
 use Rattle.ledger_cli.specs.Ends.{Works}
-use Rattle.ledger_cli.proofs.Answering.{works_digest, works_proof, works_counts, works_export}
+use Rattle.ledger_cli.proofs.Answering.{works_digest, works_proof, works_compact, works_counts, works_export}
 use Rattle.ledger_cli.proofs.Ending.{takes_none}
 use Rattle.ledger_cli.proofs.Making.{keeps_made, works_made}
 use Rattle.ledger_cli.proofs.Verifying.{works_verify}
@@ -75,6 +75,28 @@ returns-in-Audit-clause-keeps g c =
 
 pub returns-in-Audit-clause-few : goal.returns-in-Audit-clause-few
 returns-in-Audit-clause-few g c = takes_none (g.So.Source.told c.args.source.now)
+
+pub returns-in-Compact-clause-works : goal.returns-in-Compact-clause-works
+returns-in-Compact-clause-works g c =
+    let k = c.ask-in-Compact in
+    let r = c.args.resources in
+    let source = g.So.Source.told c.args.source.now in
+    let x = outside (span source source) (span (g.St.JournalStore.told r.store) (g.St.JournalStore.told k.result.store))
+    (span (g.C.Clock.answers r.clock) (g.C.Clock.answers k.result.clock)) in
+    subst (λ (w : Command). Works (k.result.store ≡ r.store) (Some w) k.result.value x) (sym c.in-Compact.is)
+    (works_compact (k.result.store ≡ r.store) x k.result.value refl k.ensures.tells)
+
+pub returns-in-Compact-clause-keeps : goal.returns-in-Compact-clause-keeps
+returns-in-Compact-clause-keeps g c =
+    let k = c.ask-in-Compact in
+    let r = c.args.resources in
+    let source = g.So.Source.told c.args.source.now in
+    let x = outside (span source source) (span (g.St.JournalStore.told r.store) (g.St.JournalStore.told k.result.store))
+    (span (g.C.Clock.answers r.clock) (g.C.Clock.answers k.result.clock)) in
+    subst (λ (w : Command). Keeps (k.result.store ≡ r.store) (Some w) x) (sym c.in-Compact.is) (k.ensures.tells.1, refl)
+
+pub returns-in-Compact-clause-few : goal.returns-in-Compact-clause-few
+returns-in-Compact-clause-few g c = takes_none (g.So.Source.told c.args.source.now)
 
 pub returns-in-Export-clause-works : goal.returns-in-Export-clause-works
 returns-in-Export-clause-works g c =

@@ -1,7 +1,6 @@
 use Rattle.std.proofs.Common.{◌≡◌, ◌∙◌, sym, ap}
 use Rattle.ql_types.specs.declared.Hash.TheVariants.{Full}
 use Rattle.ledger_model.specs.Seals.{revisions_root}
-use Rattle.ledger_model.proofs.InfoHash.{said_is}
 use Rattle.pad_tree.specs.Paths.{folded}
 use Rattle.tree_descent.proofs.Stops.{stop_for}
 use Rattle.proof_extract.specs.declared.forms.Entries.{Entries}
@@ -28,7 +27,6 @@ stop_under_info-requires-clause-hash c =
     ∙ straight climbed.root climbed.said e.said c.in-Full.root c.in_ok-one_pair.ensures
     (other_bytes climbed.root c.in-Full.root c.eq.result c.eq.ensures c.if-eq.false)
     ∙ ap (λ (x : Entries). x.said) c.entries_of-entries.ensures
-    ∙ said_is c.args.block.now.info c.args.block.now.revisions c.requires.said
 
 pub returns : goal.returns
 returns c =

@@ -2,7 +2,7 @@ use Rattle.std.proofs.Common.{rules, ◌≡◌, ◌∙◌, ◌+◌, ◌++◌, �
 use Rattle.std.specs.Io.BufRead.{take_through}
 use Rattle.ledger_model.specs.Journal.{journal_bytes}
 use Rattle.journal_text.specs.declared.journal.JournalFault.{JournalFault}
-use Rattle.journal_text.specs.Reading.{IsFault}
+use Rattle.journal_text.specs.Reading.{IsLineFault}
 use Rattle.journal_text.specs.Feeding.{ReadSoFar, taken}
 use Rattle.journal_text.proofs.Fed.{taken_part, through_all, through_feed}
 use Rattle.journal_text.proofs.Feeds.{NoFeed}
@@ -31,8 +31,8 @@ returns-in_err-end_line-in-Some-first_line-clause-fault c =
     let fault = c.in_err-end_line-in-Some-first_line.field-0.0 in
     let is : c.from_residual.result ≡ Err fault = search rules in
     subst (λ (r : Result ℕ JournalFault). IfErr r (λ fault. c.args.self.now.damaged ≡ None → (rest : List ℕ)
-    → IsFault (taken c.args.self.now ++ (take_through 10 c.args.piece.now ++ rest)) fault)) (sym is)
-    (λ reads rest. subst (λ (xs : List ℕ). IsFault (taken c.args.self.now ++ (xs ++ rest)) fault) (taken_of c.args.piece.now text c.in-Some-first_line.ensures)
+    → IsLineFault (taken c.args.self.now ++ (take_through 10 c.args.piece.now ++ rest)) fault)) (sym is)
+    (λ reads rest. subst (λ (xs : List ℕ). IsLineFault (taken c.args.self.now ++ (xs ++ rest)) fault) (taken_of c.args.piece.now text c.in-Some-first_line.ensures)
     (c.in_err-end_line-in-Some-first_line.ensures.fault rest))
 
 pub returns-in_ok-extend-in-None-clause-taken : goal.returns-in_ok-extend-in-None-clause-taken

@@ -1,7 +1,7 @@
-use Rattle.std.proofs.Common.{rules, ◌≡◌, ◌+◌, ◌-◌, ◌<◌, ◌≤◌, ◌++◌, ℕ, List, Result, Err, IfErr, length, subst, sym, arith}
+use Rattle.std.proofs.Common.{rules, ◌≡◌, ◌+◌, ◌-◌, ◌<◌, ◌++◌, ℕ, List, Result, Err, IfErr, length, subst, sym, arith}
 use Rattle.std.specs.Io.BufRead.{take_through}
 use Rattle.journal_text.specs.declared.journal.JournalFault.{JournalFault}
-use Rattle.journal_text.specs.Reading.{IsFault}
+use Rattle.journal_text.specs.Reading.{IsLineFault}
 use Rattle.journal_text.specs.Feeding.{taken}
 use Rattle.journal_text.proofs.Fed.{fed_fault, fed_more, through_short, through_some}
 use Rattle.journal_text.proofs.reader.JournalReader.feed_all.Goals as goal
@@ -41,7 +41,7 @@ returns-in_err-at-clause-fault c =
     let so_far = taken c.lines.self in
     let fault = c.in_err-at.field-0.0 in
     let is : c.from_residual.result ≡ Err fault = search rules in
-    let here = subst (λ (xs : List ℕ). (rest : List ℕ) → IsFault (so_far ++ (take_through 10 xs ++ rest)) fault) c.split_at.ensures.back
+    let here = subst (λ (xs : List ℕ). (rest : List ℕ) → IsLineFault (so_far ++ (take_through 10 xs ++ rest)) fault) c.split_at.ensures.back
     (c.in_err-at.ensures.fault c.lines.invariant.reads) in
-    subst (λ (r : Result (Unit {0}) JournalFault). IfErr r (λ fault. (rest : List ℕ) → IsFault (taken c.args.self.now ++ (piece ++ rest)) fault)) (sym is)
+    subst (λ (r : Result (Unit {0}) JournalFault). IfErr r (λ fault. (rest : List ℕ) → IsLineFault (taken c.args.self.now ++ (piece ++ rest)) fault)) (sym is)
     (fed_fault piece (taken c.args.self.now) so_far c.lines.at fault c.lines.invariant.taken here)

@@ -1,6 +1,6 @@
 use Rattle.std.proofs.Common.{◌∙◌, sym}
-use Rattle.std.proofs.lemmas.Bool.{and_parts, and_right, eqb-true}
-use Rattle.ledger_model.specs.Follows.{follows, redactions_follow}
+use Rattle.std.proofs.lemmas.Bool.{and_parts, and_right}
+use Rattle.ledger_model.specs.Follows.{follows}
 use Rattle.ledger_model.specs.State.{state}
 use Rattle.journal_text.proofs.Admits.{all_follow, ids_stop, refused_first, revisions_stop, schema_stops, told, wrong}
 use Rattle.journal_text.proofs.After.{documents_taken, redactions_taken, schema_taken, sequence_is, stands_after}

@@ -27,7 +27,7 @@ pub returns-clause-images : goal.returns-clause-images
 returns-clause-images g c =
     rw (← c.self.view_is)
     (settled_images g.S.JournalStore.told _ _ c.self.inside.keeper.size c.self.invariant.0.long refl
-    SettleFault {T = Unit {0}} {U = Unit {0}} tt tt c.self.invariant.0.stands.undamaged c.in_ok-settle.ensures.images c.in_ok-settle.ensures.settled)
+    SettleFault {T = Unit {0}} {U = Unit {0}} tt tt c.self.invariant.0.stands.undamaged c.self.invariant.0.stands.asked c.in_ok-settle.ensures.images c.in_ok-settle.ensures.settled)
 
 pub returns-in_err-settle-clause-calls : goal.returns-in_err-settle-clause-calls
 returns-in_err-settle-clause-calls g c = rw (← c.self.view_is) c.in_err-settle.ensures.calls

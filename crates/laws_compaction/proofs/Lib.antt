@@ -1,0 +1,11 @@
+pub mod Keeps
+pub mod Gone
+pub mod Shown
+pub mod Asked
+pub mod Follows
+pub mod Before
+pub mod Hashes
+pub mod Smaller
+pub mod Whole
+pub mod Digests
+pub mod Compacted
