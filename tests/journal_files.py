@@ -24,7 +24,7 @@ MAKE = ["make", "--seed", "1", "--sessions", "1", "--transactions", "1"]
 CREATE = b'[{statements:["CREATE TABLE t"]}]'
 INSERT = b'{statements:["INSERT INTO t {\'n\':1}"]}'
 FAULT = b"{status:5,faults:1}\n"
-READING = [["audit"], ["digest"], ["export"], ["prove", "0", "0"]]
+READING = [["audit"], ["digest"], ["compact"], ["export"], ["prove", "0", "0"]]
 NOBODY = 65534
 
 # a bundle of no journal
@@ -92,7 +92,7 @@ def locked(program, journal):
     whole = left(journal)
     with open(journal, "rb") as file:
         fcntl.flock(file, fcntl.LOCK_SH)
-        for words in READING[:3]:
+        for words in READING[:4]:
             check(run(program, [journal] + words)[0] == 0, f"{words} beside another reader")
         check(run(program, [journal, "extract"], BUNDLE) == (7, NOT_PUBLISHED), "extract beside another reader")
         check(run(program, [journal] + RUN, CREATE) == (5, FAULT), "a run beside a reader")
@@ -110,7 +110,7 @@ def read_only(program, folder, journal):
         person = {}
     else:
         person = {"user": NOBODY, "group": NOBODY, "extra_groups": []}
-    ends = [run(program, [journal] + words) for words in READING[:3]]
+    ends = [run(program, [journal] + words) for words in READING[:4]]
     whole = left(journal)
     os.chmod(journal, 0o444)
     for words, end in zip(READING, ends):

@@ -448,7 +448,7 @@ class Doctors(WithFolder):
         kinds = {}
         for row in rows["damaged"]:
             kinds.setdefault(row["kind"], row)
-        self.assertEqual(len(kinds), 7)
+        self.assertEqual(len(kinds), 8)
         for row in kinds.values():
             lines = whole[row["journal"]][:row["keep"]] + row["then"]
             write(self.journal, "".join(line + "\n" for line in lines).encode())

@@ -19,7 +19,7 @@ import tempfile
 from concurrent.futures import ThreadPoolExecutor
 from pathlib import Path
 
-from rows import FIRST_ANSWERS, RUN, THREE_BLOCKS, VEHICLE_REGISTRATION, Program
+from rows import FIRST_ANSWERS, REDACTED, RUN, THREE_BLOCKS, VEHICLE_REGISTRATION, Program
 
 HERE = Path(__file__).resolve().parent
 PROGRAM = HERE.parent / "crates" / "ledger" / "out" / "ledger"
@@ -78,14 +78,14 @@ def refused_run(refuser, program, row, script, ample, at):
     return None
 
 
-def refused_command(refuser, program, words, given, ample, at):
+def refused_command(refuser, program, journal, words, given, ample, at):
     """What is wrong with a command that only reads, and whose allocation of this number is refused."""
-    before = program.left("whole")
-    status, output, made = refuser.run(program, "whole", words, given, at)
+    before = program.left(journal)
+    status, output, made = refuser.run(program, journal, words, given, at)
     if made >= at and status != 8 and (status, output) != ample:
-        return f"{words}, allocation {at}: status {status}, {output[-200:]!r}"
-    if program.left("whole") != before:
-        return f"{words}, allocation {at}: the journal changed"
+        return f"{words} on {journal}, allocation {at}: status {status}, {output[-200:]!r}"
+    if program.left(journal) != before:
+        return f"{words} on {journal}, allocation {at}: the journal changed"
     return None
 
 
@@ -100,7 +100,8 @@ def tried(one, total, step):
 
 def rows(refuser, program, step):
     """The scripts of the rows, each run with a refused allocation."""
-    for row, script in [("first-answers", FIRST_ANSWERS), ("three-blocks", THREE_BLOCKS), ("vehicle", VEHICLE_REGISTRATION)]:
+    scripts = [("first-answers", FIRST_ANSWERS), ("three-blocks", THREE_BLOCKS), ("vehicle", VEHICLE_REGISTRATION), ("redacted", REDACTED)]
+    for row, script in scripts:
         status, output, total = refuser.run(program, row, RUN, script, NEVER)
         check(status == 0, f"{row} runs with ample memory")
         ample = (status, output, program.left(row))
@@ -109,18 +110,27 @@ def rows(refuser, program, step):
 
 
 def commands(refuser, program, step):
-    """The commands that read the journal of three blocks, or a proof from it."""
-    check(program.run("whole", RUN, THREE_BLOCKS)[0] == 0, "the journal is made")
-    proof = program.run("whole", ["prove", "2", "0"])[1]
-    nothing = [(words, b"") for words in (["digest"], ["prove", "2", "0"], ["audit"], ["export"])]
-    for words, given in [*nothing, (["verify"], proof), (["extract"], proof)]:
-        status, output, total = refuser.run(program, "whole", words, given, NEVER)
-        check(status == 0, f"{words} with ample memory")
-        ample = (status, output)
-        numbers = range(1, total + 1, step)
-        wrong = [it for it in (refused_command(refuser, program, words, given, ample, at) for at in numbers) if it]
-        check(not wrong, wrong[:3])
-        print(f"{words[0]}: {total} allocations, {len(numbers)} runs")
+    """The commands that read a journal of three blocks, one that redacts and that one compacted, or proofs from them."""
+    for journal, script in [("whole", THREE_BLOCKS), ("redacts", REDACTED)]:
+        check(program.run(journal, RUN, script)[0] == 0, f"the journal {journal} is made")
+    program.put("compacted", program.run("redacts", ["compact"])[1])
+    proof, other = program.run("whole", ["prove", "2", "0"])[1], program.run("redacts", ["prove", "0", "0"])[1]
+    tried = [("whole", words, b"") for words in (["digest"], ["prove", "2", "0"], ["audit"], ["export"])]
+    tried += [("whole", ["verify"], proof), ("whole", ["extract"], proof)]
+    tried += [("redacts", ["prove", "0", "0"], b""), ("redacts", ["compact"], b"")]
+    tried += [("compacted", ["audit"], b""), ("compacted", ["extract"], other)]
+    for journal, words, given in tried:
+        refused_at_each(refuser, program, journal, words, given, step)
+
+
+def refused_at_each(refuser, program, journal, words, given, step):
+    """A command that only reads, with each step-th allocation refused."""
+    status, output, total = refuser.run(program, journal, words, given, NEVER)
+    check(status == 0, f"{words} on {journal} with ample memory")
+    ample, numbers = (status, output), range(1, total + 1, step)
+    wrong = [it for it in (refused_command(refuser, program, journal, words, given, ample, at) for at in numbers) if it]
+    check(not wrong, wrong[:3])
+    print(f"{words[0]} on {journal}: {total} allocations, {len(numbers)} runs")
 
 
 def main():

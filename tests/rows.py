@@ -36,6 +36,16 @@ VEHICLE_REGISTRATION = b"""[
 ]
 """
 
+# a document that is made and changed, and the redaction of its first revision
+REDACTED = b"""[
+ {statements:["CREATE TABLE t",{text:"INSERT INTO t ?",params:[{a:5}]}]},
+ {statements:["UPDATE t SET a = 6"]},
+ {statements:[{text:"EXEC REDACT_REVISION ?, ?, ?",params:[{strandId:"0000000000000000000000",sequenceNo:0},
+   "0000000000000000018OWH","0000000000000000018OWI"]}]},
+ {statements:["SELECT h.data.a AS a, h.dataHash IS MISSING AS kept FROM history(t) AS h"]}
+]
+"""
+
 
 class Program:
     """A program, and a folder for its journals."""

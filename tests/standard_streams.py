@@ -70,8 +70,8 @@ def main():
         journal = os.path.join(folder, "journal")
         check(run(program, [journal] + RUN, CREATE)[0] == 0, "one block is committed")
         whole = left(journal)
-        ends = {command: run(program, [journal, command]) for command in ["audit", "digest", "export"]}
-        check([status for status, _ in ends.values()] == [0, 0, 0], "the journal is whole")
+        ends = {command: run(program, [journal, command]) for command in ["audit", "compact", "digest", "export"]}
+        check(all(status == 0 for status, _ in ends.values()), "the journal is whole")
         first_blocks(program, folder, whole)
         kept_journals(program, journal, whole, ends)
     print(f"closed streams: all as they should be, {len(CLOSED)} ways to close them")

@@ -250,13 +250,8 @@ def program_bundles(program, none):
     for one in spellings["refused"]:
         line = f"{{status:2,fault:{{at:{one['at']},kind:{one['kind']}}}}}"
         yield f"refused spelling {one['rule']}: {one['hex'][:40]}", bytes.fromhex(one["hex"]), line
-    first = next(one for one in bundles if one.get("needs") == "redaction")
-    knows = line_answer(program, [none, "verify"], first["bundle"].encode()) == ACCEPTED
-    if not knows:
-        print("skipped: redacted revisions in the program, which doesn't know them")
     for one in bundles:
-        if knows or "needs" not in one:
-            yield f"bundle {one['name']}", one["bundle"].encode(), one["verify"]
+        yield f"bundle {one['name']}", one["bundle"].encode(), one["verify"]
 
 
 def try_bundles(tally, program, folder):
@@ -291,18 +286,23 @@ def try_journals(tally, program, folder):
 
 
 def try_whole(tally, program, folder):
-    """That the program leaves the registry's lines, and gives the digests and the bundles of the vectors."""
-    registry = next(one for one in load("journals")["whole"] if one["name"] == "registry")
-    journal = os.path.join(folder, "registry")
-    for one in registry["runs"]:
-        run(program, [journal, "run", "--workers", "1", "--plain-ids", "--at", one["at"]], one["script"].encode())
-    tally.same("run: the registry's lines", Path(journal).read_text(encoding="utf-8").splitlines(), registry["lines"])
-    for tip, digest in enumerate(registry["digests"]):
-        tally.same(f"digest --tip {tip}", line_answer(program, [journal, "digest", "--tip", tip]), digest)
+    """That the program leaves the lines of whole journals, also compacted, and gives the digests and the bundles of the vectors."""
+    whole = {one["name"]: one for one in load("journals")["whole"]}
+    for name, row in whole.items():
+        journal = os.path.join(folder, name)
+        for one in row.get("runs", ()):
+            run(program, [journal, "run", "--workers", "1", "--plain-ids", "--at", one["at"]], one["script"].encode())
+        if "runs" in row:
+            tally.same(f"run: the lines of {name}", Path(journal).read_text(encoding="utf-8").splitlines(), row["lines"])
+        written_journal(journal, row["lines"])
+        lines = whole[row.get("compact", name)]["lines"]
+        tally.same(f"compact: the lines of {name}", run(program, [journal, "compact"]), (0, "".join(line + "\n" for line in lines)))
+        for tip, digest in enumerate(row["digests"]):
+            tally.same(f"digest --tip {tip} of {name}", line_answer(program, [journal, "digest", "--tip", tip]), digest)
     for one in load("bundles")["bundles"]:
         if "prove" in one:
             place = one["prove"]
-            got = run(program, [journal, "prove", place["sequence"], place["index"], "--tip", place["tip"]])
+            got = run(program, [os.path.join(folder, place["journal"]), "prove", place["sequence"], place["index"], "--tip", place["tip"]])
             tally.same(f"prove: {one['name']}", got, (0, one["bundle"]))
 
 

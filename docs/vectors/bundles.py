@@ -15,6 +15,10 @@ BASE64 = "ABCDEFGHIJKLMNOPQRSTUVWXYZabcdefghijklmnopqrstuvwxyz0123456789+/"
 PROOFS = [(0, 0, 0), (0, 1, 0), (0, 2, 0), (0, 0, 4), (0, 2, 3), (1, 0, 1), (1, 0, 2), (1, 0, 4), (3, 0, 3), (3, 0, 4), (4, 0, 4)]
 PROOFS += [(4, 1, 4)]
 
+# those of the compacted journal: of a redacted revision, and of one in the same block that isn't redacted
+REDACTED = "the hash of the data stands in its place, as dataHash"
+REDACTED_PROOFS = {"a redacted revision, the last tip": (0, 2, 6), "a revision beside redacted ones": (0, 1, 6)}
+
 
 def refusal(code, fields):
     return f"{{status:7,fault:{{code:{code},{fields}}}}}"
@@ -288,10 +292,10 @@ def in_order(registry, other):
     yield "the count before the digest", "1 2", malformed("count"), False, rule
 
 
-def redacted(registry):
+def redacted(compacted):
     """Revisions whose data was taken out, so that the hash of the data stands in its place."""
-    parts = registry.bundle(0, 0, 4, redacted=True)
-    rule = "the hash of the data stands in its place, as dataHash"
+    parts = compacted.bundle(0, 0, 4)
+    rule = REDACTED
     yield "a redacted revision", bundle_text(parts), ACCEPTED, True, rule
     changed = [parts[0], flip(parts[1], "dataHash"), parts[2]]
     yield "one bit of dataHash", bundle_text(changed), hash_differs(changed), True, rule

@@ -218,8 +218,7 @@ def serialize(value):
         magnitude = abs(content).to_bytes((abs(content).bit_length() + 7) // 8, "big")
         return frame(0x30 if content < 0 else 0x20, escape(magnitude))
     if kind == "struct":
-        fields = sorted(H256(serialize(symbol(name)) + serialize(member)) for name, member in content)
-        return frame(0xD0, escape(b"".join(fields)))
+        return struct_form(field_hash(name, member) for name, member in content)
     if kind in ("list", "sexp"):
         return frame(QUALIFIERS[kind] - 0x0F, b"".join(map(serialize, content)))
     if kind == "decimal":
@@ -229,6 +228,15 @@ def serialize(value):
     elif kind in ("symbol", "string"):
         content = content.encode()
     return frame(QUALIFIERS[kind] - 0x0F, escape(content))
+
+
+def field_hash(name, value):
+    return H256(serialize(symbol(name)) + serialize(value))
+
+
+def struct_form(hashes):
+    """The serialization of a struct, from the hashes of its fields."""
+    return frame(0xD0, escape(b"".join(sorted(hashes))))
 
 
 def H(value):
@@ -296,20 +304,26 @@ def address(strand, place):
 
 
 class Revision:
-    """A revision. `data` is None where it deletes its document; with `redacted` the hash of the data stands in its place."""
+    """A revision. `data` is None where it deletes its document; `data_hash`, if it is there, stands in the place of the data."""
 
     def __init__(self, document, table, version, data):
         self.document, self.table, self.version, self.data = document, table, version, data
-        self.strand = self.place = self.time = self.transaction = self.hash = None
+        self.strand = self.place = self.time = self.transaction = self.hash = self.data_hash = None
 
     def metadata(self):
         return structure(id=string(self.document), version=number(self.version), txTime=self.time, txId=string(self.transaction))
 
-    def computed(self):
-        return dot(H(self.metadata()), H(self.data) if self.data else b"")
+    def content_hash(self):
+        return self.data_hash or (H(self.data) if self.data else b"")
 
-    def value(self, redacted=False):
-        content = {} if self.data is None else {"dataHash": blob(H(self.data))} if redacted else {"data": self.data}
+    def computed(self):
+        return dot(H(self.metadata()), self.content_hash())
+
+    def redact(self):
+        self.data_hash = self.content_hash() or None
+
+    def value(self):
+        content = {"dataHash": blob(self.data_hash)} if self.data_hash else {"data": self.data} if self.data else {}
         return structure(blockAddress=address(self.strand, self.place), hash=blob(self.hash), **content, metadata=self.metadata())
 
 
@@ -319,6 +333,7 @@ class Block:
     def __init__(self, strand, place, transaction, time, turn, statements, schema, revisions):
         self.strand, self.place, self.transaction, self.time, self.turn = strand, place, transaction, time, turn
         self.statements, self.schema, self.revisions = statements, schema, revisions
+        self.told_hash = None  # stands in the place of the statements, if it is there
         for one in revisions:
             one.strand, one.place, one.time, one.transaction = strand, place, time, transaction
 
@@ -336,18 +351,26 @@ class Block:
             for words, parameters, answer in self.statements
         ]
         touched = [structure(documentId=string(one.document), tableId=string(one.table)) for one in self.revisions]
+        told = {"statementsHash": blob(self.told_hash)} if self.told_hash else {"statements": sequence(*said)}
         return structure(
             place=structure(session=number(self.turn[0]), transaction=number(self.turn[1])),
-            statements=sequence(*said),
+            **told,
             schema=sequence(*self.schema),
             documents=sequence(*touched),
         )
+
+    def info_hashes(self):
+        """The hashes of the four fields of `transactionInfo`, of which a stored one may stand for the statements."""
+        return [self.told_hash if name == "statementsHash" else field_hash(name, value) for name, value in self.info()[1]]
+
+    def hide_statements(self):
+        self.told_hash = self.info_hashes()[1]
 
     def seal(self, previous):
         for one in self.revisions:
             one.hash = one.computed()
         self.previous = previous
-        self.parts = [H(self.info()), root([one.hash for one in self.revisions]), H(self.header())]
+        self.parts = [H256(struct_form(self.info_hashes())), root([one.hash for one in self.revisions]), H(self.header())]
         self.entries = dot(dot(self.parts[0], self.parts[1]), self.parts[2])
         self.hash = dot(self.entries, previous)
         return self
@@ -405,9 +428,9 @@ class Journal:
         path += siblings([one.hash for one in self.blocks[: tip + 1]], place)
         return structure(header=block.header(), index=number(index), path=sequence(*map(blob, path)))
 
-    def bundle(self, place, index, tip, redacted=False):
+    def bundle(self, place, index, tip):
         """The digest, the revision and its proof, as values."""
-        return [self.digest(tip), self.blocks[place].revisions[index].value(redacted), self.proof(place, index, tip)]
+        return [self.digest(tip), self.blocks[place].revisions[index].value(), self.proof(place, index, tip)]
 
 
 def bundle_text(parts):

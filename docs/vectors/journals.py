@@ -1,4 +1,5 @@
-"""Two small journals, and what is damaged in them (docs/formats.md, "Blocks" and "The journal")."""
+"""Small journals, and what is damaged in them (docs/formats.md, "Blocks" and "The journal")."""
+import copy
 import re
 
 from bundles import BASE64
@@ -72,7 +73,40 @@ def runs(journal):
             sessions.setdefault(block.turn[0], []).append(structure(statements=sequence(*statements)))
         return [sequence(*transactions) for transactions in sessions.values()]
 
-    return [(MORNING, script(journal.blocks[:2])), (LEAP_DAY, script(journal.blocks[2:]))]
+    parts = [(MORNING, journal.blocks[:2]), (LEAP_DAY, journal.blocks[2:5]), (LEAP_DAY, journal.blocks[5:])]
+    return [(time, script(blocks)) for time, blocks in parts if blocks]
+
+
+def erased():
+    """The registry with two blocks more: the first redacts the first owner of a car and the content of one that was deleted."""
+    journal = registry()
+    table, cars = journal.id(1, 1), [journal.id(1, 2), journal.id(1, 4)]
+    address = structure(strandId=string(journal.strand), sequenceNo=number(0))
+    parts = [[("blockAddress", address), ("tableId", string(table)), ("documentId", string(one))] for one in cars]
+    answers = [[structure(*part, ("version", number(0)))] for part in parts]
+    said = [("EXEC REDACT_REVISION ?, ?, ?", [value for _, value in part], answer) for part, answer in zip(parts, answers)]
+    journal.append(6, LEAP_DAY, (1, 1), said, [redaction(journal, 0, one) for one in cars])
+    owners = [structure(Owner=string(name)) for name in ("Melvin Parker", "Brent Logan")]
+    last = ("SELECT v.Owner FROM Vehicle AS v WHERE v.Kinds IS MISSING", [], owners)
+    journal.append(7, LEAP_DAY, (1, 2), [last])
+    return journal
+
+
+def compacted(journal):
+    """The journal without what its blocks redact; its hashes stay."""
+    journal = copy.deepcopy(journal)
+    entries = [(block.place, dict(entry[1])) for block in journal.blocks for entry in block.schema if "redact" in dict(entry[1])]
+    named = {(dict(entry["redact"][1])["sequenceNo"][1], entry["documentId"][1]) for _, entry in entries}
+    last = max(place for place, _ in entries)
+    for block in journal.blocks:
+        if block.place <= last:
+            block.hide_statements()
+        for one in block.revisions:
+            if (block.place, one.document) in named:
+                one.redact()
+        before = block.hash
+        assert block.seal(journal.previous(block.place)).hash == before
+    return journal
 
 
 def other():
@@ -372,6 +406,83 @@ def in_order(journal):
         yield name, kind, 1, " " + line if kind == "NotALine" else line, rule
     first = journal.changed(1, time)
     yield "the first damaged line is told", "TimeFell", 1, [first, "", journal.lines()[3]], "the first damaged line is told"
+
+
+def partly(journal):
+    """Lines of a compacted journal which have again what is redacted: each with its place, and what it is."""
+    data = lambda block: setattr(block.revisions[0], "data_hash", None)  # noqa: E731
+    told = lambda block: setattr(block, "told_hash", None)  # noqa: E731
+    yield "the data beside the hash of the statements", 0, data
+    yield "the statements beside the hash of the data", 0, told
+    yield "the statements in the middle", 3, told
+    yield "the statements of the block that redacts", 5, told
+
+
+def not_hidden(journal):
+    """Lines with a hash in place of data or of statements, which are no lines. The place is 0."""
+    line = journal.lines()[0]
+    data, told = (found + re.search(found + "({{[^}]*}})", line)[1] for found in ("dataHash:", "statementsHash:"))
+    empty, short = "{{}}", "{{" + "A" * 40 + "AA==}}"
+    changes = {}
+    for name, field in (("data", data), ("statements", told)):
+        changes |= {
+            f"the hash of {name} has 31 bytes": (field, field.split(":")[0] + ":" + short),
+            f"the hash of {name} is empty": (field, field.split(":")[0] + ":" + empty),
+            f"the hash of {name} as a string": (field, field.replace("{{", '"').replace("}}", '"')),
+            f"the hash of {name} is annotated": (field, field.replace(":", ":x::", 1)),
+        }
+    changes |= {
+        "data and their hash": (data, "data:{}," + data),
+        "the hash of data, and data": (data, data + ",data:{}"),
+        "the hash of data where data stand": (data, data.replace("dataHash", "data") + ",dataHash:null"),
+        "statements and their hash": (told, "statements:[]," + told),
+        "the hash of statements, and statements": (told, told + ",statements:[]"),
+    }
+    rule = "one blob of 32 bytes stands in the place of the data, or of the statements"
+    yield from ((name, "NotALine", 0, swapped(line, *change), rule) for name, change in changes.items())
+
+
+def wrong_hidden(journal):
+    flip = lambda data: data[:-1] + bytes([data[-1] ^ 1])  # noqa: E731
+    changes = {
+        "one bit of the hash of data": (0, lambda block: setattr(block.revisions[0], "data_hash", flip(block.revisions[0].data_hash))),
+        "the hash of other data": (0, lambda block: setattr(block.revisions[0], "data_hash", block.revisions[2].data_hash)),
+        "a delete with a hash of data": (3, lambda block: setattr(block.revisions[0], "data_hash", bytes(32))),
+        "one bit of the hash of statements": (2, lambda block: setattr(block, "told_hash", flip(block.told_hash))),
+        "the hash of another block's statements": (2, lambda block: setattr(block, "told_hash", journal.blocks[1].told_hash)),
+        "the hash of transactionInfo in place of that of its statements": (1, lambda block: setattr(block, "told_hash", block.parts[0])),
+    }
+    rule = "a hash is the computed one, also where a hash stands for data or statements"
+    yield from ((name, "WrongHash", place, journal.changed(place, change, False), rule) for name, (place, change) in changes.items())
+
+
+def unasked(journal):
+    """Hashes in place of data or of statements that no block of the journal asks for. All hashes hold."""
+    lines = journal.lines()
+    rule = "all lines pass the other checks, and the hash that stands for data or statements isn't asked for"
+    for kept in (1, 3, 5):
+        yield f"the first {kept} lines, without the block that redacts", "Unasked", 0, lines[:kept], rule
+    yield "statements of a block behind the last that redacts", "Unasked", 6, [*lines[:6], journal.changed(6, hide)], rule
+    for name, place, index in (("the latest revision of its document", 1, 0), ("the only revision of its document", 4, 0), ("an older revision", 0, 1)):
+        yield f"{name}, which no block redacts", "Unasked", place, [*lines[:place], journal.changed(place, redacted(index)), *lines[place + 1 :]], rule
+    both = [*lines[:4], journal.changed(4, redacted(1)), lines[5], journal.changed(6, hide)]
+    yield "the first of two is told", "Unasked", 4, both, rule
+    rule = "the first line that fails a check is told, before a hash that isn't asked for"
+    time = journal.changed(5, lambda block: setattr(block, "time", MORNING))
+    yield "a later line that fails a check", "TimeFell", 5, [*lines[:5], time], rule
+
+
+def hide(block):
+    block.hide_statements()
+
+
+def redacted(index):
+    return lambda block: block.revisions[index].redact()
+
+
+def damages_of_compacted(journal):
+    for family in (not_hidden, wrong_hidden, unasked):
+        yield from family(journal)
 
 
 def damages(journal):

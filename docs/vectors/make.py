@@ -91,15 +91,20 @@ def steps(journal, place):
 
     for number, one in enumerate(block.revisions):
         step(f"the metadata of revision {number}", text(one.metadata()), H(one.metadata()))
-        if one.data:
-            step(f"the data of revision {number}", text(one.data), H(one.data))
+        if one.content_hash():
+            step(f"the data of revision {number}", "the blob dataHash" if one.data_hash else text(one.data), one.content_hash())
         step(f"revision {number}", "dot of the two above" if one.data else "the one above, since there is no data", one.hash)
     hashes = [one.hash for one in block.revisions]
     for height, level in enumerate(levels(hashes)[1:] if hashes else [], 1):
         for node, hash in enumerate(level):
             below = f"dot of the nodes {2 * node} and {2 * node + 1} below, padded by pad"
             step(f"node {node} of level {height} of the tree of the revisions", below, hash)
-    step("transactionInfo", text(block.info()), block.parts[0])
+    if block.told_hash:
+        for (name, value), hash in zip(block.info()[1], block.info_hashes()):
+            step(f"the field {name}", "the blob itself" if name == "statementsHash" else f"the symbol {name} and {text(value)}", hash)
+        step("transactionInfo", "a struct whose fields have the four hashes above", block.parts[0])
+    else:
+        step("transactionInfo", text(block.info()), block.parts[0])
     step("the header", text(block.header()), block.parts[2])
     first = dot(block.parts[0], block.parts[1])
     step("transactionInfo and the root", "dot of the two" if hashes else "transactionInfo's, since there is no root", first)
@@ -109,35 +114,45 @@ def steps(journal, place):
     return {"block": place, "steps": found, "line": block.line(), "digest": text(journal.digest(place))}
 
 
-def journal_vectors(registry, other):
+def journal_vectors(registry, other, erased, compacted):
     def whole(name, journal, **more):
         counts = [len(block.revisions) for block in journal.blocks]
         digests = [text(journal.digest(tip)) for tip in range(len(counts))]
         return {"name": name, "lines": journal.lines(), "blocks": len(counts), "revisions": sum(counts), "digests": digests, **more}
 
-    made = [{"at": text(time), "script": "".join(text(one) + "\n" for one in script)} for time, script in journals.runs(registry)]
-    good = [whole("registry", registry, runs=made), whole("other", other)]
+    def made(journal):
+        return [{"at": text(time), "script": "".join(text(one) + "\n" for one in script)} for time, script in journals.runs(journal)]
 
-    def behind(name, place, lines, **more):
-        return {"name": name, "journal": "registry", "keep": place, "then": lines, **more}
+    good = [whole("registry", registry, runs=made(registry)), whole("other", other)]
+    good += [whole("erased", erased, runs=made(erased), compact="compacted"), whole("compacted", compacted, compact="compacted")]
+
+    def behind(name, place, lines, journal="registry", **more):
+        return {"name": name, "journal": journal, "keep": place, "then": lines, **more}
 
     damaged = [
         behind(name, place, line if isinstance(line, list) else [line], sequence=place, kind=kind, rule=rule)
         for name, kind, place, line, rule in journals.damages(registry)
     ]
+    for name, kind, place, line, rule in journals.damages_of_compacted(compacted):
+        keep, lines = (0, line) if isinstance(line, list) else (place, [line])
+        damaged.append(behind(name, keep, lines, "compacted", sequence=place, kind=kind, rule=rule))
     deep = registry.changed(0, lambda block: setattr(block.revisions[0], "data", journals.nested(64)))
     sound = [behind("a document 64 deep", 0, [deep], blocks=1, revisions=3)]
     sound += [
         behind(name, place, [registry.changed(place, change)], blocks=place + 1, revisions=count)
         for name, place, change, count in journals.redacting(registry)
     ]
+    sound += [
+        behind(name, 0, [*compacted.lines()[:place], compacted.changed(place, change), *compacted.lines()[place + 1 :]], "compacted", blocks=7, revisions=7)
+        for name, place, change in journals.partly(compacted)
+    ]
     return {"whole": good, "sound": sound, "damaged": damaged}
 
 
-def bundle_vectors(registry, other):
+def bundle_vectors(registry, other, compacted):
     """Each bundle with the digest that was published: its own, or that of the registry's last block where it isn't its own."""
 
-    every = {text(journal.digest(tip)) for journal in (registry, other) for tip in range(len(journal.blocks))}
+    every = {text(journal.digest(tip)) for journal in (registry, other, compacted) for tip in range(len(journal.blocks))}
 
     def entry(name, words, line, own, rule, **more):
         first = words.split("\n")[0]
@@ -148,19 +163,23 @@ def bundle_vectors(registry, other):
     found = [entry(*one) for one in bundles.all_bundles(registry, other)]
     for (place, index, tip), one in zip(bundles.PROOFS, found):
         one["prove"] = {"journal": "registry", "sequence": place, "index": index, "tip": tip}
-    return {"bundles": found + [entry(*one, needs="redaction") for one in bundles.redacted(registry)]}
+    for name, (place, index, tip) in bundles.REDACTED_PROOFS.items():
+        one = entry(name, bundle_text(compacted.bundle(place, index, tip)), bundles.ACCEPTED, True, bundles.REDACTED)
+        found.append(one | {"prove": {"journal": "compacted", "sequence": place, "index": index, "tip": tip}})
+    return {"bundles": found + [entry(*one) for one in bundles.redacted(compacted)]}
 
 
 def made():
     """The name and the text of each file."""
-    registry, other = journals.registry(), journals.other()
+    registry, other, erased = journals.registry(), journals.other(), journals.erased()
+    compacted = journals.compacted(erased)
     found = {
         "values": values(other),
         "spellings": texts(other),
         "pairs": pairs(),
-        "blocks": {"blocks": [steps(registry, place) for place in range(len(registry.blocks))] + [steps(other, 0)]},
-        "journals": journal_vectors(registry, other),
-        "bundles": bundle_vectors(registry, other),
+        "blocks": {"blocks": [*(steps(registry, place) for place in range(5)), steps(other, 0), steps(compacted, 0)]},
+        "journals": journal_vectors(registry, other, erased, compacted),
+        "bundles": bundle_vectors(registry, other, compacted),
     }
     return {name + ".json": json.dumps(content, indent=1) + "\n" for name, content in found.items()}
 

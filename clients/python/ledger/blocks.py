@@ -15,7 +15,7 @@ from dataclasses import dataclass, field, replace
 from typing import Any, NamedTuple, Optional, Union
 
 from . import ion
-from .hashing import dot, hash_value, root
+from .hashing import dot, field_hash, hash_value, root, struct_hash
 from .ids import id_number
 from .ion import Struct, Timestamp, Value, bare
 
@@ -113,11 +113,12 @@ class Block:
     previous_hash: bytes
     entries_list: list[bytes]
     place: Place
-    statements: list[Said]
+    statements: list[Said]  # empty if their hash stands in their place
     schema: list[Change]
     redactions: list[Redaction]
     revisions: list[Revision]
     value: Struct = field(repr=False)
+    statements_hash: Optional[bytes] = None  # None unless it stands in place of the statements
 
     def header(self) -> Struct:
         """The header, which stands in no field: its hash is the last of `entries_list`."""
@@ -127,7 +128,12 @@ class Block:
     def computed_list(self) -> list[bytes]:
         """The hashes of what it said and did, of its revisions and of its header, which `entries_list` has to be."""
         revisions = root([revision.hash for revision in self.revisions])
-        return [hash_value(self.value["transactionInfo"]), revisions, hash_value(self.header())]
+        return [self._info_hash(), revisions, hash_value(self.header())]
+
+    def _info_hash(self) -> bytes:
+        """The hash of what it said and did, in which a hash may stand for its statements."""
+        fields = self.value["transactionInfo"].fields
+        return struct_hash(value if name == "statementsHash" else field_hash(name, value) for name, value in fields)
 
 
 # ---- parts
@@ -192,15 +198,17 @@ def depth(value: Value) -> int:
 
 def _revision(value: Value, index: int, document: Value) -> Revision:
     deleted = type(value) is Struct and len(value) == 3
-    names = ["blockAddress", "hash", "metadata"] if deleted else ["blockAddress", "hash", "data", "metadata"]
+    redacted = not deleted and type(value) is Struct and "dataHash" in value
+    content_name = [] if deleted else ["dataHash" if redacted else "data"]
+    names = ["blockAddress", "hash", *content_name, "metadata"]
     address, stated, *content, metadata = _fields(value, names, "a revision")
     made, version, time, transaction_id = _fields(metadata, ["id", "version", "txTime", "txId"], "metadata")
-    _need(deleted or depth(content[0]) <= DOCUMENT_DEPTH, "a document that nests too deep")
+    _need(deleted or redacted or depth(content[0]) <= DOCUMENT_DEPTH, "a document that nests too deep")
     of_document, table = _fields(document, ["documentId", "tableId"], "a document")
     _need(_id(of_document) == _id(made), "the document of another revision")
     return Revision(
-        _address(address), index, _hash(stated), deleted, None if deleted else content[0], metadata, made,
-        _number(version, 64), _time(time), _id(transaction_id), _id(table),
+        _address(address), index, _hash(stated), deleted, None if deleted or redacted else content[0], metadata, made,
+        _number(version, 64), _time(time), _id(transaction_id), _id(table), _hash(content[0]) if redacted else None,
     )
 
 
@@ -235,16 +243,18 @@ def _entry(value: Value) -> bytes:
 def block_of(value: Value) -> Block:
     """The block of a value. Raises `NotALine` if it is the value of no block."""
     address, transaction_id, time, block_hash, entries, previous, hashes, info, found = _fields(value, BLOCK_FIELDS, "a block")
-    place, statements, schema, documents = _fields(info, ["place", "statements", "schema", "documents"], "transactionInfo")
+    hashed = type(info) is Struct and "statementsHash" in info
+    told = "statementsHash" if hashed else "statements"
+    place, statements, schema, documents = _fields(info, ["place", told, "schema", "documents"], "transactionInfo")
     _need(len(_list(hashes)) == 3, "no list of three hashes")
     _need(len(_list(found)) == len(_list(documents)), "not a document for each revision")
     changes = list(map(_change, _list(schema)))
     return Block(
         _address(address), _id(transaction_id), _time(time), _hash(block_hash), _hash(entries), _hash(previous),
-        list(map(_entry, hashes)), _place(place), list(map(_said, _list(statements))),
+        list(map(_entry, hashes)), _place(place), [] if hashed else list(map(_said, _list(statements))),
         [entry for entry in changes if isinstance(entry, Change)], [entry for entry in changes if isinstance(entry, Redaction)],
         [_revision(revision, index, document) for index, (revision, document) in enumerate(zip(found, documents))],
-        value,
+        value, _hash(statements) if hashed else None,
     )
 
 

@@ -69,6 +69,7 @@ KINDS = {
     "WrongPrevious": "its previous hash isn't the hash of the block before it",
     "WrongHash": "a hash isn't the computed one: its content or a hash was changed",
     "WrongState": "what it did doesn't follow what the blocks before it left",
+    "Unasked": "it has a hash in place of data or statements, and no block redacts them",
 }
 LONGEST_READ = 1 << 20  # bytes of a script that is read again to show a statement
 

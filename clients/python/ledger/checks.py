@@ -31,6 +31,14 @@ class Damage(Exception):
         self.reason = reason
 
 
+Named = tuple[Address, str, str]  # a revision, by the address of its block, its table and its document
+
+
+def named_of(revision: Revision) -> Named:
+    """How a redaction names a revision."""
+    return (revision.address, revision.table, revision.id)
+
+
 class Audit(NamedTuple):
     """How many blocks a journal has, and how many revisions these have."""
 
@@ -55,8 +63,8 @@ class _State:
         self.active: set[str] = set()
         self.indexes: set[tuple[str, str]] = set()
         self.latest: dict[str, Latest] = {}
-        self.revisions: set[tuple[Address, str, str]] = set()  # by address, table and document
-        self.redacted: set[tuple[Address, str, str]] = set()
+        self.revisions: set[Named] = set()  # all of them
+        self.redacted: set[Named] = set()
 
     def change(self, change: Change) -> Optional[str]:
         """Makes a change of the schema, or returns why it can't be made."""
@@ -110,6 +118,8 @@ class Checker:
         self._last: Optional[Block] = None
         self._transactions: set[str] = set()
         self._state = _State()
+        self._untold: list[int] = []  # blocks with a hash for their statements, behind the last redaction
+        self._hashed: list[tuple[int, Named]] = []  # revisions with a hash for their data, and their blocks
 
     def take(self, line: bytes) -> Block:
         """The block of the next line, without its line feed. Raises `Damage` if it fails a check."""
@@ -126,8 +136,25 @@ class Checker:
                 raise Damage(self.audit.blocks, kind, reason)
         self._last = block
         self._transactions.add(block.transaction_id)
+        self._keep_hashes(block)
         self.audit = Audit(self.audit.blocks + 1, self.audit.revisions + len(block.revisions))
         return block
+
+    def _keep_hashes(self, block: Block) -> None:
+        """Keeps which hashes in place of data and of statements a block has yet to ask for."""
+        place = self.audit.blocks
+        if block.statements_hash is not None:
+            self._untold.append(place)
+        if block.redactions:
+            self._untold.clear()
+        self._hashed += [(place, named_of(one)) for one in block.revisions if one.data_hash is not None]
+
+    def end(self) -> Audit:
+        """What was taken, as a whole journal. Raises `Damage` if a hash stands for data or statements and isn't asked for."""
+        places = self._untold[:1] + [place for place, named in self._hashed if named not in self._state.redacted]
+        if places:
+            raise Damage(min(places), "Unasked", "a hash in place of data or statements that no block redacts")
+        return self.audit
 
     def _checks(self) -> list[tuple[str, Callable[[Block], Optional[str]]]]:
         """The checks in their order; each returns why a block fails it, or `None`."""
@@ -205,7 +232,7 @@ class Checker:
                 return reason
         for revision in block.revisions:
             self._state.latest[revision.id] = Latest(revision.address, revision.table, revision.version, revision.deleted)
-            self._state.revisions.add((revision.address, revision.table, revision.id))
+            self._state.revisions.add(named_of(revision))
         return None
 
 
@@ -214,7 +241,7 @@ def check_lines(lines: Iterable[bytes]) -> Audit:
     checker = Checker()
     for line in lines:
         checker.take(line)
-    return checker.audit
+    return checker.end()
 
 
 def whole_lines(data: bytes) -> tuple[list[bytes], bytes]:

@@ -321,14 +321,15 @@ def recover(path: PathLike, sessions: Script, tip: Optional[int]) -> Recovered:
     """What of a script was committed after the block `tip`, or after nothing if `tip` is `None`.
 
     For a client whose run died before its report: a block tells its transaction's place in the script, and it counts
-    if its statements and parameters are those of the script at that place.
+    if its statements and parameters are those of the script at that place. A block of which `compact` took the
+    statements doesn't count.
     """
     wanted = {Place(s, t): tx for s, session in enumerate(sessions, 1) for t, tx in enumerate(session, 1)}
     texts = {place: _said_text(transaction) for place, transaction in wanted.items()}
     committed: dict[Place, Block] = {}
     for block in Journal.read(path).blocks[0 if tip is None else tip + 1:]:
         said = ion.write([[statement.text, statement.parameters] for statement in block.statements])
-        if texts.get(block.place) == said:
+        if block.statements_hash is None and texts.get(block.place) == said:
             committed.setdefault(block.place, block)
     return Recovered(committed, [place for place in wanted if place not in committed and not wanted[place].abort])
 
@@ -475,6 +476,10 @@ class Ledger:
     def verify(self, bundle: str) -> None:
         """Returns if the program accepts the bundle, and else raises `NotVerified`."""
         self.call("verify", text=bundle)
+
+    def compact(self) -> str:
+        """The lines of the journal without what its blocks redact. The journal's file is left."""
+        return self.call("compact")
 
     def audit(self) -> Audit:
         """How many blocks and revisions the journal has. Raises `DamagedJournal` if it is damaged."""

@@ -110,11 +110,11 @@ def _own_check(path: str) -> Union[Audit, Damage]:
                     checker.take(line[:-1])
                     done += len(line)
                     progress(done)
+        return checker.end()
     except Damage as damage:
         return damage
     finally:
         progress.end()
-    return checker.audit
 
 
 def _print_damage(path: str, found: Found, around: int, out: IO[str]) -> None:

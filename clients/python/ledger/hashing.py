@@ -103,8 +103,11 @@ def _timestamp(time: Timestamp) -> bytes:
 
 
 def _struct(fields: Iterable[tuple[str, Value]]) -> bytes:
-    hashes = sorted(sha256(_symbol(name) + serialize(value)) for name, value in fields)
-    return _frame(0xD0, _escape(b"".join(hashes)))
+    return _struct_form(field_hash(name, value) for name, value in fields)
+
+
+def _struct_form(hashes: Iterable[bytes]) -> bytes:
+    return _frame(0xD0, _escape(b"".join(sorted(hashes))))
 
 
 def _annotated(value: Annotated) -> bytes:
@@ -150,6 +153,16 @@ def serialize(value: Value) -> bytes:
 def hash_value(value: Value) -> bytes:
     """The hash of a value, 32 bytes."""
     return sha256(serialize(value))
+
+
+def field_hash(name: str, value: Value) -> bytes:
+    """The hash of a field of a struct: of its name as a symbol, and of its value."""
+    return sha256(_symbol(name) + serialize(value))
+
+
+def struct_hash(hashes: Iterable[bytes]) -> bytes:
+    """The hash of a struct, from the hashes of its fields."""
+    return sha256(_struct_form(hashes))
 
 
 # ---- pairs and trees

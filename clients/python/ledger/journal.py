@@ -237,7 +237,7 @@ class Journal:
 
     blocks: list[Block] = field(default_factory=list)
     tables: list[Table] = field(default_factory=list)
-    # The revisions of each document, oldest first, without the data that a block redacts; `blocks` has them still.
+    # The revisions of each document, oldest first, without the data that a block redacts; `blocks` may have them still.
     documents: dict[str, list[Revision]] = field(default_factory=dict)
     damage: Optional[Damage] = None
     rest: int = 0  # how many bytes stand after the last line feed
@@ -263,7 +263,20 @@ class Journal:
             size += len(line)
             if progress is not None:
                 progress(size)
+        if journal.damage is None:
+            try:
+                checker.end()
+            except Damage as damage:
+                journal = cls._before(damage, journal)
         return journal
+
+    @classmethod
+    def _before(cls, damage: Damage, journal: "Journal") -> "Journal":
+        """What stands before a damage that only the end of the journal shows."""
+        found = cls(damage=damage, rest=journal.rest)
+        for block in journal.blocks[:damage.sequence]:
+            found._take(block)
+        return found
 
     def _take(self, block: Block) -> None:
         self.blocks.append(block)

@@ -27,6 +27,15 @@ const LedgerJournal = (() => {
     return value.content;
   }
 
+  const namesOf = (value) => (value.kind === "struct" ? value.content.map(([name]) => name) : []);
+
+  /** The hash that stands in place of data or of statements. */
+  function storedHash(value) {
+    const hash = contentOf(value, "blob", "a hash");
+    need(hash.length === 32, "a hash hasn't 32 bytes");
+    return hash;
+  }
+
   const struct = (fields) => ({ annotations: [], kind: "struct", content: fields });
   const int = (number) => ({ annotations: [], kind: "int", content: BigInt(number) });
   const string = (text) => ({ annotations: [], kind: "string", content: text });
@@ -52,16 +61,19 @@ const LedgerJournal = (() => {
   }
 
   function revisionOf(value, index, sequence, document) {
-    const content = value.kind === "struct" && value.content.some(([name]) => name === "data") ? ["data"] : [];
+    const content = namesOf(value).filter((name) => name === "data" || name === "dataHash");
     const fields = fieldsOf(value, ["blockAddress", "hash", ...content, "metadata"], "a revision");
     const metadata = fieldsOf(fields.metadata, ["id", "version", "txTime", "txId"], "metadata");
     const of = fieldsOf(document, ["documentId", "tableId"], "a document");
     const own = LedgerVerify.hashOf(fields.metadata);
     const hash = contentOf(fields.hash, "blob", "a revision's hash");
-    need(same(hash, content.length ? dot(own, LedgerVerify.hashOf(fields.data)) : own), `revision ${index} has another hash`);
+    const dataHash = fields.dataHash ? storedHash(fields.dataHash) : fields.data ? LedgerVerify.hashOf(fields.data) : [];
+    need(same(hash, dot(own, dataHash)), `revision ${index} has another hash`);
     return {
       sequence, index, hash,
-      data: content.length ? fields.data : null,
+      data: fields.data || null,
+      deleted: content.length === 0,
+      redacted: Boolean(fields.dataHash),
       id: contentOf(metadata.id, "string", "an id"),
       version: Number(contentOf(metadata.version, "int", "a version")),
       time: LedgerVerify.written(metadata.txTime),
@@ -70,14 +82,21 @@ const LedgerJournal = (() => {
   }
 
   function infoOf(value) {
-    const info = fieldsOf(value, ["place", "statements", "schema", "documents"], "transactionInfo");
+    const hashed = namesOf(value).includes("statementsHash");
+    const info = fieldsOf(value, ["place", hashed ? "statementsHash" : "statements", "schema", "documents"], "transactionInfo");
     const place = fieldsOf(info.place, ["session", "transaction"], "a place");
     return {
       place: [place.session, place.transaction].map((number) => Number(contentOf(number, "int", "a place"))),
-      statements: contentOf(info.statements, "list", "statements").map((said) => fieldsOf(said, ["statement", "parameters", "answer"], "a statement")),
+      hashed,
+      statements: hashed ? [] : contentOf(info.statements, "list", "statements").map((said) => fieldsOf(said, ["statement", "parameters", "answer"], "a statement")),
       schema: contentOf(info.schema, "list", "schema").map((change) => contentOf(change, "struct", "a change of the schema")),
       documents: contentOf(info.documents, "list", "documents"),
     };
+  }
+
+  /** The hash of what a transaction said and did, in which a hash may stand for its statements. */
+  function infoHash(value) {
+    return LedgerVerify.structHash(value.content.map(([name, of]) => (name === "statementsHash" ? storedHash(of) : LedgerVerify.fieldHash(name, of))));
   }
 
   /** The block of a line, whose form and hashes hold, behind the block `last`. Throws Damaged. */
@@ -103,13 +122,14 @@ const LedgerJournal = (() => {
     need(found.length === info.documents.length, "there isn't a document for each revision");
     const revisions = found.map((revision, index) => revisionOf(revision, index, sequence, info.documents[index]));
     const hash = checkedHash(fields, values[0].content.slice(0, 3), revisions, previous);
-    return { sequence, strand, hash, ...info, revisions, tx: fields.transactionId.content, time: LedgerVerify.written(fields.blockTimestamp) };
+    const redacts = info.schema.some(([[kind]]) => kind === "redact");
+    return { sequence, strand, hash, ...info, redacts, revisions, tx: fields.transactionId.content, time: LedgerVerify.written(fields.blockTimestamp) };
   }
 
   /** The block's hash, computed from all that it stands on. */
   function checkedHash(fields, front, revisions, previous) {
     const header = struct([...front, ["revisionCount", int(revisions.length)]]);
-    const computed = [LedgerVerify.hashOf(fields.transactionInfo), root(revisions.map((revision) => revision.hash)), LedgerVerify.hashOf(header)];
+    const computed = [infoHash(fields.transactionInfo), root(revisions.map((revision) => revision.hash)), LedgerVerify.hashOf(header)];
     const stated = contentOf(fields.entriesHashList, "list", "the list of hashes").map((hash) => contentOf(hash, "blob", "a hash"));
     const names = ["what the transaction said and did", "the revisions", "the header"];
     need(stated.length === 3, "the list of hashes hasn't three");
@@ -124,7 +144,7 @@ const LedgerJournal = (() => {
   /** Reads lines one by one: `take` gives the next block, and `tables` and `documents` are what the blocks so far left. */
   class Journal {
     constructor() {
-      Object.assign(this, { blocks: [], tables: new Map(), documents: new Map() });
+      Object.assign(this, { blocks: [], tables: new Map(), documents: new Map(), redactions: new Set() });
     }
 
     take(line) {
@@ -143,13 +163,21 @@ const LedgerJournal = (() => {
       return block;
     }
 
-    /** Hides the data of the revision of a document in the block at an address; its block shows them still. */
+    /** The first block with a hash in place of data or of statements that no block redacts, -1 if there is none. */
+    unasked() {
+      const last = this.blocks.reduce((found, block) => (block.redacts ? block.sequence : found), -1);
+      const isUnasked = (revision) => revision.redacted && !this.redactions.has(`${revision.sequence} ${revision.id}`);
+      return this.blocks.findIndex((block) => (block.hashed && block.sequence > last) || block.revisions.some(isUnasked));
+    }
+
+    /** Hides the data of the revision of a document in the block at an address; its block may show them still. */
     redact(address, id) {
       const sequence = Number(fieldsOf(address, ["strandId", "sequenceNo"], "an address").sequenceNo.content);
       const revisions = this.documents.get(id) || [];
       const at = revisions.findIndex((revision) => revision.sequence === sequence);
       need(at >= 0, "redacts what is no earlier revision");
       revisions[at] = { ...revisions[at], redacted: true };
+      this.redactions.add(`${sequence} ${id}`);
     }
 
     tableName(id) {
@@ -192,13 +220,13 @@ if (typeof document !== "undefined") (() => {
 
   const shown = (value) => LedgerVerify.shown(value);
   const plain = (text) => shown({ annotations: [], kind: "string", content: text }).slice(1, -1).replace(/\\"/g, '"');
-  const dataOf = (revision) => (revision.redacted ? "redacted" : revision.data === null ? "deleted" : shown(revision.data));
+  const dataOf = (revision) => (revision.redacted ? "redacted" : revision.deleted ? "deleted" : shown(revision.data));
   /** A number and a word, in the plural unless it is one. */
   const counted = (number, word) => `${number} ${word}${number === 1 ? "" : "s"}`;
 
   /** A document as one of its revisions leaves it, and as it was before where that deletes it. */
   function titleOf(revisions, now) {
-    return now.data === null ? `deleted, and was ${dataOf(revisions[now.version - 1])}` : dataOf(now);
+    return now.deleted ? `deleted, and was ${dataOf(revisions[now.version - 1])}` : dataOf(now);
   }
 
   // ---- what is listed
@@ -218,10 +246,12 @@ if (typeof document !== "undefined") (() => {
     return rows;
   }
 
+  const REDACTED = "statements redacted";
+
   function blockRows(wanted, asOf) {
     const rows = [];
     for (const block of journal.blocks) {
-      const said = block.statements.map((said) => said.statement.content);
+      const said = block.hashed ? [REDACTED] : block.statements.map((said) => said.statement.content);
       const text = [block.tx, block.time, `block ${block.sequence}`, ...said, ...block.statements.map((s) => shown(s.parameters))].join(" ").toLowerCase();
       if (!within(block.time, asOf) || !text.includes(wanted)) continue;
       rows.push({ key: block.sequence, title: said.map(plain).join("\n"), hint: `block ${block.sequence} · ${block.time} · ${counted(block.revisions.length, "revision")}` });
@@ -247,7 +277,7 @@ if (typeof document !== "undefined") (() => {
   function documentDetail(id) {
     const revisions = journal.documents.get(id), asOf = part("as-of").value.trim();
     const items = revisions.map((revision) => {
-      const item = element("li", revision.data === null ? "deleted" : "", null,
+      const item = element("li", revision.deleted ? "deleted" : "", null,
         element("strong", "", `${revision.time} · version ${revision.version}`), element("div", "value", dataOf(revision)));
       item.classList.toggle("later", !within(revision.time, asOf));
       const link = element("button", "", `block ${revision.sequence}`);
@@ -275,7 +305,7 @@ if (typeof document !== "undefined") (() => {
       return element("li", "", null, link);
     });
     return [element("h2", "", `Block ${sequence}`), element("p", "hint", `${block.time} · transaction ${block.tx} · session ${block.place[0]}, transaction ${block.place[1]} of its script`),
-      element("p", "hint", `hash ${LedgerVerify.hex(block.hash)}`), ...block.statements.map(statementDetail),
+      element("p", "hint", `hash ${LedgerVerify.hex(block.hash)}`), ...(block.hashed ? [element("p", "hint", REDACTED)] : block.statements.map(statementDetail)),
       element("h2", "", counted(links.length, "revision")), element("ul", "", null, ...links)];
   }
 
@@ -304,10 +334,12 @@ if (typeof document !== "undefined") (() => {
   }
 
   function finish(lines, damage) {
+    const unasked = damage === null ? journal.unasked() : -1;
     const count = journal.blocks.length, revisions = journal.blocks.reduce((sum, block) => sum + block.revisions.length, 0);
     const before = `What stands before it holds and is shown: ${counted(count, "block")}.`;
     if (damage !== null) told("bad", `DAMAGED: block ${count}: ${damage}. ${before}`);
     else if (lines.rest) told("bad", `The journal is damaged from block ${count} on (${lines.rest}). ${before}`);
+    else if (unasked >= 0) told("bad", `DAMAGED: block ${unasked}: a hash in place of data or statements that no block redacts. All hashes hold.`);
     else told("good", `All hashes hold: ${counted(count, "block")} and ${counted(revisions, "revision")}, computed anew in this browser.`);
     if (count) part("tip").textContent = journal.digest(count - 1);
     change("documents", null);

@@ -122,6 +122,8 @@ def blocks(journal: Journal, words: argparse.Namespace, out: IO[str]) -> int:
     for block in journal.blocks[words.begin:last + 1]:
         place = f"session {block.place.session} transaction {block.place.transaction}"
         print(f"block {block.address.sequence} {block.time} tx {block.transaction_id} {place}, {counted(len(block.revisions), 'revision')}", file=out)
+        if block.statements_hash is not None:
+            print("    STATEMENTS REDACTED", file=out)
         for statement in block.statements:
             parameters = "".join(f" {shown(parameter)}" for parameter in statement.parameters)
             with_them = " with" + parameters if parameters else ""

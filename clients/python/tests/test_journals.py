@@ -11,7 +11,7 @@ from common import AT, WithJournal
 from ledger import Damage, DamagedJournal, Journal, Refused, Statement, Struct, Timestamp, Transaction, check_lines, ion
 from ledger.blocks import block_of
 from ledger.checks import whole_lines
-from ledger.hashing import GrowingTree, dot, fold, hash_value, path, root
+from ledger.hashing import GrowingTree, dot, field_hash, fold, hash_value, path, root
 from ledger.journal import last_moment
 
 Lines = list[bytes]
@@ -26,7 +26,7 @@ def resealed(value: Struct, previous: Optional[bytes] = None) -> Struct:
     """A block with the hashes of what it says, so that no check of hashes finds what was changed."""
     revisions = []
     for revision in value["revisions"]:
-        data = hash_value(revision["data"]) if "data" in revision else b""
+        data = hash_value(revision["data"]) if "data" in revision else revision.get("dataHash", b"")
         revisions.append(replaced(revision, "hash", dot(hash_value(revision["metadata"]), data)))
     value = replaced(value, "revisions", revisions)
     if previous is not None:
@@ -104,6 +104,13 @@ class Checked(WithJournal):
         self.assertEqual(said, self.there(content))
         return said
 
+    def redact(self) -> None:
+        """Redacts the first revision of each document that has another one."""
+        older = [revisions[0] for revisions in self.ledger.read().histories("t") if len(revisions) > 1]
+        address = [Struct([("strandId", one.address.strand), ("sequenceNo", one.address.sequence)]) for one in older]
+        statements = [Statement("EXEC REDACT_REVISION ?, ?, ?", where, one.table, one.id) for where, one in zip(address, older)]
+        self.ledger.run([Transaction(statements)], plain_ids=True, at=AT)
+
     def sample(self) -> Lines:
         """The lines of a small journal: tables, an index, two documents, an update."""
         statements = [
@@ -146,6 +153,28 @@ class Checked(WithJournal):
                 found = b"\n".join([*lines[:2], ion.write(value).encode(), b""])
                 self.assertEqual(self.agree(found), "{sequence:2,kind:WrongState}")
         self.assertEqual(resealed(ion.read_one(lines[2], 256)), ion.read_one(lines[2], 256))
+
+    def test_compacted(self) -> None:
+        """A compacted journal, its fronts, mixtures with the one from before, hashes that nothing asks for, changed bytes."""
+        self.sample()
+        self.redact()
+        self.ledger.run([Transaction(["SELECT * FROM t"])], plain_ids=True, at=AT)
+        olds, lines = whole_lines(self.content())[0], whole_lines(self.ledger.compact().encode())[0]
+        self.assertEqual((b"dataHash:" in lines[1], b"statements:" in lines[4], lines[5]), (True, False, olds[5]))
+        found = [self.agree(b"\n".join([*lines[:count], b""])) for count in range(1, 7)]
+        self.assertEqual(found, ["{sequence:0,kind:Unasked}"] * 4 + ["{blocks:5,revisions:4}", "{blocks:6,revisions:4}"])
+        for number in range(1, 32):
+            mixed = [lines[at] if number >> at & 1 else olds[at] for at in range(5)]
+            self.assertEqual(self.agree(b"\n".join([*mixed, olds[5], b""])), "{blocks:6,revisions:4}")
+        said = ion.read_one(olds[5], 256)["transactionInfo"]
+        info = Struct([("statementsHash", field_hash(name, value)) if name == "statements" else (name, value) for name, value in said.items()])
+        behind = ion.write(replaced(ion.read_one(olds[5], 256), "transactionInfo", info)).encode()
+        self.assertEqual(self.agree(b"\n".join([*olds[:5], behind, b""])), "{sequence:5,kind:Unasked}")
+        rng = random.Random(3)
+        content = b"\n".join([*lines, b""])
+        for at in [rng.randrange(len(content) - 1) for _ in range(20)]:
+            with self.subTest(at):
+                self.agree(content[:at] + rng.choice([b"", b"1", b"x"]) + content[at + 1:])
 
     def test_changed_bytes(self) -> None:
         """One byte more, less or changed, anywhere: both name the same line and the same check."""
@@ -203,6 +232,13 @@ class Read(WithJournal):
         self.assertEqual((first.computed_hash(), journal.blocks[1].revisions[0].data), (first.hash, {"k": 1}))
         self.assertEqual((len(journal.blocks), journal.damage), (4, None))
         self.assertEqual(list(journal.with_value("t", "k", 1)), [])
+        self.put(self.ledger.compact().encode())
+        compacted = self.ledger.read()
+        self.assertEqual((compacted.documents, compacted.digest(), compacted.damage), (journal.documents, journal.digest(), None))
+        self.assertEqual((compacted.blocks[1].revisions[0], compacted.blocks[1].statements), (first, []))
+        self.assertEqual([block.computed_list() for block in compacted.blocks], [block.computed_list() for block in journal.blocks])
+        cut = Journal.of_lines(line + b"\n" for line in whole_lines(self.content())[0][:3])
+        self.assertEqual((cut.blocks, cut.damage and (cut.damage.sequence, cut.damage.kind)), ([], (0, "Unasked")))
 
     def test_damage_and_rest(self) -> None:
         self.ledger.run([Transaction(["CREATE TABLE t"]), Transaction(["CREATE TABLE u"])], at=AT, plain_ids=True)

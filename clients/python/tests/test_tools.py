@@ -11,8 +11,8 @@ import shutil
 import subprocess
 import unittest.mock
 
-from common import PROGRAM, WithJournal
-from ledger import Ledger, Statement, Timestamp, Transaction, ion, shell, view
+from common import PROGRAM, WithJournal, vectors
+from ledger import Journal, Ledger, Statement, Timestamp, Transaction, ion, shell, view
 from ledger.page import page, read_text
 
 CARS = [{"vin": "A1", "owner": "Ada", "price": ion.read_one("12.50")}, {"vin": "B2", "owner": "Eve", "note": "a,\"b\"\n</script>\u202e"}]
@@ -185,7 +185,7 @@ const task = `
   for (const line of LINES) {
     try { journal.take(line); } catch (fault) { damage = fault.message; break; }
   }
-  JSON.stringify({ blocks: journal.blocks.length, documents: journal.documents.size, damage,
+  JSON.stringify({ blocks: journal.blocks.length, documents: journal.documents.size, damage, unasked: journal.unasked(),
     digests: journal.blocks.map((block) => journal.digest(block.sequence)), agrees: journal.blocks.length ? journal.compare(journal.digest(0)) : [] })`;
 const lines = JSON.parse(part("journal")).lines;
 process.stdout.write(vm.runInNewContext(part("verifier") + part("page") + task, { LINES: lines, TextEncoder, TextDecoder, Uint8Array }));
@@ -213,6 +213,19 @@ class Pages(Registry):
             found = self.run_page(text.replace(old, new, 1))
             self.assertEqual(found["blocks"], 2)
             self.assertIn(words, found["damage"])
+
+    def test_compacted(self) -> None:
+        """A compacted journal holds in the page, and a hash that no block asks for is found."""
+        whole = {row["name"]: row for row in vectors("journals")["whole"]}
+        lines, digests = whole["compacted"]["lines"], whole["erased"]["digests"]
+        text = page(Journal.of_lines(line.encode() + b"\n" for line in lines), "compacted")
+        found = self.run_page(text)
+        self.assertEqual((found["blocks"], found["damage"], found["unasked"], found["digests"]), (7, None, -1, digests))
+        told = json.dumps(whole["erased"]["lines"][0])[1:-1]
+        self.assertEqual(self.run_page(text.replace(json.dumps(lines[0])[1:-1], told))["unasked"], -1)
+        for old in lines[5:]:
+            text = text.replace(", " + json.dumps(old), "")
+        self.assertEqual([self.run_page(text)[name] for name in ("blocks", "damage", "unasked")], [5, None, 0])
 
     def test_without_a_network(self) -> None:
         text = page(self.ledger.read(), "cars")

@@ -1,21 +1,13 @@
 """The package on docs/vectors: values, spellings, pairs, trees and journals with what they have to come to."""
 from __future__ import annotations
 
-import json
-import os
 import unittest
 from typing import Any
 
-from common import ROOT
+from common import vectors
 from ledger import Damage, Journal, check_lines, ion
 from ledger.hashing import PAD, dot, fold, hash_value, path, root, serialize, sha256
 from ledger.ion import IonError
-
-
-def vectors(name: str) -> Any:
-    """The vectors of a file."""
-    with open(os.path.join(ROOT, "docs", "vectors", name + ".json"), encoding="utf-8") as file:
-        return json.load(file)
 
 
 class Vectors(unittest.TestCase):
