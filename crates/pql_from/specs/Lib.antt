@@ -1,3 +1,4 @@
 pub mod Held
 pub mod Joins
 pub mod Kept
+pub mod Behind

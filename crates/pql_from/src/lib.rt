@@ -1,6 +1,7 @@
 //! The rows of FROM.
 #![tactic(auto)]
 
+mod behind;
 mod bounds;
 mod clause;
 mod combinations;
@@ -8,6 +9,7 @@ mod conditions;
 mod joins;
 mod views;
 
-pub use clause::{Given, bindings, bindings_over};
+pub use behind::{Last, Parts};
+pub use clause::{Given, bindings, bindings_over, parts_over};
 pub use joins::{Join, Side};
 pub use views::source_rows;

@@ -6,7 +6,8 @@ ghost use Rattle.pql_model.specs.Answers.{answered};
 ghost use Rattle.pql_model.specs.Lists.{value_in};
 
 use crate::aggregates::are_aggregates;
-use crate::items::{struct_in_row, struct_over_rows};
+use crate::folding::Tallies;
+use crate::items::struct_in_row;
 use crate::sources::starred;
 use containers::{OutOfMemory, Sequence};
 use ion_values::{Value, Values};
@@ -90,8 +91,10 @@ fn struct_of_aggregates(
 ) -> Result<Values, OutOfMemory>
     ensures { IfOk result (λ all. all ≡ spec.struct_from (spec.aggregate params.now rows.now) items.now ∷ []) }
 {
+    let tallies = Tallies::new(alloc, items, params)?.more(alloc, rows)?;
+    let over_rows = tallies.finish(alloc)?;
     let mut all = Sequence::new(alloc);
-    all.push(struct_over_rows(alloc, items, rows, params)?)?;
+    all.push(over_rows)?;
     Ok(all)
 }
 

@@ -3,7 +3,6 @@ ghost use Rattle.std.specs.Prelude.{◌≡◌, ◌++◌, IfOk, OnOk};
 ghost use Rattle.pql_model.specs.Answers as spec;
 ghost use Rattle.pql_model.specs.Lists.{field_in};
 
-use crate::aggregates::aggregate;
 use crate::made::made;
 use containers::{OutOfMemory, Sequence, Text};
 use ion_values::{Body, Field, Fields, Value};
@@ -36,8 +35,8 @@ fn item_name(alloc: Global, place: usize, item: &SelectItem) -> Result<Text, Out
     }
 }
 
-// An item that is MISSING is left out.
-fn put_item(
+/// Appends the item, or nothing if it is MISSING.
+pub fn put_item(
     alloc: Global,
     fields: &mut Fields,
     place: usize,
@@ -68,23 +67,6 @@ pub fn struct_in_row(
     let mut fields = Sequence::new(alloc);
     'items: for (index, item) in items.iter().enumerate() {
         let found = eval(alloc, &item.value, scope, params)?;
-        put_item(alloc, &mut fields, index + 1, item, found)?;
-    }
-    Ok(made(alloc, Body::Struct(fields)))
-}
-
-/// The struct of the items over all rows.
-pub fn struct_over_rows(
-    alloc: Global,
-    items: &[SelectItem],
-    rows: &[Scope],
-    params: &[Value],
-) -> Result<Value, OutOfMemory>
-    ensures { IfOk result (λ v. v ≡ spec.struct_from (spec.aggregate params.now rows.now) items.now) }
-{
-    let mut fields = Sequence::new(alloc);
-    'items: for (index, item) in items.iter().enumerate() {
-        let found = aggregate(alloc, &item.value, rows, params)?;
         put_item(alloc, &mut fields, index + 1, item, found)?;
     }
     Ok(made(alloc, Body::Struct(fields)))

@@ -1,4 +1,5 @@
 pub mod Effects
+pub mod RowsBehind
 pub mod InRange
 pub mod Inserted
 pub mod Joined

@@ -71,6 +71,15 @@ seen_rows t params from given rows cause are is cause_is none =
     ap₂ (λ (why : Option Refusal) (seen : List Combined). without why (Ok seen)) (sym cause_is ∙ none)
     (sym (is ∙ are.rows ∙ from-is t.base t.done params from))
 
+-- what is answered of them
+pub answered_rows : (t : Opened) (params : List Value) (select : Select) (from : FromClause) (given : List Given) (rows : List Value)
+    (cause : Option Refusal) → AreGiven t params from given → rows ≡ answered params (rows_over params from (rows_held given)) select
+    → cause ≡ first_absent_in (tables_now t.base t.done) from.sources → cause ≡ None
+    → answer_in (tables_now t.base t.done) t.base (documents_now t.base t.done) params select from ≡ Ok rows
+answered_rows t params select from given rows cause are is cause_is none =
+    ap₂ (λ (why : Option Refusal) (all : List Value). without why (Ok all)) (sym cause_is ∙ none)
+    (sym (is ∙ ap (λ (seen : List Combined). answered params seen select) (are.rows ∙ from-is t.base t.done params from)))
+
 -- ---- the statement
 
 -- rows are answered, and nothing is changed

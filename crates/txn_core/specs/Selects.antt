@@ -3,8 +3,10 @@ use Rattle.std.specs.Prelude.{List, [], ◌∷◌, Option, Some, None, Result, O
 use Rattle.ion_values.specs.declared.value.Value.{Value}
 use Rattle.pql_model.specs.declared.statement.FromClause.{FromClause}
 use Rattle.pql_model.specs.declared.statement.Select.{Select}
+use Rattle.pql_model.specs.declared.statement.Select.TheVariants as select
+use Rattle.pql_model.specs.declared.statement.SelectItem.{SelectItem}
 use Rattle.pql_model.specs.declared.statement.Source.{Source}
-use Rattle.pql_model.specs.Answers.{answered}
+use Rattle.pql_model.specs.Answers.{answered, are_aggregates}
 use Rattle.pql_model.specs.From.{rows_of}
 use Rattle.ledger_model.specs.declared.block.Draft.{Draft}
 use Rattle.ledger_model.specs.declared.outcome.Refusal.{Refusal}
@@ -34,3 +36,8 @@ abbrev pub answer_in : List state.Table → State → List Draft → List Value 
 answer_in tables base documents params select from =
     without (first_absent_in tables from.sources) (Ok
     (answered params (rows_of (views_among tables base documents) params from) select))
+
+-- the items of a SELECT that are all aggregates
+abbrev pub aggregates_in : Select → Option (List SelectItem)
+aggregates_in (select.Items items) = if are_aggregates items then Some items else None
+aggregates_in _ = None

@@ -1,10 +1,11 @@
 //! UPDATE, and FROM with a change.
-ghost use Rattle.std.specs.Prelude.{◌++◌, map};
+ghost use Rattle.std.specs.Prelude.{◌≡◌, ◌++◌, map, IfOk};
 ghost use Rattle.ledger_model.specs.Run.{tables_now};
 ghost use Rattle.ledger_model.specs.State.{draft_of};
 ghost use Rattle.ledger_model.specs.Views.{latest};
 ghost use Rattle.ledger_model.specs.Writing.{changed, stored_changes};
 ghost use Rattle.txn_core.specs.Reading.{AreGiven};
+ghost use Rattle.txn_core.specs.Selects.{first_absent_in};
 ghost use Rattle.txn_core.specs.Stops.{Comes, Does};
 ghost use Rattle.txn_core.specs.Writes.{Changes, Stands, rows_seen};
 
@@ -16,10 +17,10 @@ use crate::sources::first_absent;
 use crate::stopped::ExecuteFault;
 use crate::touching::Touching;
 use crate::transaction::Txn;
-use ion_values::Value;
-use ledger_model::{Content, Row};
+use ion_values::{OutOfMemory, Value};
+use ledger_model::{Content, Refusal, Row};
 use pql_change::changed_documents;
-use pql_model::{Bindings, Change, Rows};
+use pql_model::{Bindings, Change, FromClause, Rows};
 use std::alloc::Global;
 
 impl Txn {
@@ -57,13 +58,25 @@ impl Txn {
         ensures { Comes result (rows_seen (tables_now self.now.base self.now.done) self.now.base
             (latest (map draft_of self.now.base.revisions ++ self.now.done.log)) params.now over.entry.from.now) }
     {
-        let tables = self.tables_now(alloc)?;
-        let sources = over.from.sources.as_slice();
-        if let Some(cause) = first_absent(alloc, tables.as_slice(), sources)? {
+        if let Some(cause) = self.absent_now(alloc, over.from)? {
             return Err(ExecuteFault::Refused(cause));
         }
         let rows = over.bindings(alloc, params)?;
         Ok(rows)
+    }
+
+    /// `NoSuchTable` of the first table in the text that isn't active.
+    pub(crate) fn absent_now(
+        &self,
+        alloc: Global,
+        from: &FromClause,
+    ) -> Result<Option<Refusal>, OutOfMemory>
+        ensures { IfOk result (λ cause.
+            cause ≡ first_absent_in (tables_now self.now.base self.now.done) from.now.sources) }
+    {
+        let tables = self.tables_now(alloc)?;
+        let cause = first_absent(alloc, tables.as_slice(), from.sources.as_slice())?;
+        Ok(cause)
     }
 
     /// What gives each document its content, one after another. It stops at the first one whose content isn't stored.

@@ -9,6 +9,7 @@ mod deleting;
 mod dropping;
 mod effect;
 mod executing;
+mod folding;
 mod indexing;
 mod inserting;
 mod limits;

@@ -12,9 +12,7 @@ use crate::reading::Over;
 use crate::stopped::ExecuteFault;
 use crate::transaction::Txn;
 use ion_values::{Value, Values};
-use ledger_model::Answer;
 use pql_model::Select;
-use pql_select::answer;
 use std::alloc::Global;
 
 impl Txn {
@@ -48,8 +46,10 @@ impl Txn {
             (latest (map draft_of self.now.base.revisions ++ self.now.done.log)) params.now select.now
             over.entry.from.now) }
     {
-        let rows = self.rows_now(alloc, over, params)?;
-        let Answer { rows } = answer(alloc, select, rows, params)?;
+        if let Some(cause) = self.absent_now(alloc, over.from)? {
+            return Err(ExecuteFault::Refused(cause));
+        }
+        let rows = over.answered(alloc, select, params)?;
         Ok(rows)
     }
 }
