@@ -14,6 +14,7 @@ mod values;
 
 pub use checked::{CheckedBlock, checked_from_ion};
 pub use read_blocks::{from_ion, values_tell_blocks};
+pub use read_info::place_in;
 pub use read_revisions::revision_in;
 pub use revisions::{metadata_value, revision_value};
 pub use said::told_hash;

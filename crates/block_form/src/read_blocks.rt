@@ -218,7 +218,7 @@ fn whole_in(alloc: Global, v: Value) -> Result<Option<Block>, OutOfMemory>
     }
 }
 
-/// The same as `from_ion` gives, of the parts of the value.
+/// The whole block whose value this is, made of the value's parts; None as for `from_ion`.
 pub fn into_block(alloc: Global, v: Value) -> Result<Option<Block>, OutOfMemory>
     ensures { IfOk result (λ found. spec.IsReadAs v found) }
 {

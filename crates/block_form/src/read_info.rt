@@ -15,7 +15,8 @@ use value_codec::read_parts::{
 };
 use value_codec::takes::{into_fields, into_members, into_string, into_text, with_room};
 
-fn place_in(v: &Value) -> Option<Place>
+/// The place in a script whose value this is, or None where it is no place's.
+pub fn place_in(v: &Value) -> Option<Place>
     ensures { result ≡ spec.place_in v.now }
 {
     let [session, transaction] = fields_in(v)?.as_slice() else {

@@ -31,7 +31,7 @@ pub fn revision_hash(
     Ok(hash)
 }
 
-/// The same with the value of the metadata.
+/// The hash of a revision, and the value of its metadata.
 fn hash_and_value(
     alloc: Global,
     content: &Content,
@@ -90,7 +90,7 @@ pub fn header_hash(alloc: Global, header: &Header) -> Result<Hash32, OutOfMemory
 }
 
 /// The hash of the statements' field, or the one that stands in its place.
-fn told_hash(alloc: Global, told: &Told, field: &Field) -> Result<[u8; 32], OutOfMemory>
+fn hash_told(alloc: Global, told: &Told, field: &Field) -> Result<[u8; 32], OutOfMemory>
     ensures { IfOk result (λ hash. hash ≡ spec.hash_told told.now field.now) }
 {
     match told {
@@ -113,13 +113,14 @@ fn hashes_of_told(
     };
     let mut hashes = Vec::with_capacity(alloc, 4)?;
     hashes.push(field_hash(alloc, place)?)?;
-    hashes.push(told_hash(alloc, told, said)?)?;
+    hashes.push(hash_told(alloc, told, said)?)?;
     hashes.push(field_hash(alloc, schema)?)?;
     hashes.push(field_hash(alloc, documents)?)?;
     Ok(hashes)
 }
 
-/// What the hash of what a transaction said and did is the hash of.
+/// The bytes whose hash is that of what a transaction said and did: those of a struct's fields' hashes, in which the hash of
+/// the statements may stand for them.
 #[tactic(auto, using(crate::proofs::Hashing::told_same))]
 pub fn info_form(alloc: Global, info: &Info, revisions: &[Revision]) -> Result<Bytes, OutOfMemory>
     ensures { IfOk result (λ form. form ≡ struct_bytes (info_hashes info.now revisions.now)) }

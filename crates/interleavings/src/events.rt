@@ -6,11 +6,12 @@ ghost use Rattle.ledger_model.specs.Values.{fields_in, string_in, list_in};
 ghost use Rattle.block_form.specs.ReadBack as spec;
 ghost use Rattle.interleavings.specs.Events.{abort_of, begin_of, clock_field, clock_in, commit_of, digest_of, event_in, event_of, execute_of, params_of, time_in, time_of, times_in};
 
+use block_form::place_in;
 use containers::Sequence;
 use ion_values::{Body, Field, OutOfMemory, Text, Value, Values, copy_values};
 use ql_types::{Hash32, Place};
 use std::alloc::Global;
-use value_codec::read_parts::{fields_in, hash_in, list_in, named, small_number_in, string_in};
+use value_codec::read_parts::{fields_in, hash_in, list_in, named, string_in};
 
 /// Times in milliseconds since 1970.
 pub type Times = Sequence<i64>;
@@ -89,20 +90,6 @@ fn placed(field: &Field) -> Option<Place>
     ensures { result ≡ and_then (spec.named (codes "place") field.now) spec.place_in }
 {
     place_in(named(field, "place")?)
-}
-
-fn place_in(v: &Value) -> Option<Place>
-    ensures { result ≡ spec.place_in v.now }
-{
-    let [session, transaction] = fields_in(v)?.as_slice() else {
-        return None;
-    };
-    let session = small_number_in(named(session, "session")?)?;
-    let transaction = small_number_in(named(transaction, "transaction")?)?;
-    Some(Place {
-        session,
-        transaction,
-    })
 }
 
 /// The statement that has these fields behind the first one.

@@ -19,7 +19,7 @@ IsRead bytes blocks marked = (rest : List ℕ) × IsJournal bytes blocks rest ×
 abbrev pub IsLoaded : Option (List ℕ) → List Block → Bool → Type 0
 IsLoaded held blocks marked = IfSome held (λ bytes. IsRead bytes blocks marked)
 
--- The first damaged line was read in the store's bytes; or the store failed in its last call and then had failed so
+-- The journal's first damage was read in the store's bytes; or the store failed in its last call and then had failed so
 -- often; or memory was wanted. But for the second it had not failed.
 abbrev pub IsCause : LoadCause → StoreTold → StoreTold → Type 0
 IsCause (cause.Damaged sequence kind) before after =

@@ -12,7 +12,8 @@ use thiserror::Error;
 /// Why no journal was read.
 #[derive(Clone, Copy, Debug, PartialEq, Eq, Error)]
 pub enum LoadCause {
-    /// The first damaged line, counted from 0, and the check that it fails first.
+    /// The line at fault, counted from 0, and the check that it fails first.
+    /// It is the first damaged line, or if there is none, the first with a hash that no redaction asks for.
     #[error("line {sequence} of the journal is damaged: {kind:?}")]
     Damaged { sequence: u64, kind: Damage },
     /// The store failed in its last call, and had failed `count` times by then.

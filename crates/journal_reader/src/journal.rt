@@ -1,5 +1,6 @@
 //! A journal as it was read from a store.
-ghost use Rattle.std.specs.Prelude.{◌≡◌, ◌+◌, ◌≤◌, ◌-◌, None, true, length, slice_get, IfOk, OnOk, IfErr, IfSome, MatchResult};
+ghost use Rattle.std.specs.Prelude.{◌≡◌, ◌+◌, ◌≤◌, ◌-◌, None, true, length, slice_get, IfOk, OnOk, IfErr, IfSome};
+ghost use Rattle.std.specs.Prelude.{MatchResult};
 ghost use Rattle.outside.specs.Told.{held};
 ghost use Rattle.ledger_model.specs.Damages.{Undamaged};
 ghost use Rattle.ledger_model.specs.HashesAsked.{AreAsked};
@@ -45,7 +46,7 @@ impl Model for Journal {
 
 impl Journal {
     /// Reads the store to its end and returns the journal that it holds. It is read by pieces, and no byte of it
-    /// changes. It returns `Damaged` at the first damaged block, and `StoreFault` only if the store failed.
+    /// changes. It returns `Damaged` at the journal's first damage, and `StoreFault` only if the store failed.
     pub fn read<S: JournalStore>(alloc: Global, store: &mut S) -> Result<Journal, LoadCause>
         ensures journal { IfOk result (λ j. IsLoaded (held (S.told store.old)) j.blocks j.rest) }
         ensures content { (S.told store.new).content ≡ (S.told store.old).content }

@@ -23,7 +23,7 @@ abbrev pub IsLineFault : List ℕ → JournalFault → Type 0
 IsLineFault bytes (fault.Damaged sequence kind) = IsDamagedLine bytes sequence kind
 IsLineFault bytes fault.OutOfMemory = Unit {0}
 
--- the first damaged block of the journal, unless memory ran out
+-- the first damage of the journal, unless memory ran out
 abbrev pub IsFault : List ℕ → JournalFault → Type 0
 IsFault bytes (fault.Damaged sequence kind) = IsDamaged bytes sequence kind
 IsFault bytes fault.OutOfMemory = Unit {0}

@@ -1,5 +1,6 @@
 //! A journal, read line by line.
-ghost use Rattle.std.specs.Prelude.{◌≡◌, ◌≤◌, ◌+◌, ◌==◌, None, true, [], ◌∷◌, ◌++◌, drop, length, ℕ, List, IfOk, IfErr, OnOk, MatchOption};
+ghost use Rattle.std.specs.Prelude.{◌≡◌, ◌≤◌, ◌+◌, ◌==◌, None, true, [], ◌∷◌, ◌++◌, drop, length, ℕ, List, IfOk, IfErr};
+ghost use Rattle.std.specs.Prelude.{OnOk, MatchOption};
 ghost use Rattle.std.specs.List.{position};
 ghost use Rattle.ledger_model.specs.Damages.{damage_behind, Undamaged};
 ghost use Rattle.ledger_model.specs.HashesAsked.{AreAsked};
@@ -18,7 +19,8 @@ use thiserror::Error;
 /// Why no journal is read.
 #[derive(Clone, Copy, Debug, PartialEq, Eq, Error)]
 pub enum JournalFault {
-    /// The first damaged line, counted from 0, and the check that it fails first.
+    /// The line at fault, counted from 0, and the check that it fails first.
+    /// It is the first damaged line, or if there is none, the first with a hash that no redaction asks for.
     #[error("line {sequence} is damaged: {kind:?}")]
     Damaged { sequence: u64, kind: Damage },
     #[error("out of memory")]
@@ -64,8 +66,8 @@ fn rest_of(bytes: &[u8], at: usize) -> &[u8]
     rest
 }
 
-/// The block whose line this text is, with a line feed behind it, where it passes each check behind these blocks, of
-/// which the registry is. The registry takes it in; after an error it is of no more use.
+/// The block of this line, if it passes each check after these blocks. The text is the line without its line feed. The
+/// registry is that of the blocks, and takes the new one in; after an error it is of no more use.
 pub(crate) fn next_block(
     alloc: Global,
     registry: &mut Registry,
@@ -91,8 +93,8 @@ pub(crate) fn next_block(
     }
 }
 
-/// Reports the first of these blocks with a hash in place of data or statements that isn't asked for, if there is one;
-/// the registry is of the blocks.
+/// Reports the first of these blocks with a hash that no redaction asks for. The hash stands in place of data or
+/// statements; the registry is that of the blocks.
 pub(crate) fn check_asked(registry: &Registry, blocks: &[Block]) -> Result<(), JournalFault>
     requires { StandsBehind blocks.now registry.now }
     ensures asked { OnOk result (AreAsked blocks.now) }
@@ -108,9 +110,9 @@ pub(crate) fn check_asked(registry: &Registry, blocks: &[Block]) -> Result<(), J
     }
 }
 
-/// The blocks of all whole lines of a journal, and the offset of the rest, in which no line feed stands. `Damaged`
-/// comes exactly at the first whole line that fails a check, with the first check that it fails, or at the first block
-/// with a hash in place of data or statements that isn't asked for.
+/// The blocks of a journal's whole lines, and the offset of the rest. No line feed stands in the rest. `Damaged` comes
+/// exactly at the first whole line that fails a check, with the first check that it fails, or if each passes, at the
+/// first block with a hash in place of data or statements that no redaction asks for.
 pub fn read_journal(alloc: Global, bytes: &[u8]) -> Result<(Blocks, u64), JournalFault>
     ensures journal { IfOk result (λ read. IsJournal bytes.now read.0.list (drop read.1 bytes.now)) }
     ensures within { IfOk result (λ read. read.1 ≤ length bytes.now) }

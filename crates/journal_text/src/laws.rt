@@ -10,8 +10,7 @@ pub fn written_on_one_line()
     ensures { WrittenOnOneLine }
 {}
 
-/// A law for callers: the bytes of a journal tell its blocks and its rest, or its first damaged line and the check that
-/// this line fails first, and nothing else.
+/// A law for callers: the bytes of a journal tell its blocks and its rest, or its first damage, and nothing else.
 pub fn journals_tell()
     ensures { JournalsTell }
 {

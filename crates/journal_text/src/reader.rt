@@ -1,5 +1,6 @@
 //! A journal, read a piece at a time.
-ghost use Rattle.std.specs.Prelude.{◌≡◌, ◌≤◌, ◌+◌, ℕ, List, None, Err, [], ◌∷◌, ◌++◌, true, drop, length, IfOk, IfErr, IfSome, OnOk, OnErr};
+ghost use Rattle.std.specs.Prelude.{◌≡◌, ◌≤◌, ◌+◌, ℕ, List, None, Err, [], ◌∷◌, ◌++◌, true, drop, length, IfOk, IfErr};
+ghost use Rattle.std.specs.Prelude.{IfSome, OnOk, OnErr};
 ghost use Rattle.std.specs.Io.BufRead.{take_through};
 ghost use Rattle.ledger_model.specs.Damages.{Undamaged};
 ghost use Rattle.ledger_model.specs.Recovered.{has_no_line_feed, IsJournal};

@@ -5,7 +5,8 @@ ghost use Rattle.ledger_model.specs.declared.block.Block.{Block};
 ghost use Rattle.ledger_model.specs.State.{state, recorded_in};
 ghost use Rattle.ledger_model.specs.Damages.{has_address, has_id};
 ghost use Rattle.ledger_model.specs.HashesAsked.{unasked};
-ghost use Rattle.ledger_model.specs.Follows.{all_differ, created_ids, document_ids, follows_blocks, has_table, ids_follow, is_of, made_ids, revision_follows};
+ghost use Rattle.ledger_model.specs.Follows.{all_differ, created_ids, document_ids, follows_blocks, has_table};
+ghost use Rattle.ledger_model.specs.Follows.{ids_follow, is_of, made_ids, revision_follows};
 ghost use Rattle.journal_text.specs.Stands.{HasKeys, Stands, has_transaction};
 
 mod documents;

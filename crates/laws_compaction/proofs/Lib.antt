@@ -1,5 +1,4 @@
 pub mod Keeps
-pub mod Gone
 pub mod Shown
 pub mod Asked
 pub mod Follows

@@ -12,7 +12,7 @@ use Rattle.ledger_model.specs.Compaction.{compacted, compacted_block, compacted_
 use Rattle.ledger_model.specs.Damages.{Undamaged}
 use Rattle.ledger_model.specs.Follows.{is_redacted_in}
 use Rattle.ledger_model.specs.State.{Recorded, State, after, all_changed, all_indexed, empty, hashed, is_redacted_by, is_revised, recorded_in, revision_after, revisions_after, state, state_from}
-use Rattle.laws_compaction.proofs.Gone.{are_gone, has_data}
+use Rattle.laws_validity.proofs.Redacted.{are_redacted, has_data}
 
 -- to hide twice, in either order
 swapped : (c d : Bool) (x : Content)
@@ -117,4 +117,4 @@ module _ (blocks : List Block) where
   state_is u =
       from_hidden empty blocks
       ∙ ap (λ (rs : List Recorded). record (state blocks) { revisions = rs })
-      (all_once (state blocks).revisions (are_gone blocks u))
+      (all_once (state blocks).revisions (are_redacted blocks u).hidden)

@@ -1,40 +1,14 @@
 -- Values in whose place others stand that nest no deeper and are within their ranges too.
-use Rattle.std.proofs.Common.{◌≡◌, ◌∙◌, ◌≤◌, ◌+◌, ◌&&◌, ℕ, true, List, [], ◌∷◌, map, refl, sym, arith, rules}
+use Rattle.std.proofs.Common.{◌≡◌, ◌∙◌, ◌≤◌, ℕ, true, List, [], ◌∷◌, map, refl, sym, arith}
 use Rattle.std.proofs.lemmas.Bool.{and_from, and_parts}
 use Rattle.ion_values.specs.Depth.{depth_of, field_depth, deepest}
 use Rattle.ion_values.specs.Within.{within, field_within, all_true, text_within, bytes_within}
 use Rattle.ion_values.specs.declared.value.Value.{Value}
 use Rattle.ion_values.specs.declared.value.Field.{Field}
 use Rattle.ion_values.specs.declared.value.Body.TheVariants as body
-use Rattle.ion_values.specs.declared.value.Body.TheFolds.{the_lemmas}
 use Rattle.ledger_model.specs.Values.{plain, field}
 use Rattle.ledger_model.specs.Journal.{structure, list}
-
--- ---- what ranges and depths come to at each kind of value
-
-within_blob : (bytes : List ℕ) → within (plain (body.Blob bytes)) ≡ bytes_within bytes
-within_blob bytes = search (rules, the_lemmas)
-
-depth_blob : (bytes : List ℕ) → depth_of (plain (body.Blob bytes)) ≡ 0
-depth_blob bytes = search (rules, the_lemmas)
-
-within_list : (vs : List Value) → within (list vs) ≡ all_true (map within vs)
-within_list vs = search (rules, the_lemmas)
-
-depth_list : (vs : List Value) → depth_of (list vs) ≡ deepest (map depth_of vs) + 1
-depth_list vs = search (rules, the_lemmas)
-
-within_structure : (fs : List Field) → within (structure fs) ≡ all_true (map field_within fs)
-within_structure fs = search (rules, the_lemmas)
-
-depth_structure : (fs : List Field) → depth_of (structure fs) ≡ deepest (map field_depth fs) + 1
-depth_structure fs = search (rules, the_lemmas)
-
-within_field : (f : Field) → field_within f ≡ (text_within f.name && within f.value)
-within_field f = search (rules, the_lemmas)
-
-depth_field : (f : Field) → field_depth f ≡ depth_of f.value
-depth_field f = search (rules, the_lemmas)
+use Rattle.laws_validity.proofs.Shapes.{depth_blob, depth_field, depth_list, depth_structure, within_blob, within_field, within_list, within_structure}
 
 -- ---- values in one another's place
 

@@ -1,14 +1,10 @@
 -- A compacted block is whole.
-use Rattle.std.proofs.Common.{◌≡◌, ◌∙◌, ◌+◌, ◌&&◌, ℕ, Bool, true, false, zero, suc, List, [], ◌∷◌, ◌++◌, map, length, codes, refl, sym, ap, subst, if◌then◌else◌, arith, rules}
-use Rattle.std.specs.Prelude.{nat_lt, slice_index}
-use Rattle.std.specs.Int.{to_be_bytes, w32}
+use Rattle.std.proofs.Common.{◌≡◌, ◌∙◌, ◌+◌, ◌&&◌, ℕ, Bool, true, false, List, [], ◌∷◌, ◌++◌, map, length, codes, refl, sym, ap, subst, if◌then◌else◌, arith, rules}
 use Rattle.std.specs.List.{list_all, list_any}
-use Rattle.std.proofs.lemmas.Bool.{and_from, and_parts, eq-eqb, ltb-true}
-use Rattle.std.proofs.lemmas.Bool.Decides.{nat_tests}
-use Rattle.std.proofs.lemmas.List.Folds.{list_all-append}
-use Rattle.sha2.specs.Sha256.{sha256, digest_bytes, final_hash, initial_hash_256}
+use Rattle.std.proofs.lemmas.Bool.{and_from, and_parts, eq-eqb}
+use Rattle.sha2.specs.Sha256.{sha256}
 use Rattle.sha2.proofs.Facts256.{length-sha256}
-use Rattle.ion_values.specs.Within.{text_within, bytes_within}
+use Rattle.ion_values.specs.Within.{bytes_within}
 use Rattle.ion_values.specs.declared.value.Value.{Value}
 use Rattle.ion_values.specs.declared.value.Field.{Field}
 use Rattle.ion_values.specs.declared.value.Body.TheFolds.{the_lemmas}
@@ -28,27 +24,12 @@ use Rattle.ledger_model.specs.Journal.{address_value, block_value, documents_fie
 use Rattle.ledger_model.specs.State.{hashed}
 use Rattle.ledger_model.specs.Values.{field}
 use Rattle.ledger_model.specs.Whole.{IsWhole, address_fits, block_fits, content_fits, hash_fits, hashes_fit, header_fits, info_fits, is_shallow, metadata_fits, place_fits, revision_fits, schema_fits, table_fits, told_fits}
-use Rattle.std.proofs.lemmas.List.Sums.{AllPass-from_list_all}
-use Rattle.std.proofs.lemmas.Str.{IsUtf8-from_ascii, utf8_valid_len-IsUtf8}
-use Rattle.std.proofs.lemmas.Str.Ascii.{IsAscii-from_all}
+use Rattle.laws_validity.proofs.Hashes.{hash_of_is, sha_within}
+use Rattle.laws_validity.proofs.Parts.{ascii_text}
 use Rattle.laws_compaction.proofs.Hashes.{documents_shown}
 use Rattle.laws_compaction.proofs.Smaller.{EachSmaller, Smaller, SmallerField, bytes_field, in_field, in_list, in_structure, same_field, same_value}
 
 -- ---- the hash of a field
-
-four : (x : ℕ) → bytes_within (to_be_bytes w32 x) ≡ true
-four x = grind (arith, nat_tests)
-
-digest_within : (h : List ℕ) (n : ℕ) → bytes_within (digest_bytes h n) ≡ true
-unfolding digest_bytes
-digest_within h zero = refl
-digest_within h (suc n) =
-    list_all-append (λ b. nat_lt b 256) (digest_bytes h n) (to_be_bytes w32 (slice_index h n))
-    ∙ and_from _ _ (digest_within h n) (four (slice_index h n))
-
-sha_within : (m : List ℕ) → bytes_within (sha256 m) ≡ true
-unfolding sha256
-sha_within m = digest_within (final_hash initial_hash_256 m) 8
 
 field_is : (f : Field) → field_hash f ≡ sha256 (symbol_bytes f.name ++ serialize f.value)
 unfolding field_digest
@@ -60,20 +41,6 @@ field_long f = ap (λ (bs : List ℕ). length bs) (field_is f) ∙ length-sha256
 field_bytes : (f : Field) → bytes_within (field_hash f) ≡ true
 field_bytes f = ap (λ (bs : List ℕ). bytes_within bs) (field_is f)
     ∙ sha_within (symbol_bytes f.name ++ serialize f.value)
-
-hash_long : (v : Value) → length (hash_of v).bytes ≡ 32
-unfolding hash_of
-hash_long v = length-sha256 _
-
-bytes_of_hash : (v : Value) → bytes_within (hash_of v).bytes ≡ true
-unfolding hash_of
-bytes_of_hash v = sha_within _
-
-ascii_text : (text : List ℕ) → list_all (λ b. nat_lt b 128) text ≡ true → text_within text ≡ true
-ascii_text text h =
-    let low = AllPass-from_list_all (λ b. nat_lt b 128) text h in
-    eq-eqb _ _ (utf8_valid_len-IsUtf8 text
-    (IsUtf8-from_ascii text (IsAscii-from_all text (λ k d here. ltb-true _ 128 (low k d here)))))
 
 -- ---- values
 
@@ -100,7 +67,7 @@ module _ (blocks : List Block) where
           (
             bytes_field (field (codes "data") v) (codes "dataHash") (hash_of v).bytes
                 (ascii_text (codes "dataHash") refl)
-                (bytes_of_hash v),
+                (hash_of_is v).ranges,
             (same_field (field (codes "metadata") (metadata_value r.metadata)), tt),
           ),
         ),
@@ -170,7 +137,7 @@ module _ (blocks : List Block) where
       → content_fits (if hides then hashed c else c) ≡ true
   content_fit false c h = h
   content_fit true Deleted h = refl
-  content_fit true (Kept v) h = eq-eqb (length (hash_of v).bytes) 32 (hash_long v)
+  content_fit true (Kept v) h = eq-eqb (length (hash_of v).bytes) 32 (hash_of_is v).long
   content_fit true (Redacted hash) h = h
 
   revisions_fit : (ts : List TableId) (rs : List Revision) → list_all revision_fits rs ≡ true

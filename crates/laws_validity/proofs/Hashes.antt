@@ -53,7 +53,7 @@ digest_within h (suc n) =
     list_all-append (λ b. nat_lt b 256) (digest_bytes h n) (to_be_bytes w32 (slice_index h n))
     ∙ and_from _ _ (digest_within h n) (four (slice_index h n))
 
-sha_within : (m : List ℕ) → bytes_within (sha256 m) ≡ true
+pub sha_within : (m : List ℕ) → bytes_within (sha256 m) ≡ true
 unfolding sha256
 sha_within m = digest_within (final_hash initial_hash_256 m) 8
 

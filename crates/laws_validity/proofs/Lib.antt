@@ -2,16 +2,16 @@ pub mod Lists
 mod Thinned
 pub mod Latest
 mod Ids
-mod Shapes
+pub mod Shapes
 mod Statements
-mod Hashes
+pub mod Hashes
 mod Depths
-mod Parts
+pub mod Parts
 pub mod Journals
 mod Tables
 mod Views
 mod Following
-mod Redacted
+pub mod Redacted
 pub mod States
 mod Ready
 mod Progress

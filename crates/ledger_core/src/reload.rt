@@ -40,7 +40,7 @@ struct Loaded {
 impl<S: JournalStore, C> Tail<S, C> {
     /// Reads the store to its end and returns the tail of its journal. A rest that is no whole line is left in place
     /// and marked to be cut. The mask is what the first block's strand shows, or the given one if there is no block.
-    /// It returns `Damaged` at the first damaged line, and `StoreFault` only if the store failed.
+    /// It returns `Damaged` at the journal's first damage, and `StoreFault` only if the store failed.
     pub fn reload(
         alloc: Global,
         store: S,

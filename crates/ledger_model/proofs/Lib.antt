@@ -1,5 +1,4 @@
 pub mod SaidLemmas
-pub mod InfoHash
 pub mod Redactions
 mod ScriptRows
 mod ReportRows

@@ -1,7 +1,6 @@
 -- The parts of revisions of one hash.
-use Rattle.std.proofs.Common.{◌≡◌, ◌∙◌, inl, inr, true, List, [], ◌∷◌, Option, Some, None, refl, sym, ap, subst}
+use Rattle.std.proofs.Common.{◌≡◌, ◌∙◌, inl, inr, [], ◌∷◌, Option, Some, None, refl, sym, ap, subst}
 use Rattle.std.specs.Prelude.{reverse}
-use Rattle.ion_values.specs.Equivalent.{is_equivalent}
 use Rattle.ion_values.specs.declared.value.Value.{Value}
 use Rattle.ql_types.specs.declared.Hash32.{Hash32}
 use Rattle.hash_model.specs.PairHash.{dot32}
@@ -9,7 +8,6 @@ use Rattle.hash_model.specs.Serialize.{hash_of}
 use Rattle.ledger_model.specs.declared.block.Content.{Content}
 use Rattle.ledger_model.specs.declared.block.Content.TheVariants.{Deleted, Kept, Redacted}
 use Rattle.ledger_model.specs.declared.block.Metadata.{Metadata}
-use Rattle.ledger_model.specs.declared.block.Revision.{Revision}
 use Rattle.ledger_model.specs.Journal.{metadata_value}
 use Rattle.ledger_model.specs.Seals.{revision_hash}
 use Rattle.tree_descent.specs.Pairs.{IsOnePair}

@@ -3,7 +3,7 @@
 use Rattle.std.proofs.Common.{◌≡◌, ◌≢◌, ◌∙◌, ◌⊎◌, inl, inr, ℕ, ◌+◌, ◌<◌, ◌≤◌, Bool, true, false, true≢false, List, [], ◌∷◌, map, length, drop, get_or, Option, Some, codes, refl, sym, ap, subst, if◌then◌else◌, arith, rules}
 use Rattle.std.specs.Prelude.{slice_get}
 use Rattle.std.specs.Str.{bytes_eq}
-use Rattle.std.specs.List.{All, AllByRecursion}
+use Rattle.std.specs.List.{AllByRecursion}
 use Rattle.std.specs.Ordering.{nat_cmp, is_lt}
 use Rattle.std.specs.Cmp.Lexicographic.{bytes_decides, slice_cmp}
 use Rattle.std.proofs.lemmas.List.{drop_all, drop_more}
@@ -11,7 +11,7 @@ use Rattle.std.proofs.lemmas.List.Elements.{All-from_recursion}
 use Rattle.ion_values.specs.declared.value.Value.{Value}
 use Rattle.ion_values.specs.declared.value.Field.{Field}
 use Rattle.ion_values.specs.declared.value.Body.TheFolds.{the_lemmas}
-use Rattle.hash_model.specs.Serialize.{escape, field_hash, framed, in_order, joined, put_in_order, serialize, struct_bytes}
+use Rattle.hash_model.specs.Serialize.{escape, field_hash, in_order, joined, put_in_order, serialize, struct_bytes}
 use Rattle.ion_hash.proofs.Order.{put_all}
 use Rattle.ion_extract.specs.Laws.{EscapeIsInjective, FrameIsInjective, JoinedHashesAreInjective}
 use Rattle.laws_descent.specs.Laws.{FieldHashesAreLong, FourHashesAreLong}

@@ -1,6 +1,5 @@
 //! Whether a digest is that of a journal.
-ghost use Rattle.std.specs.Prelude.{◌≡◌, ◌<◌, ◌↔◌, length, true, IfOk};
-ghost use Rattle.proof_model.specs.Chained.{Chained};
+ghost use Rattle.std.specs.Prelude.{◌≡◌, ◌<◌, ◌↔◌, true, IfOk};
 ghost use Rattle.proof_extract.specs.Extracts.{IsPublished};
 
 use crate::blocks::hashes_to;

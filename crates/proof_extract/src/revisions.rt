@@ -1,5 +1,6 @@
 //! The revision of a proof in its block, by the hashes that lead up to the block.
-ghost use Rattle.std.specs.Prelude.{◌≡◌, ◌≢◌, ◌+◌, ◌<◌, ◌≤◌, ◌⊎◌, length, map, reverse, true, Some, None, slice_get, IfOk, IfSome, IsSomeAnd, MatchOption, MatchResult};
+ghost use Rattle.std.specs.Prelude.{◌≡◌, ◌≢◌, ◌+◌, ◌<◌, ◌≤◌, length, map, true, Some, None, slice_get, IfSome};
+ghost use Rattle.std.specs.Prelude.{IsSomeAnd, MatchOption, MatchResult};
 ghost use Rattle.ql_types.specs.declared.Hash.TheVariants.{Full};
 ghost use Rattle.hash_model.specs.Serialize.{field_hash, hash_of, serialize, struct_bytes};
 ghost use Rattle.std.specs.List.{AllByRecursion};
@@ -25,14 +26,13 @@ use crate::forms::{
     stop_at_said,
 };
 use block_form::metadata_value;
-use containers::{OutOfMemory, Sequence};
 use ion_extract::{escape_is_injective, frame_is_injective, joined_hashes_are_injective};
 use ion_hash::{hash, serialize};
 use ion_values::{Field, Value};
 use laws_descent::{field_hashes_are_long, four_fields_are_long};
 use ledger_model::{Block, Content, Metadata, Revision};
-use pad_tree::{Hashes, fold_hashes};
-use proof_model::Proof;
+use pad_tree::fold_hashes;
+use proof_model::{Proof, revision_hashes};
 use ql_types::{Hash, Hash32};
 use std::alloc::Global;
 use tree_descent::{Stop, descend, not_a_pad, one_pair, stop_if_different};
@@ -94,7 +94,7 @@ fn stop_at_metadata(alloc: Global, block: &Block, metadata: &Metadata) -> Result
     stop_at_place(alloc, block, metadata)
 }
 
-/// Stops if a revision's hash is that of what the block's transaction said and did.
+/// Stops if a revision and the block's transaction info have one hash.
 fn stop_at_info(alloc: Global, block: &Block, revision: &Revision) -> Result<(), Stop>
     requires fits { told_fits block.now.info.said ≡ true }
     requires hash { revision.now.hash ≡ info_hash block.now.info block.now.revisions }
@@ -160,17 +160,6 @@ fn same_root(
         return Ok(());
     }
     stop_under_info(alloc, block, revision, below(proof))
-}
-
-/// The hashes of the revisions.
-fn revision_hashes(alloc: Global, revisions: &[Revision]) -> Result<Hashes, OutOfMemory>
-    ensures { IfOk result (λ hashes. hashes ≡ map (λ r. r.hash) revisions.now) }
-{
-    let mut hashes = Sequence::new(alloc);
-    'revisions: for revision in revisions {
-        hashes.push(revision.hash)?;
-    }
-    Ok(hashes)
 }
 
 /// The path leads from the root of the revisions down to one with the hash.

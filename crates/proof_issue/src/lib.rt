@@ -1,7 +1,7 @@
 //! The digest of a journal, and the proofs of its revisions.
 #![tactic(auto)]
 
-ghost use Rattle.std.specs.Prelude.{◌≡◌, ◌<◌, true, List, ◌++◌, length, map, slice_get, IfOk, IfSome, MatchResult, OnOk};
+ghost use Rattle.std.specs.Prelude.{◌≡◌, ◌<◌, true, List, ◌++◌, length, slice_get, IfOk, IfSome, MatchResult, OnOk};
 ghost use Rattle.hash_model.specs.Tree.{root_of};
 ghost use Rattle.ledger_model.specs.declared.block.Block.{Block};
 ghost use Rattle.ledger_model.specs.Damages.{has_hashes};
@@ -16,9 +16,9 @@ mod grown;
 use containers::Sequence;
 pub use grown::prove_grown;
 use ion_values::OutOfMemory;
-use ledger_model::{Block, Blocks, Revision};
+use ledger_model::{Block, Blocks};
 use pad_tree::{Hashes, path, root};
-use proof_model::{Digest, Proof, proofs_verify};
+use proof_model::{Digest, Proof, proofs_verify, revision_hashes};
 use ql_types::{Hash, Hash32};
 use std::alloc::Global;
 
@@ -154,17 +154,6 @@ pub fn digest(alloc: Global, blocks: &Blocks, tip: u64) -> Result<Digest, NoSuch
         digest,
         tip: last.header.address,
     })
-}
-
-/// The hashes of the revisions.
-fn revision_hashes(alloc: Global, revisions: &[Revision]) -> Result<Hashes, OutOfMemory>
-    ensures { IfOk result (λ hashes. hashes ≡ map (λ r. r.hash) revisions.now) }
-{
-    let mut hashes = Sequence::new(alloc);
-    'revisions: for revision in revisions {
-        hashes.push(revision.hash)?;
-    }
-    Ok(hashes)
 }
 
 /// The hash of what the block's transaction said and did.

@@ -1,17 +1,21 @@
 //! Digests of a journal and proofs of its revisions, as values and read back, and what they show.
 #![tactic(auto)]
 
+ghost use Rattle.std.specs.Prelude.{◌≡◌, map, IfOk};
 ghost use Rattle.proof_model.specs.Chained.{UndamagedIsChained};
 ghost use Rattle.proof_model.specs.Issued.{ProofsVerify};
 
 mod proof_values;
 mod read_proofs;
 
-use ledger_model::Header;
+use containers::Sequence;
+use ion_values::OutOfMemory;
+use ledger_model::{Header, Revision};
 use pad_tree::Hashes;
 pub use proof_values::{digest_value, proof_value};
 use ql_types::{BlockAddress, Hash32};
 pub use read_proofs::{digest_in, proof_in};
+use std::alloc::Global;
 
 /// The digest of a journal: the root of the tree over the hashes of its blocks up to the tip.
 #[derive(Clone, Copy, Debug, PartialEq, Eq)]
@@ -27,6 +31,17 @@ pub struct Proof {
     pub header: Header,
     pub index: u32,
     pub path: Hashes,
+}
+
+/// The hashes of the revisions.
+pub fn revision_hashes(alloc: Global, revisions: &[Revision]) -> Result<Hashes, OutOfMemory>
+    ensures { IfOk result (λ hashes. hashes ≡ map (λ r. r.hash) revisions.now) }
+{
+    let mut hashes = Sequence::new(alloc);
+    'revisions: for revision in revisions {
+        hashes.push(revision.hash)?;
+    }
+    Ok(hashes)
 }
 
 /// A law for callers: an undamaged journal is chained.

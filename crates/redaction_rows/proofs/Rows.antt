@@ -1,5 +1,5 @@
--- Rows of redactions: what one leaves of the state and of a history, and which ones are refused.
-use Rattle.std.proofs.Common.{◌≡◌, ◌+◌, ◌*◌, ℕ, zero, suc, pos, true, false, List, [], ◌∷◌, codes, length, refl, rules, Some, None, Ok, Err}
+-- Rows of redactions: what one leaves of the state, of a history and of a compacted journal, and which are refused.
+use Rattle.std.proofs.Common.{◌≡◌, ◌+◌, ◌*◌, ℕ, zero, suc, pos, true, false, List, [], ◌∷◌, ◌++◌, codes, length, refl, rules, Some, None, Ok, Err}
 use Rattle.hash_model.specs.Serialize.{hash_of}
 use Rattle.ion_values.specs.declared.time.Precision.TheVariants.{Second}
 use Rattle.ion_values.specs.declared.time.TimeParts.{TimeParts}
@@ -21,7 +21,9 @@ use Rattle.ledger_model.specs.declared.block.Schema.TheVariants.{Create, Redact}
 use Rattle.ledger_model.specs.declared.block.Told.TheVariants as told
 use Rattle.ledger_model.specs.declared.outcome.Refusal.TheVariants.{NoSuchRevision, StillLatest, AlreadyRedacted, TooManyRedactions}
 use Rattle.ledger_model.specs.CommittedViews.{committed_view, history_view, row_showing}
+use Rattle.ledger_model.specs.Compaction.{compacted, without_statements}
 use Rattle.ledger_model.specs.Follows.{follows_blocks}
+use Rattle.ledger_model.specs.HashesAsked.{unasked}
 use Rattle.ledger_model.specs.Journal.{address_value, id_value}
 use Rattle.ledger_model.specs.Progress.{Progress, start}
 use Rattle.ledger_model.specs.Redacting.{of_name, redaction}
@@ -148,6 +150,45 @@ of_another_document = refl
 of_another_table :
     follows_blocks 0 two (block 2 (Redact (at 0) (record { raw = 1 }) (record { raw = 16777218 }) ∷ []) [] []) ≡ false
 of_another_table = refl
+
+-- ---- compaction
+
+-- the block without its statements
+abbrev silent : Block → Block
+silent b = record b { info = record b.info { said = without_statements b.info.said } }
+
+-- the first block with a data hash
+abbrev hidden_data : Block
+hidden_data = record inserting { revisions = revision 0 (Redacted (hash_of (int 5))) ∷ [] }
+
+abbrev trailing : Block
+trailing = block 3 [] [] []
+
+-- the data go, and the statements up to the redaction
+compacted_three : compacted three ≡ silent hidden_data ∷ silent updating ∷ silent redacting ∷ []
+compacted_three = refl
+
+later_statements_stay :
+    compacted (three ++ trailing ∷ []) ≡ silent hidden_data ∷ silent updating ∷ silent redacting ∷ trailing ∷ []
+later_statements_stay = refl
+
+without_redactions : compacted two ≡ two
+without_redactions = refl
+
+-- ---- what is asked for
+
+all_asked : unasked (silent hidden_data ∷ silent updating ∷ silent redacting ∷ trailing ∷ []) ≡ None
+all_asked = refl
+
+-- a data hash that no block redacts
+unasked_data :
+    unasked (inserting ∷ record updating { revisions = revision 1 (Redacted (hash_of (int 6))) ∷ [] } ∷ redacting ∷ [])
+    ≡ Some 1
+unasked_data = refl
+
+-- a statements' hash behind the last redaction
+unasked_statements : unasked (three ++ silent trailing ∷ []) ≡ Some 3
+unasked_statements = refl
 
 -- ---- statements
 

@@ -66,7 +66,7 @@ taken read value fits gets name f next y e =
     let s = field-gets read value fits gets name f t.0 t.1 in
     (t.0, s.0, s.1, t.2)
 
--- the same of a list in the field of this name
+-- what is read of a list in the field of this name, and what is made of it
 pub taken_all : {A B : Type 0} (read : Value → Option A) (value : A → Value) (fits : A → Bool) → Gets read value fits
     → (name : List ℕ) (f : Field) (next : List A → Option B) (y : B) → and_then (and_then (and_then (named name f) list_in) (each read)) next ≡ Some y
     → (xs : List A) × (f ≡ field name (list (map value xs))) × (list_all fits xs ≡ true) × (next xs ≡ Some y)

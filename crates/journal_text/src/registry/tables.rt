@@ -2,7 +2,8 @@
 ghost use Rattle.std.specs.Prelude.{◌≡◌, ◌++◌, List, [], true, IfOk};
 ghost use Rattle.ledger_model.specs.State.{Table, Indexed, changed, indexed, all_changed, all_indexed};
 ghost use Rattle.ledger_model.specs.declared.block.Schema.TheVariants as change;
-ghost use Rattle.ledger_model.specs.Follows.{all_differ, change_follows, created_ids, is_active, is_named, schema_follows};
+ghost use Rattle.ledger_model.specs.Follows.{all_differ, change_follows, created_ids, is_active, is_named};
+ghost use Rattle.ledger_model.specs.Follows.{schema_follows};
 ghost use Rattle.journal_text.specs.Stands.{AllChange, Changes, TablesStand, table_ids};
 
 use ion_values::{OutOfMemory, Text};

@@ -24,6 +24,6 @@ of_told : (t : Told) (place schema documents : Field) → is_said t ≡ true
 of_told (told.Said said) place schema documents e = of_fields (place ∷ told_field (told.Said said) ∷ schema ∷ documents ∷ [])
 of_told (told.Hashed hash) place schema documents e = cc
 
-pub said_is : (i : Info) (rs : List Revision) → is_said i.said ≡ true → info_hash i rs ≡ hash_of (info_value i rs)
+said_is : (i : Info) (rs : List Revision) → is_said i.said ≡ true → info_hash i rs ≡ hash_of (info_value i rs)
 unfolding info_hash
 said_is i rs e = of_told i.said (place_field i) (schema_field i) (documents_field i rs) e
