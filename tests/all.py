@@ -29,6 +29,7 @@ OTHER_SECONDS = {
     "clients.py": 240,
     "crash_images.py": 240,
     "deb.py": 240,
+    "distribution.py": 400,
     "docs.py": 240,
     "forged_bundles.py": 240,
     "journal_page.py": 240,

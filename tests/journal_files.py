@@ -24,7 +24,7 @@ MAKE = ["make", "--seed", "1", "--sessions", "1", "--transactions", "1"]
 CREATE = b'[{statements:["CREATE TABLE t"]}]'
 INSERT = b'{statements:["INSERT INTO t {\'n\':1}"]}'
 FAULT = b"{status:5,faults:1}\n"
-READING = [["audit"], ["digest"], ["compact"], ["export"], ["prove", "0", "0"]]
+READING = [["audit"], ["digest"], ["compact"], ["export"], ["stream"], ["prove", "0", "0"]]
 NOBODY = 65534
 
 # a bundle of no journal

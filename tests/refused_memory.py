@@ -84,6 +84,8 @@ def refused_command(refuser, program, journal, words, given, ample, at):
     status, output, made = refuser.run(program, journal, words, given, at)
     if made >= at and status != 8 and (status, output) != ample:
         return f"{words} on {journal}, allocation {at}: status {status}, {output[-200:]!r}"
+    if status == 8 and output != b"{status:8}\n" and not ample[1].startswith(output):
+        return f"{words} on {journal}, allocation {at}: {output[-200:]!r} is no front of the output"
     if program.left(journal) != before:
         return f"{words} on {journal}, allocation {at}: the journal changed"
     return None
@@ -115,9 +117,10 @@ def commands(refuser, program, step):
         check(program.run(journal, RUN, script)[0] == 0, f"the journal {journal} is made")
     program.put("compacted", program.run("redacts", ["compact"])[1])
     proof, other = program.run("whole", ["prove", "2", "0"])[1], program.run("redacts", ["prove", "0", "0"])[1]
-    tried = [("whole", words, b"") for words in (["digest"], ["prove", "2", "0"], ["audit"], ["export"])]
+    tried = [("whole", words, b"") for words in (["digest"], ["prove", "2", "0"], ["audit"], ["export"], ["stream"])]
     tried += [("whole", ["verify"], proof), ("whole", ["extract"], proof)]
-    tried += [("redacts", ["prove", "0", "0"], b""), ("redacts", ["compact"], b"")]
+    tried += [("redacts", ["prove", "0", "0"], b""), ("redacts", ["compact"], b""), ("redacts", ["stream", "--from", "1"], b"")]
+    tried += [("whole", ["replay"], program.run("whole", ["stream"])[1])]
     tried += [("compacted", ["audit"], b""), ("compacted", ["extract"], other)]
     for journal, words, given in tried:
         refused_at_each(refuser, program, journal, words, given, step)

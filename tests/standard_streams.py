@@ -70,7 +70,7 @@ def main():
         journal = os.path.join(folder, "journal")
         check(run(program, [journal] + RUN, CREATE)[0] == 0, "one block is committed")
         whole = left(journal)
-        ends = {command: run(program, [journal, command]) for command in ["audit", "compact", "digest", "export"]}
+        ends = {command: run(program, [journal, command]) for command in ["audit", "compact", "digest", "export", "stream"]}
         check(all(status == 0 for status, _ in ends.values()), "the journal is whole")
         first_blocks(program, folder, whole)
         kept_journals(program, journal, whole, ends)

@@ -67,10 +67,19 @@ def inputs(program, journal):
     bundle = b"{status:7,fault:{code:1,field:\"count\"}}\n"
     for command in ["verify", "extract"]:
         check(run(program, [journal, command], b"5") == (7, bundle, b""), f"5 is no bundle for {command}")
+    for words, given, fault in [
+        (["replay"], b"5", b"{kind:NotARecord,at:0}"),
+        (["replay"], b"5 ]", b"{at:2,kind:BadToken}"),
+        (["stream", "--to", "1"], b"", b"{kind:NoSuchBlock,sequence:1,blocks:0}"),
+        (["stream", "--from", "1"], b"", b"{kind:BadRange,from:1,to:0}"),
+    ]:
+        check(run(program, [journal] + words, given) == (2, b"{status:2,fault:" + fault + b"}\n", b""), f"{words} is refused")
+    check(run(program, [journal, "replay"]) == (0, b"", b""), "no records rebuild no blocks")
     none = b"{status:2,fault:{kind:NoSuchBlock,sequence:0,blocks:0}}\n"
     check(run(program, [journal, "digest"]) == (2, none, b""), "there is no block")
     with open_folder(os.path.dirname(journal)) as folder:
-        check(run(program, [journal] + RUN, stdin=folder) == (4, b"{status:4,faults:1}\n", b""), "a folder can't be read")
+        for command in [RUN, ["replay"]]:
+            check(run(program, [journal] + command, stdin=folder) == (4, b"{status:4,faults:1}\n", b""), f"{command}: a folder can't be read")
     check(left(journal) is None, "no journal is made")
 
 

@@ -4,7 +4,7 @@ use Rattle.clap.specs.Faults.{defaults_fault, walk_fault}
 use Rattle.clap.specs.Walk.{walked}
 use Rattle.cli_args.specs.declared.Command.TheVariants as command
 use Rattle.cli_args.specs.declared.IdSource.TheVariants as ids
-use Rattle.cli_args.specs.Forms.{audit_app, compact_app, digest_app, export_app, extract_app, found_in, make_app, prove_app, run_app, verify_app}
+use Rattle.cli_args.specs.Forms.{audit_app, compact_app, digest_app, export_app, extract_app, found_in, make_app, prove_app, replay_app, run_app, stream_app, verify_app}
 use Rattle.cli_args.specs.Numbers.{number_of}
 use Rattle.cli_args.specs.Words.{asked}
 
@@ -102,6 +102,26 @@ exports = refl
 export_more : asked (codes "export" ∷ codes "1" ∷ []) ≡ None
 unfolding found_in walk_fault defaults_fault walked export_app
 export_more = refl
+
+streams : asked (codes "stream" ∷ []) ≡ Some (command.Stream 0 None)
+unfolding found_in walk_fault defaults_fault walked stream_app
+streams = refl
+
+streams_part : asked (codes "stream" ∷ codes "--to" ∷ codes "7" ∷ codes "--from" ∷ codes "2" ∷ []) ≡ Some (command.Stream 2 (Some 7))
+unfolding found_in walk_fault defaults_fault walked stream_app number_of
+streams_part = refl
+
+signed_from : asked (codes "stream" ∷ codes "--from" ∷ codes "+2" ∷ []) ≡ None
+unfolding found_in walk_fault defaults_fault walked stream_app number_of
+signed_from = refl
+
+replays : asked (codes "replay" ∷ []) ≡ Some command.Replay
+unfolding found_in walk_fault defaults_fault walked replay_app
+replays = refl
+
+replay_more : asked (codes "replay" ∷ codes "1" ∷ []) ≡ None
+unfolding found_in walk_fault defaults_fault walked replay_app
+replay_more = refl
 
 word_more : asked (codes "audit" ∷ codes "x" ∷ []) ≡ None
 unfolding found_in walk_fault defaults_fault walked audit_app

@@ -69,6 +69,14 @@ compact_app = bare_app (codes "compact")
 unfoldable pub export_app : App
 export_app = bare_app (codes "export")
 
+-- `stream [--from N] [--to M]`
+unfoldable pub stream_app : App
+stream_app = with_rule (with_rule (bare_app (codes "stream")) (option_rule (codes "from"))) (option_rule (codes "to"))
+
+-- `replay`
+unfoldable pub replay_app : App
+replay_app = bare_app (codes "replay")
+
 -- `make --seed S --sessions K --transactions N [--workers W]`
 unfoldable pub make_app : App
 make_app =

@@ -3,7 +3,7 @@ use Rattle.std.specs.Prelude.{ℕ, ℤ, ◌*◌, nat_lt, Bool, true, false, List
 use Rattle.std.specs.Option.{option_map_or}
 use Rattle.std.specs.Str.{bytes_eq}
 use Rattle.clap.specs.Words.{Row, Text, first_of}
-use Rattle.cli_args.specs.Forms.{run_app, digest_app, prove_app, verify_app, extract_app, audit_app, compact_app, export_app, make_app, found_in}
+use Rattle.cli_args.specs.Forms.{run_app, digest_app, prove_app, verify_app, extract_app, audit_app, compact_app, export_app, stream_app, replay_app, make_app, found_in}
 use Rattle.cli_args.specs.Numbers.{count_of, number_of}
 use Rattle.cli_args.specs.Times.{time_of}
 use Rattle.cli_args.specs.declared.Command.{Command}
@@ -77,6 +77,20 @@ prove_of rows =
     option_map (λ tip. command.Prove sequence index tip) (tip_of rows))
     (number_at 32 (codes "index") rows)) (number_at 64 (codes "sequence") rows)
 
+-- the number of the first block that a word says, and 0 without one
+abbrev pub from_in : Option Text → Option ℕ
+from_in None = Some 0
+from_in (Some word) = number_of 64 word
+
+abbrev pub from_of : List Row → Option ℕ
+from_of rows = from_in (first_of (codes "from") rows)
+
+-- up to but without the block of a number, if one is given
+abbrev pub stream_of : List Row → Option Command
+stream_of rows =
+    option_and_then (λ from. option_map (λ to. command.Stream from to)
+    (at_will (number_of 64) (first_of (codes "to") rows))) (from_of rows)
+
 -- the sessions have 100,000 transactions at the most
 abbrev pub make_with : MakeOptions → Option Command
 make_with o = if nat_lt 100000 (o.sessions * o.transactions) then None else Some (command.Make o)
@@ -101,6 +115,8 @@ asked_by word rest =
     else if bytes_eq word (codes "audit") then option_map (λ rows. command.Audit) (found_in audit_app rest)
     else if bytes_eq word (codes "compact") then option_map (λ rows. command.Compact) (found_in compact_app rest)
     else if bytes_eq word (codes "export") then option_map (λ rows. command.Export) (found_in export_app rest)
+    else if bytes_eq word (codes "stream") then option_and_then stream_of (found_in stream_app rest)
+    else if bytes_eq word (codes "replay") then option_map (λ rows. command.Replay) (found_in replay_app rest)
     else if bytes_eq word (codes "make") then option_and_then make_of (found_in make_app rest)
     else None
 

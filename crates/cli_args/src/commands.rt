@@ -6,11 +6,11 @@ ghost use Rattle.cli_args.specs.Words as spec;
 
 use crate::forms::{
     audit_form, compact_form, digest_form, export_form, extract_form, found_in, make_form,
-    prove_form, run_form, verify_form,
+    prove_form, replay_form, run_form, stream_form, verify_form,
 };
 use crate::values::{
-    count_at, ids_of, number_at, number_at_will, small_number_at, text_at_will, time_at_will,
-    workers_of,
+    count_at, from_of, ids_of, number_at, number_at_will, small_number_at, text_at_will,
+    time_at_will, workers_of,
 };
 use crate::{Command, MakeOptions, RunOptions, WordsFault};
 use clap::ArgMatches;
@@ -122,6 +122,30 @@ pub fn export_in(alloc: Global, words: &[String]) -> Result<Command, WordsFault>
 {
     let _found = found_in(export_form(alloc), words)?;
     Ok(Command::Export)
+}
+
+/// What the words behind `stream` ask for.
+pub fn stream_in(alloc: Global, words: &[String]) -> Result<Command, WordsFault>
+    ensures { Gives result (option_and_then spec.stream_of (found_in form.stream_app (map string_bytes words.now))) }
+{
+    let found = found_in(stream_form(alloc)?, words)?;
+    stream_of(&found).ok_or(WordsFault::Refused)
+}
+
+fn stream_of(found: &ArgMatches<'_>) -> Option<Command>
+    ensures { result ≡ spec.stream_of (rows_in found.now) }
+{
+    let from = from_of(found)?;
+    let to = number_at_will(found, "to")?;
+    Some(Command::Stream { from, to })
+}
+
+/// What the words behind `replay` ask for.
+pub fn replay_in(alloc: Global, words: &[String]) -> Result<Command, WordsFault>
+    ensures { Gives result (option_map (λ _. Command.Replay) (found_in form.replay_app (map string_bytes words.now))) }
+{
+    let _found = found_in(replay_form(alloc), words)?;
+    Ok(Command::Replay)
 }
 
 /// What the words behind `make` ask for.

@@ -87,6 +87,25 @@ pub fn export_form<'a>(alloc: Global) -> Command<'a>
     bare(alloc, "export")
 }
 
+/// `stream [--from N] [--to M]`.
+#[tactic(auto, unfolding(crate::specs::Forms::stream_app))]
+pub fn stream_form<'a>(alloc: Global) -> Result<Command<'a>, AllocError>
+    ensures app { IfOk result (λ form. app_of form ≡ spec.stream_app) }
+    ensures simple { is_simple_and_free spec.stream_app ≡ true }
+{
+    let form = with(bare(alloc, "stream"), option(alloc, "from"))?;
+    with(form, option(alloc, "to"))
+}
+
+/// `replay`.
+#[tactic(auto, unfolding(crate::specs::Forms::replay_app))]
+pub fn replay_form<'a>(alloc: Global) -> Command<'a>
+    ensures app { app_of result ≡ spec.replay_app }
+    ensures simple { is_simple_and_free spec.replay_app ≡ true }
+{
+    bare(alloc, "replay")
+}
+
 /// `make --seed S --sessions K --transactions N [--workers W]`.
 #[tactic(auto, unfolding(crate::specs::Forms::make_app))]
 pub fn make_form<'a>(alloc: Global) -> Result<Command<'a>, AllocError>

@@ -13,7 +13,8 @@ mod times;
 mod values;
 
 use commands::{
-    audit_in, compact_in, digest_in, export_in, extract_in, make_in, prove_in, run_in, verify_in,
+    audit_in, compact_in, digest_in, export_in, extract_in, make_in, prove_in, replay_in, run_in,
+    stream_in, verify_in,
 };
 use ion_values::{OutOfMemory, Text};
 use std::alloc::{AllocError, Global};
@@ -44,6 +45,14 @@ pub enum Command {
     Compact,
     /// Writes the blocks of the journal in Ion's binary encoding.
     Export,
+    /// Writes the journal without what its blocks redact as a stream of records, from the block of one number up to
+    /// but without that of another, or to the last.
+    Stream {
+        from: u64,
+        to: Option<u64>,
+    },
+    /// Writes the lines of the blocks that are rebuilt from the records of the input.
+    Replay,
     /// Runs a workload that is made from a seed.
     Make(MakeOptions),
 }
@@ -117,8 +126,8 @@ impl From<OutOfMemory> for WordsFault {
 }
 
 /// The command that the words name. The first word is the command's own: `run`, `digest`, `prove`,
-/// `verify`, `extract`, `audit`, `compact`, `export` or `make`. Those behind it are read by `clap`,
-/// each option at most once.
+/// `verify`, `extract`, `audit`, `compact`, `export`, `stream`, `replay` or `make`. Those behind it are
+/// read by `clap`, each option at most once.
 /// `Refused` comes exactly where there is no first word or another; where `clap` has a cause to
 /// refuse those behind it; where a number isn't decimal digits without a sign and without a zero in
 /// front, or passes 64 bits or, for the index of a revision, 32; where the number of workers isn't
@@ -161,6 +170,12 @@ fn asked_by(alloc: Global, word: &str, rest: &[String]) -> Result<Command, Words
     }
     if word == "export" {
         return export_in(alloc, rest);
+    }
+    if word == "stream" {
+        return stream_in(alloc, rest);
+    }
+    if word == "replay" {
+        return replay_in(alloc, rest);
     }
     if word == "make" {
         return make_in(alloc, rest);

@@ -47,6 +47,16 @@ pub fn number_at_will(found: &ArgMatches<'_>, name: &str) -> Option<Option<u64>>
     }
 }
 
+/// The number of the first block that is asked for, 0 where the words say nothing.
+pub fn from_of(found: &ArgMatches<'_>) -> Option<u64>
+    ensures { result ≡ spec.from_of (rows_in found.now) }
+{
+    match word_of(found, "from") {
+        Some(word) => number_of(word),
+        None => Some(0),
+    }
+}
+
 /// The time that was given for an option, if one was.
 pub fn time_at_will(
     alloc: Global,

@@ -10,7 +10,7 @@ use Rattle.proof_issue.specs.declared.NoSuch.TheVariants as none_such
 use Rattle.proof_model.specs.declared.Digest.{Digest}
 use Rattle.proof_verify.specs.declared.ProofFault.TheVariants as fault
 use Rattle.proof_extract.specs.declared.Extracted.TheVariants as extracted
-use Rattle.cli_model.specs.Lines.{words_line, misspelt, input_line, no_such_line, not_empty_line, damaged_line, faults_line, proof_fault_line, unpublished_line}
+use Rattle.cli_model.specs.Lines.{words_line, misspelt, not_a_record, record_differs, input_line, no_such_line, not_empty_line, bad_range_line, damaged_line, faults_line, proof_fault_line, unpublished_line}
 use Rattle.cli_model.specs.Extracts.{IsUnpublished}
 use Rattle.cli_model.specs.Journals.{HasNone, tip_in}
 use Rattle.cli_model.specs.declared.Question.TheVariants as asks
@@ -60,6 +60,23 @@ row_script : input_line (misspelt (record { session = 1; transaction = 0; kind =
     ≡ codes "{status:2,fault:{session:1,transaction:0,kind:NotASession}}\n"
 unfolding digits
 row_script = refl
+
+-- a stream up to a block behind the next one, and one that ends before it begins
+row_past_end : no_such_line (none_such.Block 2 1) ≡ codes "{status:2,fault:{kind:NoSuchBlock,sequence:2,blocks:1}}\n"
+unfolding digits
+row_past_end = refl
+
+row_bad_range : bad_range_line 2 1 ≡ codes "{status:2,fault:{kind:BadRange,from:2,to:1}}\n"
+unfolding digits
+row_bad_range = refl
+
+row_no_record : input_line (not_a_record 0) ≡ codes "{status:2,fault:{kind:NotARecord,at:0}}\n"
+unfolding digits
+row_no_record = refl
+
+row_differs : input_line (record_differs 1 0) ≡ codes "{status:2,fault:{kind:RecordDiffers,at:1,sequence:0}}\n"
+unfolding digits
+row_differs = refl
 
 row_damaged :
     (number_of damaged ≡ 3) × (damaged_line 2 damage.WrongHash ≡ codes "{status:3,fault:{sequence:2,kind:WrongHash}}\n")

@@ -1,4 +1,4 @@
--- How the input of a call is read, and the script or the bundle that it spells.
+-- How the input of a call is read, and the script or the values that it spells.
 use Rattle.std.specs.Prelude.{◌≡◌, ◌<◌, ◌≤◌, ℕ, List, length, Option, Ok, Err}
 use Rattle.ion_model.specs.Read.{read_text}
 use Rattle.ion_values.specs.declared.fault.IonFault.{IonFault}
@@ -60,27 +60,35 @@ IsNoScript rules (bad.faulty fault) source = IsJudged rules source (faulty fault
 IsNoScript rules bad.bad_rules source = IsJudged rules source bad_rules
 IsNoScript rules bad.no_such_rules source = IsJudged rules source no_such_rules
 IsNoScript rules (bad.misspelt fault) source = IsJudged rules source (misspelt fault)
+IsNoScript rules (bad.not_a_record at) source = ⊥
+IsNoScript rules (bad.record_differs at sequence) source = ⊥
 
 -- ---- values
 
--- the whole input was read, which isn't too long, and it is the text of these values
-pub record HasValues (source : Span SourceTold) (values : List Value) : Type 0 where
+-- the whole input was read, which isn't too long, and it is the text of these values, which nest at most so deep
+pub record HasValuesWithin (depth : ℕ) (source : Span SourceTold) (values : List Value) : Type 0 where
   pub input : List ℕ
   pub read : WasRead source input
   pub short : length input ≤ longest
-  pub text_of : read_text deepest input ≡ Ok values
+  pub text_of : read_text depth input ≡ Ok values
 
--- it is no text of values, by this fault
-pub record HasNoValues (source : Span SourceTold) (fault : IonFault) : Type 0 where
+-- it is no text of such values, by this fault
+pub record HasNoValuesWithin (depth : ℕ) (source : Span SourceTold) (fault : IonFault) : Type 0 where
   pub input : List ℕ
   pub read : WasRead source input
   pub short : length input ≤ longest
-  pub text_of : read_text deepest input ≡ Err fault
+  pub text_of : read_text depth input ≡ Err fault
+
+-- as deep as an input may nest
+abbrev pub HasValues : Span SourceTold → List Value → Type 0
+HasValues source values = HasValuesWithin deepest source values
 
 -- why the input is no text of values
 abbrev pub IsNoText : BadInput → Span SourceTold → Type 0
 IsNoText bad.too_long source = IsTooLong source
-IsNoText (bad.faulty fault) source = HasNoValues source fault
+IsNoText (bad.faulty fault) source = HasNoValuesWithin deepest source fault
 IsNoText bad.bad_rules source = ⊥
 IsNoText bad.no_such_rules source = ⊥
 IsNoText (bad.misspelt fault) source = ⊥
+IsNoText (bad.not_a_record at) source = ⊥
+IsNoText (bad.record_differs at sequence) source = ⊥

@@ -9,8 +9,10 @@ pub mod Lines
 pub mod FirstAlone
 pub mod Making
 pub mod Outputs
+pub mod Replays
 pub mod Runs
 pub mod Stores
+pub mod Streams
 pub mod Exports
 pub mod Extracts
 pub mod Images

@@ -37,6 +37,8 @@ pub data BadInput : Type 0 where
   bad_rules : BadInput
   no_such_rules : BadInput
   misspelt : ScriptFault → BadInput
+  not_a_record : (at : ℕ) → BadInput
+  record_differs : (at : ℕ) → (sequence : ℕ) → BadInput
 
 abbrev pub kind_name : IonKind → List ℕ
 kind_name kind.NotUtf8 = codes "NotUtf8"
@@ -73,6 +75,9 @@ fault_text (faulty f) = codes "at:" ++ decimal f.at ++ codes ",kind:" ++ kind_na
 fault_text bad_rules = codes "kind:BadRules"
 fault_text no_such_rules = codes "kind:NoSuchRules"
 fault_text (misspelt f) = script_fault_text f
+fault_text (not_a_record at) = codes "kind:NotARecord,at:" ++ decimal at
+fault_text (record_differs at sequence) =
+    codes "kind:RecordDiffers,at:" ++ decimal at ++ codes ",sequence:" ++ decimal sequence
 
 abbrev pub input_line : BadInput → List ℕ
 input_line cause = fault_line (fault_text cause)
@@ -96,6 +101,11 @@ no_such_line refused = fault_line (no_such_text refused)
 -- of a journal with this number of blocks
 abbrev pub not_empty_line : ℕ → List ℕ
 not_empty_line blocks = fault_line (codes "kind:JournalNotEmpty,blocks:" ++ decimal blocks)
+
+-- ---- that a range of blocks ends before it begins, with the status 2
+
+abbrev pub bad_range_line : ℕ → ℕ → List ℕ
+bad_range_line from to = fault_line (codes "kind:BadRange,from:" ++ decimal from ++ codes ",to:" ++ decimal to)
 
 -- ---- which line of the journal is damaged, with the status 3
 

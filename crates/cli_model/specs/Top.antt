@@ -17,8 +17,10 @@ use Rattle.cli_model.specs.Inputs.{IsFine, IsIdle}
 use Rattle.cli_model.specs.Journals.{asks_journal}
 use Rattle.cli_model.specs.Lines.{words_line, faults_line, memory_line}
 use Rattle.cli_model.specs.Making.{makes}
+use Rattle.cli_model.specs.Replays.{replays}
 use Rattle.cli_model.specs.Runs.{runs}
 use Rattle.cli_model.specs.Stores.{IsUncalled, IsUnfailed}
+use Rattle.cli_model.specs.Streams.{streams}
 use Rattle.cli_model.specs.Written.{WritesAll, WritesLine, FailsIn, RunsOutIn}
 
 -- ---- by what the words ask for
@@ -43,6 +45,8 @@ claim_of (Some command.Extract) = extracts
 claim_of (Some command.Audit) = asks_journal asks.Counts
 claim_of (Some command.Compact) = asks_journal asks.Compact
 claim_of (Some command.Export) = asks_journal asks.Export
+claim_of (Some (command.Stream from to)) = streams from to
+claim_of (Some command.Replay) = replays
 claim_of (Some (command.Make options)) = makes options
 
 -- this text is what was asked for
@@ -76,8 +80,8 @@ pub record GivesCause (same : Type 0) (what : Option Command) (x : Outside) (sta
   pub cause : Refuses same what x status line
   pub written : Written line
 
--- the sink had no memory for the rest of the output, or of a cause's line; or the line of status 8 was written, or the
--- sink had no memory for the rest of that
+-- there was no memory for the rest of the output, or of a cause's line; or the line of status 8 was written, or there
+-- was no memory for the rest of that
 abbrev pub WritesLast : Type 0 → Option Command → Outside → Span SinkTold → Type 0
 WritesLast same what x sink =
     GivesText what x (RunsOutIn sink)

@@ -14,7 +14,7 @@ pub record FailsIn (sink : Span SinkTold) (text : List ℕ) : Type 0 where
   pub part : BreaksOff sink text
   pub failed : sink.before.faults < sink.after.faults
 
--- a front part of the text was written and not all, and the sink had no memory for the next part
+-- a front part of the text was written and not all, and there was no memory for the next part
 pub record RunsOutIn (sink : Span SinkTold) (text : List ℕ) : Type 0 where
   pub part : BreaksOff sink text
   pub fine : sink.after.faults ≡ sink.before.faults

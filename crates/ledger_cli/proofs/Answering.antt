@@ -55,6 +55,7 @@ unanswered question blocks (stop.Damaged sequence kind) store reads h = absurd h
 unanswered question blocks stop.SourceFailed store reads h = absurd h
 unanswered question blocks stop.StoreFailed store reads h = absurd h
 unanswered question blocks (stop.NotEmpty count) store reads h = absurd h
+unanswered question blocks (stop.BadRange from to) store reads h = absurd h
 unanswered question blocks (stop.NotAccepted fault) store reads h = absurd h
 unanswered question blocks stop.NotPublished store reads h = absurd h
 unanswered question blocks stop.OutOfMemory store reads h = reads.only_read.faults
@@ -99,6 +100,7 @@ module _ (same : Type 0) (what : Option Command) (question : Question) (x : Outs
   works_so (Err stop.StoreFailed) h =
       (refuses _ _ (inr (inr (refl, record { failed = h; line_is = refl }))), ap (λ (t : SourceTold). t.faults) idle)
   works_so (Err (stop.NotEmpty blocks)) h = absurd h
+  works_so (Err (stop.BadRange from to)) h = absurd h
   works_so (Err (stop.NotAccepted fault)) h = absurd h
   works_so (Err stop.NotPublished) h = absurd h
   works_so (Err stop.OutOfMemory) h = told h

@@ -101,6 +101,7 @@ module _ (same : Type 0) (o : RunOptions) (x : Outside) (script : List (List Job
   ends_so stop.StoreFailed h on =
       (inr (inr (inr (refl, record { script = script; has = has }, record { failed = h; line_is = refl }))), fine)
   ends_so (stop.NotEmpty blocks) h on = absurd h
+  ends_so (stop.BadRange from to) h on = absurd h
   ends_so (stop.NotAccepted fault) h on = absurd h
   ends_so stop.NotPublished h on = absurd h
   ends_so stop.OutOfMemory h on = record { source = fine; store = tells_so on.terms on.are (on.is.tells refl) }
@@ -144,6 +145,7 @@ works_unread same o x stop.SourceFailed un h =
     (inr (inr (inl (refl, record { failed = h; line_is = refl }, un))), inl (unfailed same x un))
 works_unread same o x stop.StoreFailed un h = absurd h
 works_unread same o x (stop.NotEmpty blocks) un h = absurd h
+works_unread same o x (stop.BadRange from to) un h = absurd h
 works_unread same o x (stop.NotAccepted fault) un h = absurd h
 works_unread same o x stop.NotPublished un h = absurd h
 works_unread same o x stop.OutOfMemory un h = record { source = h; store = inl (unfailed same x un) }

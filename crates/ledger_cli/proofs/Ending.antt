@@ -49,6 +49,8 @@ keeps_all same (Some command.Extract) x un idle = ap (λ (t : StoreTold). t.cont
 keeps_all same (Some command.Audit) x un idle = (ap (λ (t : StoreTold). t.content) un.told, idle)
 keeps_all same (Some command.Compact) x un idle = (ap (λ (t : StoreTold). t.content) un.told, idle)
 keeps_all same (Some command.Export) x un idle = (ap (λ (t : StoreTold). t.content) un.told, idle)
+keeps_all same (Some (command.Stream from to)) x un idle = (ap (λ (t : StoreTold). t.content) un.told, idle)
+keeps_all same (Some command.Replay) x un idle = un
 keeps_all same (Some (command.Make options)) x un idle = (inl (stays_still x.store (ap (λ (t : StoreTold). t.content) un.told)), idle)
 
 -- a run that isn't begun leaves what there was
@@ -116,6 +118,8 @@ module _ (same : Type 0) (what : Option Command) (x : Outside) (sink : Span Sink
       own_line_ends s status.StoreFailed _ works.0 end (λ line. (record { line = _; cause = works.0; written = line }, works.1))
       (λ out. record { last = broken s status.StoreFailed _ works.0 out; of_source = inl works.1; of_store = inr out })
   by_work (Err (stop.NotEmpty blocks)) s works end =
+      line_ends s status.BadInput _ works.0 end works.1 (λ line. (record { line = _; cause = works.0; written = line }, works.1.source))
+  by_work (Err (stop.BadRange from to)) s works end =
       line_ends s status.BadInput _ works.0 end works.1 (λ line. (record { line = _; cause = works.0; written = line }, works.1.source))
   by_work (Err (stop.NotAccepted fault)) s works end =
       line_ends s status.NotAccepted _ works.0 end works.1 (λ line. (record { line = _; cause = works.0; written = line }, works.1.source))

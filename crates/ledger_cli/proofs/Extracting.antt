@@ -15,7 +15,7 @@ use Rattle.laws_history.specs.Streams.{Taken, WasRead}
 use Rattle.cli_model.specs.Calls.{Outside}
 use Rattle.cli_model.specs.Extracts.{HasBundle}
 use Rattle.cli_model.specs.Extracts as model
-use Rattle.cli_model.specs.Inputs.{IsFine, longest}
+use Rattle.cli_model.specs.Inputs.{IsFine, deepest, longest}
 use Rattle.cli_model.specs.Stores.{IsUncalled, IsUnfailed, Reads}
 use Rattle.journal_reader.specs.Loads.{IsCause}
 use Rattle.journal_reader.specs.declared.cause.LoadCause.{LoadCause}
@@ -59,26 +59,31 @@ unread_stops source (stop.BadInput (cause.Faulty fault)) h long = cc
 unread_stops source (stop.BadInput cause.BadRules) h long = cc
 unread_stops source (stop.BadInput cause.NoSuchRules) h long = cc
 unread_stops source (stop.BadInput (cause.Misspelt fault)) h long = cc
+unread_stops source (stop.BadInput (cause.NotARecord at)) h long = cc
+unread_stops source (stop.BadInput (cause.RecordDiffers at sequence)) h long = cc
 unread_stops source (stop.NoSuch why) h long = absurd h
 unread_stops source (stop.Damaged sequence kind) h long = absurd h
 unread_stops source stop.SourceFailed h long = h
 unread_stops source stop.StoreFailed h long = absurd h
 unread_stops source (stop.NotEmpty blocks) h long = absurd h
+unread_stops source (stop.BadRange from to) h long = absurd h
 unread_stops source (stop.NotAccepted why) h long = absurd h
 unread_stops source stop.NotPublished h long = absurd h
 unread_stops source stop.OutOfMemory h long = h
 
 module _ (source : Span SourceTold) (input : List ℕ) (read : WasRead source input) (short : length input ≤ longest)
     (fine : IsFine source) where
-  faulty_stops : (why : BadInput) → IsFaulty why input → ReadsBundle (Err (stop.BadInput why)) source
+  faulty_stops : (why : BadInput) → IsFaulty deepest why input → ReadsBundle (Err (stop.BadInput why)) source
   faulty_stops cause.TooLong h = absurd h
   faulty_stops (cause.Faulty fault) h = (record { input = input; read = read; short = short; text_of = h }, fine)
   faulty_stops cause.BadRules h = absurd h
   faulty_stops cause.NoSuchRules h = absurd h
   faulty_stops (cause.Misspelt fault) h = absurd h
+  faulty_stops (cause.NotARecord at) h = absurd h
+  faulty_stops (cause.RecordDiffers at sequence) h = absurd h
 
   -- it is no text of values
-  pub no_values_stop : (why : CommandFault) → ReadsValues (Err why) input → ReadsBundle (Err why) source
+  pub no_values_stop : (why : CommandFault) → ReadsValues deepest (Err why) input → ReadsBundle (Err why) source
   no_values_stop stop.BadWords h = absurd h
   no_values_stop (stop.BadInput why) h = faulty_stops why h
   no_values_stop (stop.NoSuch why) h = absurd h
@@ -86,11 +91,12 @@ module _ (source : Span SourceTold) (input : List ℕ) (read : WasRead source in
   no_values_stop stop.SourceFailed h = absurd h
   no_values_stop stop.StoreFailed h = absurd h
   no_values_stop (stop.NotEmpty blocks) h = absurd h
+  no_values_stop (stop.BadRange from to) h = absurd h
   no_values_stop (stop.NotAccepted why) h = absurd h
   no_values_stop stop.NotPublished h = absurd h
   no_values_stop stop.OutOfMemory h = fine
 
-  module _ (values : List Value) (reads : ReadsValues (Ok values) input) where
+  module _ (values : List Value) (reads : ReadsValues deepest (Ok values) input) where
     -- it is one
     pub values_read : (came : Result Bundle CommandFault) → SpellsBundle came values → ReadsBundle came source
     values_read (Ok b) h = (
@@ -109,6 +115,7 @@ module _ (source : Span SourceTold) (input : List ℕ) (read : WasRead source in
     values_read (Err stop.SourceFailed) h = absurd h
     values_read (Err stop.StoreFailed) h = absurd h
     values_read (Err (stop.NotEmpty blocks)) h = absurd h
+    values_read (Err (stop.BadRange from to)) h = absurd h
     values_read (Err (stop.NotAccepted why)) h = (
       record {
         values = values;
@@ -159,6 +166,7 @@ module _ (same : Type 0) (x : Outside) where
     works_unbundled stop.SourceFailed h = (inr (inl (refl, record { failed = h; line_is = refl }, un)), inl uncalled)
     works_unbundled stop.StoreFailed h = absurd h
     works_unbundled (stop.NotEmpty blocks) h = absurd h
+    works_unbundled (stop.BadRange from to) h = absurd h
     works_unbundled (stop.NotAccepted why) h =
         (inr (inr (inl (refl, record { why = why; has = h.0; line_is = refl }, un))), told h.1 uncalled)
     works_unbundled stop.NotPublished h = absurd h
@@ -223,6 +231,7 @@ module _ (same : Type 0) (x : Outside) where
       loaded (Err stop.SourceFailed) h = absurd h
       loaded (Err stop.StoreFailed) h = absurd h
       loaded (Err (stop.NotEmpty count)) h = absurd h
+      loaded (Err (stop.BadRange from to)) h = absurd h
       loaded (Err (stop.NotAccepted why)) h = (
         inr (inr (inr (inr (inr (inr (
           refl,

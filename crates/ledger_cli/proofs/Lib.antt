@@ -16,3 +16,6 @@ pub mod Running
 pub mod UnderRules
 pub mod Verifying
 pub mod Words
+pub mod Written
+pub mod Replaying
+pub mod Streaming

@@ -101,6 +101,7 @@ later_stop (stop.Damaged sequence kind) before ran after low h = absurd h
 later_stop stop.SourceFailed before ran after low h = absurd h
 later_stop stop.StoreFailed before ran after low h = record { rose = omega (arith, low, h.rose); last = h.last }
 later_stop (stop.NotEmpty blocks) before ran after low h = absurd h
+later_stop (stop.BadRange from to) before ran after low h = absurd h
 later_stop (stop.NotAccepted fault) before ran after low h = absurd h
 later_stop stop.NotPublished before ran after low h = absurd h
 later_stop stop.OutOfMemory before ran after low h = tt

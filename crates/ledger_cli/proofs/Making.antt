@@ -295,6 +295,7 @@ module _ {S C : Type 0} (told : S → StoreTold) (answers : C → Option (List �
   as_make : (why : CommandFault) → IsLoadStop why store → IsMakeStop why store
   as_make stop.BadWords h = h
   as_make (stop.NotEmpty count) h = absurd h
+  as_make (stop.BadRange from to) h = h
   as_make (stop.BadInput cause) h = h
   as_make (stop.NoSuch none) h = h
   as_make (stop.Damaged sequence kind) h = h
@@ -416,6 +417,7 @@ works_none same o x (stop.NotEmpty blocks) fine un h = (
   inl (refl, record { blocks = h.blocks; reads = h.reads; some = h.some; line_is = ap not_empty_line h.count_is }),
   record { source = fine; store = inl h.reads.only_read.faults },
 )
+works_none same o x (stop.BadRange from to) fine un h = absurd h
 works_none same o x (stop.NotAccepted fault) fine un h = absurd h
 works_none same o x stop.NotPublished fine un h = absurd h
 works_none same o x stop.OutOfMemory fine un h = record { source = fine; store = un.tells refl }

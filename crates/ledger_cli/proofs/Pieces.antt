@@ -1,6 +1,6 @@
 -- What was written so far, and the part of the rest that a call took.
 use Rattle.std.proofs.Common.{◌≡◌, ℕ, ◌+◌, ◌-◌, ◌≤◌, List, [], ◌∷◌, ◌++◌, length, length-append, take, drop, sym, subst, ◌∙◌, arith, append_assoc, Option, Result, Ok, Err}
-use Rattle.std.specs.Prelude.{OnErr}
+use Rattle.std.specs.Prelude.{OnErr, OnOk}
 use Rattle.std.proofs.lemmas.Grind.{common_steps}
 use Rattle.std.proofs.lemmas.List.{take-append-le}
 use Rattle.std.proofs.Math.Seq.{take-add, take-append-add}
@@ -43,6 +43,10 @@ breaks_before a b p q off = (
 pub on_err : {A E Q : Type 0} (r : Result A E) → Q → OnErr r Q
 on_err (Ok x) q = tt
 on_err (Err e) q = q
+
+pub on_ok : {A E Q : Type 0} (r : Result A E) → Q → OnOk r Q
+on_ok (Ok x) q = q
+on_ok (Err e) q = tt
 
 -- a text, a count, and a bracket with a line feed
 line_of : (front : List ℕ) (count : ℕ) → (front ++ decimal count) ++ (125 ∷ 10 ∷ []) ≡ count_line front count

@@ -181,11 +181,14 @@ reads_input rules source input (Err (stop.BadInput cause.NoSuchRules)) read fine
     (record { input = input; read = read; judged_is = is }, fine)
 reads_input rules source input (Err (stop.BadInput (cause.Misspelt fault))) read fine is runs =
     (record { input = input; read = read; judged_is = is }, fine)
+reads_input rules source input (Err (stop.BadInput (cause.NotARecord at))) read fine is runs = absurd is
+reads_input rules source input (Err (stop.BadInput (cause.RecordDiffers at sequence))) read fine is runs = absurd is
 reads_input rules source input (Err (stop.NoSuch why)) read fine is runs = absurd is
 reads_input rules source input (Err (stop.Damaged sequence kind)) read fine is runs = absurd is
 reads_input rules source input (Err stop.SourceFailed) read fine is runs = absurd is
 reads_input rules source input (Err stop.StoreFailed) read fine is runs = absurd is
 reads_input rules source input (Err (stop.NotEmpty blocks)) read fine is runs = absurd is
+reads_input rules source input (Err (stop.BadRange from to)) read fine is runs = absurd is
 reads_input rules source input (Err (stop.NotAccepted fault)) read fine is runs = absurd is
 reads_input rules source input (Err stop.NotPublished) read fine is runs = absurd is
 reads_input rules source input (Err stop.OutOfMemory) read fine is runs = fine
@@ -202,11 +205,14 @@ unread_input rules source (stop.BadInput (cause.Faulty fault)) is long = let bad
 unread_input rules source (stop.BadInput cause.BadRules) is long = let bad : ⊥ = cc in absurd bad
 unread_input rules source (stop.BadInput cause.NoSuchRules) is long = let bad : ⊥ = cc in absurd bad
 unread_input rules source (stop.BadInput (cause.Misspelt fault)) is long = let bad : ⊥ = cc in absurd bad
+unread_input rules source (stop.BadInput (cause.NotARecord at)) is long = let bad : ⊥ = cc in absurd bad
+unread_input rules source (stop.BadInput (cause.RecordDiffers at sequence)) is long = let bad : ⊥ = cc in absurd bad
 unread_input rules source (stop.NoSuch why) is long = absurd is
 unread_input rules source (stop.Damaged sequence kind) is long = absurd is
 unread_input rules source stop.SourceFailed is long = is
 unread_input rules source stop.StoreFailed is long = absurd is
 unread_input rules source (stop.NotEmpty blocks) is long = absurd is
+unread_input rules source (stop.BadRange from to) is long = absurd is
 unread_input rules source (stop.NotAccepted fault) is long = absurd is
 unread_input rules source stop.NotPublished is long = absurd is
 unread_input rules source stop.OutOfMemory is long = is

@@ -67,11 +67,14 @@ fault_under rules (Ok script) (stop.BadInput (cause.Faulty fault)) is = let bad 
 fault_under rules (Ok script) (stop.BadInput cause.BadRules) is = let bad : ⊥ = cc in absurd bad
 fault_under rules (Ok script) (stop.BadInput cause.NoSuchRules) is = let bad : ⊥ = cc in absurd bad
 fault_under rules (Ok script) (stop.BadInput (cause.Misspelt fault)) is = let bad : ⊥ = cc in absurd bad
+fault_under rules (Ok script) (stop.BadInput (cause.NotARecord at)) is = absurd is
+fault_under rules (Ok script) (stop.BadInput (cause.RecordDiffers at sequence)) is = absurd is
 fault_under rules (Ok script) (stop.NoSuch why) is = is
 fault_under rules (Ok script) (stop.Damaged sequence kind) is = is
 fault_under rules (Ok script) stop.SourceFailed is = is
 fault_under rules (Ok script) stop.StoreFailed is = is
 fault_under rules (Ok script) (stop.NotEmpty blocks) is = is
+fault_under rules (Ok script) (stop.BadRange from to) is = is
 fault_under rules (Ok script) (stop.NotAccepted fault) is = is
 fault_under rules (Ok script) stop.NotPublished is = is
 fault_under rules (Ok script) stop.OutOfMemory is = is

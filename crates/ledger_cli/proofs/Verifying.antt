@@ -14,7 +14,7 @@ use Rattle.laws_history.specs.Calls.{Span}
 use Rattle.laws_history.specs.Streams.{Taken, WasRead}
 use Rattle.cli_model.specs.Bundles.{IsNotAccepted}
 use Rattle.cli_model.specs.Calls.{Outside}
-use Rattle.cli_model.specs.Inputs.{IsFine, longest}
+use Rattle.cli_model.specs.Inputs.{IsFine, deepest, longest}
 use Rattle.ledger_cli.specs.declared.lines.BadInput.{BadInput}
 use Rattle.ledger_cli.specs.declared.lines.BadInput.TheVariants as cause
 use Rattle.ledger_cli.specs.declared.command_fault.CommandFault.{CommandFault}
@@ -78,26 +78,31 @@ unread_verifies source (stop.BadInput (cause.Faulty fault)) h long = cc
 unread_verifies source (stop.BadInput cause.BadRules) h long = cc
 unread_verifies source (stop.BadInput cause.NoSuchRules) h long = cc
 unread_verifies source (stop.BadInput (cause.Misspelt fault)) h long = cc
+unread_verifies source (stop.BadInput (cause.NotARecord at)) h long = cc
+unread_verifies source (stop.BadInput (cause.RecordDiffers at sequence)) h long = cc
 unread_verifies source (stop.NoSuch why) h long = absurd h
 unread_verifies source (stop.Damaged sequence kind) h long = absurd h
 unread_verifies source stop.SourceFailed h long = h
 unread_verifies source stop.StoreFailed h long = absurd h
 unread_verifies source (stop.NotEmpty blocks) h long = absurd h
+unread_verifies source (stop.BadRange from to) h long = absurd h
 unread_verifies source (stop.NotAccepted fault) h long = absurd h
 unread_verifies source stop.NotPublished h long = absurd h
 unread_verifies source stop.OutOfMemory h long = h
 
 module _ (source : Span SourceTold) (input : List ℕ) (read : WasRead source input) (short : length input ≤ longest)
     (fine : IsFine source) where
-  faulty_verifies : (why : BadInput) → IsFaulty why input → Verifies (Err (stop.BadInput why)) source
+  faulty_verifies : (why : BadInput) → IsFaulty deepest why input → Verifies (Err (stop.BadInput why)) source
   faulty_verifies cause.TooLong h = absurd h
   faulty_verifies (cause.Faulty fault) h = (record { input = input; read = read; short = short; text_of = h }, fine)
   faulty_verifies cause.BadRules h = absurd h
   faulty_verifies cause.NoSuchRules h = absurd h
   faulty_verifies (cause.Misspelt fault) h = absurd h
+  faulty_verifies (cause.NotARecord at) h = absurd h
+  faulty_verifies (cause.RecordDiffers at sequence) h = absurd h
 
   -- it is no text of values
-  pub no_values_verifies : (why : CommandFault) → ReadsValues (Err why) input → Verifies (Err why) source
+  pub no_values_verifies : (why : CommandFault) → ReadsValues deepest (Err why) input → Verifies (Err why) source
   no_values_verifies stop.BadWords h = absurd h
   no_values_verifies (stop.BadInput why) h = faulty_verifies why h
   no_values_verifies (stop.NoSuch why) h = absurd h
@@ -105,11 +110,12 @@ module _ (source : Span SourceTold) (input : List ℕ) (read : WasRead source in
   no_values_verifies stop.SourceFailed h = absurd h
   no_values_verifies stop.StoreFailed h = absurd h
   no_values_verifies (stop.NotEmpty blocks) h = absurd h
+  no_values_verifies (stop.BadRange from to) h = absurd h
   no_values_verifies (stop.NotAccepted fault) h = absurd h
   no_values_verifies stop.NotPublished h = absurd h
   no_values_verifies stop.OutOfMemory h = fine
 
-  module _ (values : List Value) (reads : ReadsValues (Ok values) input) where
+  module _ (values : List Value) (reads : ReadsValues deepest (Ok values) input) where
     -- it is one
     pub values_verify : (came : Result (List ℕ) CommandFault) → Decides came values → Verifies came source
     values_verify (Ok text) h = (
@@ -128,6 +134,7 @@ module _ (source : Span SourceTold) (input : List ℕ) (read : WasRead source in
     values_verify (Err stop.SourceFailed) h = absurd h
     values_verify (Err stop.StoreFailed) h = absurd h
     values_verify (Err (stop.NotEmpty blocks)) h = absurd h
+    values_verify (Err (stop.BadRange from to)) h = absurd h
     values_verify (Err (stop.NotAccepted why)) h = (
       record {
         values = values;
@@ -159,6 +166,7 @@ works_verify same x (Err stop.SourceFailed) un h =
     (inr (inl (refl, record { failed = h; line_is = refl })), inl (ap (λ (t : StoreTold). t.faults) un))
 works_verify same x (Err stop.StoreFailed) un h = absurd h
 works_verify same x (Err (stop.NotEmpty blocks)) un h = absurd h
+works_verify same x (Err (stop.BadRange from to)) un h = absurd h
 works_verify same x (Err (stop.NotAccepted why)) un h = (
   inr (inr (refl, record { values = h.0.values; has = h.0.has; why = why; is = h.0.is; line_is = refl })),
   verified_told x un h.1,

@@ -4,10 +4,10 @@ use Rattle.std.specs.Prelude.{◌||◌, option_and_then, option_map, codes, nat_
 use Rattle.std.specs.Str.{bytes_eq}
 use Rattle.std.proofs.lemmas.Bool.{eqb-false}
 use Rattle.clap.specs.Words.{Row, Text, first_of}
-use Rattle.cli_args.specs.Forms.{audit_app, compact_app, digest_app, export_app, extract_app, found_in, make_app, prove_app, run_app, verify_app}
+use Rattle.cli_args.specs.Forms.{audit_app, compact_app, digest_app, export_app, extract_app, found_in, make_app, prove_app, replay_app, run_app, stream_app, verify_app}
 use Rattle.cli_args.specs.Numbers.{from_one_to, number_of}
 use Rattle.cli_args.specs.Times.{time_of}
-use Rattle.cli_args.specs.Words.{asked, at_will, count_at, digest_of, ids_of, make_of, number_at, prove_of, run_of, tip_of, workers_in, workers_of}
+use Rattle.cli_args.specs.Words.{asked, at_will, count_at, digest_of, from_of, ids_of, make_of, number_at, prove_of, run_of, stream_of, tip_of, workers_in, workers_of}
 use Rattle.cli_args.specs.declared.Command.{Command}
 use Rattle.cli_args.specs.declared.Command.TheVariants as command
 use Rattle.ledger_cli.specs.Workers.{HasWorkers}
@@ -62,6 +62,11 @@ prove_any rows =
     then_any _ (number_at 64 (codes "sequence") rows)
     (λ sequence _. then_any _ (number_at 32 (codes "index") rows) (λ index _. map_any _ (tip_of rows) (λ tip _. tt)))
 
+stream_any : (rows : List Row) → IfAny (stream_of rows)
+stream_any rows =
+    then_any _ (from_of rows)
+    (λ from _. map_any _ (at_will (number_of 64) (first_of (codes "to") rows)) (λ to _. tt))
+
 make_any : (rows : List Row) → IfAny (make_of rows)
 make_any rows =
     then_any _ (number_at 64 (codes "seed") rows)
@@ -84,7 +89,9 @@ asked_any (word ∷ rest) =
     (if_any (bytes_eq word (codes "audit")) _ _ (map_any _ (found_in audit_app rest) (λ rows _. tt))
     (if_any (bytes_eq word (codes "compact")) _ _ (map_any _ (found_in compact_app rest) (λ rows _. tt))
     (if_any (bytes_eq word (codes "export")) _ _ (map_any _ (found_in export_app rest) (λ rows _. tt))
-    (if_any (bytes_eq word (codes "make")) _ None (then_any make_of (found_in make_app rest) (λ rows _. make_any rows)) tt))))))))
+    (if_any (bytes_eq word (codes "stream")) _ _ (then_any stream_of (found_in stream_app rest) (λ rows _. stream_any rows))
+    (if_any (bytes_eq word (codes "replay")) _ _ (map_any _ (found_in replay_app rest) (λ rows _. tt))
+    (if_any (bytes_eq word (codes "make")) _ None (then_any make_of (found_in make_app rest) (λ rows _. make_any rows)) tt))))))))))
 
 pub has_workers : (words : List Text) (c : Command) → asked words ≡ Some c → HasWorkers c
 has_workers words c is = subst IfAny is (asked_any words)

@@ -7,7 +7,7 @@ use Rattle.proof_verify.specs.declared.ProofFault.{ProofFault}
 use Rattle.proof_verify.specs.declared.ProofFault.TheVariants as fault
 use Rattle.laws_history.specs.Calls.{Span}
 use Rattle.cli_model.specs.Bundles.{IsAccepted, IsNotAccepted}
-use Rattle.cli_model.specs.Inputs.{HasValues, IsFine, IsNoText, SourceFailed, deepest}
+use Rattle.cli_model.specs.Inputs.{HasValues, IsFine, IsNoText, SourceFailed}
 use Rattle.cli_model.specs.Outputs.{verified_text}
 use Rattle.ledger_cli.specs.Judgements.{cause_of}
 use Rattle.ledger_cli.specs.declared.lines.BadInput.{BadInput}
@@ -16,15 +16,16 @@ use Rattle.ledger_cli.specs.declared.command_fault.CommandFault.{CommandFault}
 use Rattle.ledger_cli.specs.declared.command_fault.CommandFault.TheVariants as stop
 
 -- the input is no text, by this fault, or memory ran out
-abbrev pub IsFaulty : BadInput → List ℕ → Type 0
-IsFaulty (cause.Faulty fault) input = read_text deepest input ≡ Err fault
-IsFaulty _ input = ⊥
+abbrev pub IsFaulty : ℕ → BadInput → List ℕ → Type 0
+IsFaulty depth (cause.Faulty fault) input = read_text depth input ≡ Err fault
+IsFaulty depth _ input = ⊥
 
-abbrev pub ReadsValues : Result (List Value) CommandFault → List ℕ → Type 0
-ReadsValues (Ok values) input = read_text deepest input ≡ Ok values
-ReadsValues (Err (stop.BadInput why)) input = IsFaulty why input
-ReadsValues (Err stop.OutOfMemory) input = Unit {0}
-ReadsValues (Err _) input = ⊥
+-- it is the text of values that nest at most so deep
+abbrev pub ReadsValues : ℕ → Result (List Value) CommandFault → List ℕ → Type 0
+ReadsValues depth (Ok values) input = read_text depth input ≡ Ok values
+ReadsValues depth (Err (stop.BadInput why)) input = IsFaulty depth why input
+ReadsValues depth (Err stop.OutOfMemory) input = Unit {0}
+ReadsValues depth (Err _) input = ⊥
 
 -- the values are no bundle whose proof is accepted, by this fault, or memory ran out
 abbrev pub IsUnproved : List Value → ProofFault → Type 0
@@ -59,6 +60,7 @@ Verifies (Err (stop.Damaged sequence kind)) source = ⊥
 Verifies (Err stop.SourceFailed) source = SourceFailed source
 Verifies (Err stop.StoreFailed) source = ⊥
 Verifies (Err (stop.NotEmpty blocks)) source = ⊥
+Verifies (Err (stop.BadRange from to)) source = ⊥
 Verifies (Err (stop.NotAccepted why)) source = IsRefused source why × IsFine source
 Verifies (Err stop.NotPublished) source = ⊥
 Verifies (Err stop.OutOfMemory) source = IsFine source

@@ -7,7 +7,7 @@ use Rattle.laws_history.specs.Calls.{Span}
 use Rattle.cli_model.specs.Calls.{Outside}
 use Rattle.cli_model.specs.Claims as top
 use Rattle.cli_model.specs.Inputs.{IsFine}
-use Rattle.cli_model.specs.Lines.{words_line, memory_line, input_line, no_such_line, not_empty_line, damaged_line, faults_line, proof_fault_line, unpublished_line}
+use Rattle.cli_model.specs.Lines.{words_line, memory_line, input_line, no_such_line, not_empty_line, bad_range_line, damaged_line, faults_line, proof_fault_line, unpublished_line}
 use Rattle.cli_model.specs.Top.{Gives, Refuses, TellsStore}
 use Rattle.cli_model.specs.Written.{WritesAll, WritesLine, FailsIn, RunsOutIn}
 use Rattle.ledger_cli.specs.Judgements.{cause_of}
@@ -50,6 +50,8 @@ Works same what (Err stop.StoreFailed) x =
     Refuses same what x top.store_failed (faults_line (codes "5") x.store.after.faults) × IsFine x.source
 Works same what (Err (stop.NotEmpty blocks)) x =
     Refuses same what x top.bad_input (not_empty_line blocks) × IsTold what x
+Works same what (Err (stop.BadRange from to)) x =
+    Refuses same what x top.bad_input (bad_range_line from to) × IsTold what x
 Works same what (Err (stop.NotAccepted fault)) x =
     Refuses same what x top.not_accepted (proof_fault_line fault) × IsTold what x
 Works same what (Err stop.NotPublished) x = Refuses same what x top.not_accepted unpublished_line × IsTold what x
@@ -96,6 +98,8 @@ EndsBy (Err stop.StoreFailed) s source_faults store_faults sink =
     IsOwnLine s status.StoreFailed sink (faults_line (codes "5") store_faults)
 EndsBy (Err (stop.NotEmpty blocks)) s source_faults store_faults sink =
     IsLine s status.BadInput sink (not_empty_line blocks)
+EndsBy (Err (stop.BadRange from to)) s source_faults store_faults sink =
+    IsLine s status.BadInput sink (bad_range_line from to)
 EndsBy (Err (stop.NotAccepted fault)) s source_faults store_faults sink =
     IsLine s status.NotAccepted sink (proof_fault_line fault)
 EndsBy (Err stop.NotPublished) s source_faults store_faults sink = IsOwnLine s status.NotAccepted sink unpublished_line

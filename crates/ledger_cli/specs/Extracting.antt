@@ -35,6 +35,7 @@ IsBundleStop (stop.Damaged sequence kind) source = ⊥
 IsBundleStop stop.SourceFailed source = SourceFailed source
 IsBundleStop stop.StoreFailed source = ⊥
 IsBundleStop (stop.NotEmpty blocks) source = ⊥
+IsBundleStop (stop.BadRange from to) source = ⊥
 IsBundleStop (stop.NotAccepted why) source = HasNoBundle source why × IsFine source
 IsBundleStop stop.NotPublished source = ⊥
 IsBundleStop stop.OutOfMemory source = IsFine source

@@ -14,12 +14,15 @@ use Rattle.ledger_cli.specs.declared.lines.BadInput.TheVariants as cause
 use Rattle.ledger_cli.specs.declared.command_fault.CommandFault.{CommandFault}
 use Rattle.ledger_cli.specs.declared.command_fault.CommandFault.TheVariants as stop
 
-abbrev pub judged_of : held.BadInput → Judged
-judged_of cause.TooLong = too_long
-judged_of (cause.Faulty fault) = faulty fault
-judged_of cause.BadRules = bad_rules
-judged_of cause.NoSuchRules = no_such_rules
-judged_of (cause.Misspelt fault) = misspelt fault
+-- an input that is to be a script is judged so for this cause
+abbrev pub IsJudgedFor : held.BadInput → Judged → Type 0
+IsJudgedFor cause.TooLong judgement = judgement ≡ too_long
+IsJudgedFor (cause.Faulty fault) judgement = judgement ≡ faulty fault
+IsJudgedFor cause.BadRules judgement = judgement ≡ bad_rules
+IsJudgedFor cause.NoSuchRules judgement = judgement ≡ no_such_rules
+IsJudgedFor (cause.Misspelt fault) judgement = judgement ≡ misspelt fault
+IsJudgedFor (cause.NotARecord at) judgement = ⊥
+IsJudgedFor (cause.RecordDiffers at sequence) judgement = ⊥
 
 abbrev pub cause_of : held.BadInput → BadInput
 cause_of cause.TooLong = bad.too_long
@@ -27,6 +30,8 @@ cause_of (cause.Faulty fault) = bad.faulty fault
 cause_of cause.BadRules = bad.bad_rules
 cause_of cause.NoSuchRules = bad.no_such_rules
 cause_of (cause.Misspelt fault) = bad.misspelt fault
+cause_of (cause.NotARecord at) = bad.not_a_record at
+cause_of (cause.RecordDiffers at sequence) = bad.record_differs at sequence
 
 -- the rules of that name that the first value holds, or why there are none
 abbrev pub rules_in_front : List ℕ → List Value → Result (List Rule) RulesAnswer
@@ -37,12 +42,13 @@ rules_in_front name (v ∷ values) = read_rules name v
 abbrev pub JudgesTo : Result (List (List Job)) CommandFault → Judged → Type 0
 JudgesTo (Ok script) judgement = judgement ≡ scripted script
 JudgesTo (Err stop.BadWords) judgement = ⊥
-JudgesTo (Err (stop.BadInput cause)) judgement = judgement ≡ judged_of cause
+JudgesTo (Err (stop.BadInput cause)) judgement = IsJudgedFor cause judgement
 JudgesTo (Err (stop.NoSuch why)) judgement = ⊥
 JudgesTo (Err (stop.Damaged sequence kind)) judgement = ⊥
 JudgesTo (Err stop.SourceFailed) judgement = ⊥
 JudgesTo (Err stop.StoreFailed) judgement = ⊥
 JudgesTo (Err (stop.NotEmpty blocks)) judgement = ⊥
+JudgesTo (Err (stop.BadRange from to)) judgement = ⊥
 JudgesTo (Err (stop.NotAccepted fault)) judgement = ⊥
 JudgesTo (Err stop.NotPublished) judgement = ⊥
 JudgesTo (Err stop.OutOfMemory) judgement = Unit {0}

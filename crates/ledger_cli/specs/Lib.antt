@@ -9,3 +9,6 @@ pub mod Questions
 pub mod Runs
 pub mod Stops
 pub mod Workers
+pub mod Outputs
+pub mod Replaying
+pub mod Streaming

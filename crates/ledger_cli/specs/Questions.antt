@@ -24,6 +24,7 @@ IsUnanswered question store (stop.Damaged sequence kind) = ReadsDamage store seq
 IsUnanswered question store stop.SourceFailed = ⊥
 IsUnanswered question store stop.StoreFailed = HasFailed store
 IsUnanswered question store (stop.NotEmpty blocks) = ⊥
+IsUnanswered question store (stop.BadRange from to) = ⊥
 IsUnanswered question store (stop.NotAccepted fault) = ⊥
 IsUnanswered question store stop.NotPublished = ⊥
 IsUnanswered question store stop.OutOfMemory = IsUnfailed store

@@ -16,7 +16,8 @@ pub enum CommandFault {
     BadInput(BadInput),
     /// There is no such digest or proof.
     NoSuch(NoSuch),
-    /// The first damaged line of the journal, counted from 0, and the check that it fails first.
+    /// The journal's line at fault, counted from 0, and the check that it fails first.
+    /// It is the first damaged line, or if there is none, the first with a hash that no redaction asks for.
     Damaged { sequence: u64, kind: Damage },
     /// The source failed.
     SourceFailed,
@@ -24,6 +25,8 @@ pub enum CommandFault {
     StoreFailed,
     /// The journal has `blocks` blocks, but must be empty.
     NotEmpty { blocks: u64 },
+    /// The range of blocks ends before it begins.
+    BadRange { from: u64, to: u64 },
     /// The input is no bundle whose proof is accepted.
     NotAccepted(ProofFault),
     /// The digest of the input isn't that of the journal.

@@ -2,15 +2,18 @@
 ghost use Rattle.std.specs.Prelude.{◌≡◌, Err};
 ghost use Rattle.laws_history.specs.Calls.{span};
 ghost use Rattle.cli_model.specs.Claims as top;
-ghost use Rattle.cli_model.specs.Lines.{damaged_line, input_line, no_such_line, not_empty_line, proof_fault_line, unpublished_line};
-ghost use Rattle.ledger_cli.specs.Ends.{EndsBy, IsLine, IsOutputEnd, IsOwnLine, WritesMemoryLine, count_line, status_of};
+ghost use Rattle.cli_model.specs.Lines.{bad_range_line, damaged_line, input_line, no_such_line, not_empty_line};
+ghost use Rattle.cli_model.specs.Lines.{proof_fault_line, unpublished_line};
+ghost use Rattle.ledger_cli.specs.Ends.{EndsBy, IsLine, IsOutputEnd, IsOwnLine, WritesMemoryLine, count_line};
+ghost use Rattle.ledger_cli.specs.Ends.{status_of};
 ghost use Rattle.ledger_cli.specs.Judgements.{cause_of};
 
 use crate::command_fault::CommandFault;
 use crate::faults::proof_fault_line;
-use crate::lines::{BadInput, damaged_line, input_line, no_such_line, not_empty_line};
-use crate::output::{write_all, write_count};
-use containers::Bytes;
+use crate::lines::{
+    BadInput, bad_range_line, damaged_line, input_line, no_such_line, not_empty_line,
+};
+use crate::output::{Output, write_all, write_count};
 use ledger_model::Damage;
 use outside::{JournalStore, OutFault, Sink, Source};
 use proof_issue::NoSuch;
@@ -41,7 +44,7 @@ pub fn number_of(status: Status) -> u8
 /// Ends with the output, or with the error line of why there is none.
 pub fn end<So: Source, Si: Sink, St: JournalStore>(
     alloc: Global,
-    value: Result<Bytes, CommandFault>,
+    value: Result<Output, CommandFault>,
     source: &So,
     sink: &mut Si,
     store: &St,
@@ -50,7 +53,7 @@ pub fn end<So: Source, Si: Sink, St: JournalStore>(
         (span (Si.told sink.old) (Si.told sink.new)) }
 {
     match value {
-        Ok(bytes) => end_by_output(sink, bytes),
+        Ok(output) => end_by_output(alloc, sink, output),
         Err(stop) => end_by_stop(alloc, stop, source, sink, store),
     }
 }
@@ -71,6 +74,7 @@ fn end_by_stop<So: Source, Si: Sink, St: JournalStore>(
         CommandFault::BadInput(cause) => end_by_input(alloc, sink, cause),
         CommandFault::NoSuch(refused) => end_by_none(alloc, sink, refused),
         CommandFault::NotEmpty { blocks } => end_by_blocks(alloc, sink, blocks),
+        CommandFault::BadRange { from, to } => end_by_range(alloc, sink, from, to),
         CommandFault::NotAccepted(fault) => end_by_fault(alloc, sink, &fault),
         CommandFault::NotPublished => end_unpublished(sink),
         CommandFault::Damaged { sequence, kind } => end_by_damage(alloc, sink, sequence, kind),
@@ -95,10 +99,10 @@ fn end_by_stop<So: Source, Si: Sink, St: JournalStore>(
 }
 
 /// Ends with the output.
-fn end_by_output<Si: Sink>(sink: &mut Si, bytes: Bytes) -> Status
-    ensures { IsOutputEnd result (span (Si.told sink.old) (Si.told sink.new)) bytes }
+fn end_by_output<Si: Sink>(alloc: Global, sink: &mut Si, output: Output) -> Status
+    ensures { IsOutputEnd result (span (Si.told sink.old) (Si.told sink.new)) output }
 {
-    match write_all(sink, bytes.as_slice()) {
+    match output.write(alloc, sink) {
         Ok(()) => Status::Done,
         Err(OutFault::Failed) => Status::SinkFailed,
         Err(OutFault::OutOfMemory) => Status::OutOfMemory,
@@ -162,6 +166,16 @@ fn end_by_blocks<Si: Sink>(alloc: Global, sink: &mut Si, blocks: u64) -> Status
     ensures { IsLine result Status.BadInput (span (Si.told sink.old) (Si.told sink.new)) (not_empty_line blocks) }
 {
     match not_empty_line(alloc, blocks) {
+        Ok(line) => end_by_line(sink, line.as_str(), Status::BadInput),
+        Err(_) => end_without_memory(sink),
+    }
+}
+
+/// Ends with the error line of a range of blocks that ends before it begins.
+fn end_by_range<Si: Sink>(alloc: Global, sink: &mut Si, from: u64, to: u64) -> Status
+    ensures { IsLine result Status.BadInput (span (Si.told sink.old) (Si.told sink.new)) (bad_range_line from to) }
+{
+    match bad_range_line(alloc, from, to) {
         Ok(line) => end_by_line(sink, line.as_str(), Status::BadInput),
         Err(_) => end_without_memory(sink),
     }

@@ -7,8 +7,8 @@ ghost use Rattle.ledger_cli.specs.Stops.{IsAnswerStop};
 
 use crate::command_fault::CommandFault;
 use crate::compact::compacted;
+use crate::output::Output;
 use block_form::to_ion;
-use containers::Bytes;
 use ion_binary_out::{ValueSource, write_each};
 use ion_values::{OutOfMemory, Value};
 use journal_reader::Journal;
@@ -35,7 +35,7 @@ impl<'a> ValueSource for BlockValues<'a> {
 
 /// The blocks without what they redact, as a stream of values in Ion's binary encoding. No more than one block's value
 /// is held at a time.
-pub fn export_bytes(alloc: Global, journal: &Journal) -> Result<Bytes, CommandFault>
+pub fn export_bytes(alloc: Global, journal: &Journal) -> Result<Output, CommandFault>
     ensures exported { IfOk result (λ bytes. IsExport journal.now.blocks bytes) }
     ensures stop { IfErr result (λ stop. IsAnswerStop asks.Export journal.now.blocks stop) }
 {
@@ -44,5 +44,5 @@ pub fn export_bytes(alloc: Global, journal: &Journal) -> Result<Bytes, CommandFa
         blocks: blocks.as_slice(),
     };
     let bytes = write_each(alloc, &values)?;
-    Ok(bytes)
+    Ok(Output::of_bytes(bytes))
 }

@@ -13,7 +13,8 @@ ghost use Rattle.ledger_cli.specs.Extracting.{ExtractsFrom, ExtractsIn, ReadsBun
 
 use crate::command_fault::CommandFault;
 use crate::input::read_all;
-use crate::output::{bytes_of, put_line};
+use crate::judging::DEEPEST;
+use crate::output::{Output, put_line};
 use crate::returned::{Resources, Returned};
 use crate::verify::read_values;
 use containers::{Bytes, Sequence};
@@ -53,7 +54,7 @@ fn read_input<So: Source>(alloc: Global, source: &mut So) -> Result<Bundle, Comm
     ensures few { TakesFew (span (So.told source.old) (So.told source.new)) }
 {
     let input = read_all(alloc, source)?;
-    let values = read_values(alloc, &input)?;
+    let values = read_values(alloc, DEEPEST, &input)?;
     bundle_in(alloc, &values)
 }
 
@@ -102,7 +103,7 @@ fn extracted_text(alloc: Global, what: Extracted) -> Result<Text, OutOfMemory>
 }
 
 /// What the bundle comes to in these blocks.
-fn extract_from(alloc: Global, blocks: &Blocks, bundle: &Bundle) -> Result<Bytes, CommandFault>
+fn extract_from(alloc: Global, blocks: &Blocks, bundle: &Bundle) -> Result<Output, CommandFault>
     requires { Undamaged blocks.now.list }
     ensures { ExtractsFrom result bundle.now blocks.now.list }
 {
@@ -119,7 +120,7 @@ fn extract_from(alloc: Global, blocks: &Blocks, bundle: &Bundle) -> Result<Bytes
         &bundle.proof,
     )?;
     let text = extracted_text(alloc, what)?;
-    Ok(bytes_of(text))
+    Ok(Output::of_text(text))
 }
 
 /// What the bundle comes to in the journal that the store keeps. No byte of the store changes.
@@ -127,7 +128,7 @@ fn extract_stored<S: JournalStore>(
     alloc: Global,
     store: &mut S,
     bundle: &Bundle,
-) -> Result<Bytes, CommandFault>
+) -> Result<Output, CommandFault>
     ensures { ExtractsIn result bundle.now (span (S.told store.old) (S.told store.new)) }
 {
     match Journal::read(alloc, store) {
@@ -143,7 +144,7 @@ pub fn extract_input<So: Source, St: JournalStore, C: Clock>(
     alloc: Global,
     source: &mut So,
     resources: Resources<St, C>,
-) -> Returned<Result<Bytes, CommandFault>, St, C>
+) -> Returned<Result<Output, CommandFault>, St, C>
     ensures works { Works (result.store ≡ resources.store) (Some asked.Extract) result.value
         (outside (span (So.told source.old) (So.told source.new))
         (span (St.told resources.store) (St.told result.store))

@@ -17,11 +17,14 @@ mod named;
 mod output;
 mod prove;
 mod question;
+mod replay;
 mod returned;
 mod run;
+mod stream;
 mod times;
 mod top;
 mod verify;
 mod work;
+mod writing;
 
 pub use top::{Ended, ledger_top};

@@ -1,7 +1,9 @@
 //! The lines that are written in place of a report.
 ghost use Rattle.std.specs.Prelude.{◌≡◌, ◌++◌, IfOk, OnOk};
 ghost use Rattle.std.specs.Fmt.{decimal};
-ghost use Rattle.cli_model.specs.Lines.{damage_name, damaged_line, fault_text, faulty, input_line, kind_name, no_such_line, no_such_text, not_empty_line, script_fault_text, script_kind_name};
+ghost use Rattle.cli_model.specs.Lines.{bad_range_line, damage_name, damaged_line, fault_text, faulty, input_line};
+ghost use Rattle.cli_model.specs.Lines.{kind_name, no_such_line, no_such_text, not_empty_line, script_fault_text};
+ghost use Rattle.cli_model.specs.Lines.{script_kind_name};
 ghost use Rattle.ledger_cli.specs.Judgements.{cause_of};
 
 use crate::named::Named;
@@ -23,6 +25,10 @@ pub enum BadInput {
     NoSuchRules,
     /// Its values spell no script.
     Misspelt(ScriptFault),
+    /// The value of this number, counted from 0, is no record.
+    NotARecord { at: u64 },
+    /// It is a record that differs from the one of its place among those before it, for the block of a number.
+    RecordDiffers { at: u64, sequence: u64 },
 }
 
 /// The error line of an input that is refused.
@@ -46,6 +52,26 @@ fn push_cause(alloc: Global, line: &mut Text, cause: BadInput) -> Result<(), Out
         BadInput::BadRules => line.push_str("kind:BadRules")?,
         BadInput::NoSuchRules => line.push_str("kind:NoSuchRules")?,
         BadInput::Misspelt(fault) => push_script_fault(alloc, line, fault)?,
+        BadInput::NotARecord { at } => push_number(
+            alloc,
+            line,
+            Named {
+                name: "kind:NotARecord,at:",
+                value: at,
+            },
+        )?,
+        BadInput::RecordDiffers { at, sequence } => push_two(
+            alloc,
+            line,
+            Named {
+                name: "kind:RecordDiffers,at:",
+                value: at,
+            },
+            Named {
+                name: ",sequence:",
+                value: sequence,
+            },
+        )?,
     }
     Ok(())
 }
@@ -178,6 +204,38 @@ fn push_no_such(alloc: Global, line: &mut Text, refused: NoSuch) -> Result<(), O
         )?,
         NoSuch::OutOfMemory => line.push_str("kind:OutOfMemory")?,
     }
+    Ok(())
+}
+
+/// The error line of a range of blocks that ends before it begins.
+pub fn bad_range_line(alloc: Global, from: u64, to: u64) -> Result<Text, OutOfMemory>
+    ensures { IfOk result (λ line. line ≡ bad_range_line from to) }
+{
+    let mut line = Text::new(alloc);
+    line.push_str("{status:2,fault:{")?;
+    push_two(
+        alloc,
+        &mut line,
+        Named {
+            name: "kind:BadRange,from:",
+            value: from,
+        },
+        Named {
+            name: ",to:",
+            value: to,
+        },
+    )?;
+    line.push_str("}}\n")?;
+    Ok(line)
+}
+
+/// Writes a number after its name.
+fn push_number(alloc: Global, line: &mut Text, first: Named<u64>) -> Result<(), OutOfMemory>
+    ensures { OnOk result (line.new ≡ line.old ++ (first.name.now ++ decimal first.value)) }
+{
+    let number = first.value.to_string(alloc)?;
+    line.push_str(first.name)?;
+    line.push_str(number.as_str())?;
     Ok(())
 }
 

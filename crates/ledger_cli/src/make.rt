@@ -10,11 +10,10 @@ ghost use Rattle.ledger_cli.specs.Runs.{HasLoaded};
 
 use crate::command_fault::CommandFault;
 use crate::journal::unloaded;
-use crate::output::bytes_of;
+use crate::output::Output;
 use crate::returned::{Host, Resources, Returned};
 use crate::run::{Settled, settle};
 use cli_args::MakeOptions;
-use containers::Bytes;
 use id_seed::from_seed;
 use ion_values::OutOfMemory;
 use journal_text::written_on_one_line;
@@ -81,13 +80,13 @@ fn summed_up(
     alloc: Global,
     blocks: &Blocks,
     value: Result<Outcomes, CommandFault>,
-) -> Result<Bytes, CommandFault>
+) -> Result<Output, CommandFault>
     ensures { SumsUp blocks.now.list value result }
 {
     match value {
         Ok(_outcomes) => {
             let totals = summary(alloc, blocks.as_slice())?;
-            Ok(bytes_of(summary_text(alloc, &totals)?))
+            Ok(Output::of_text(summary_text(alloc, &totals)?))
         }
         Err(stop) => Err(stop),
     }
@@ -100,7 +99,7 @@ fn make_all<S: JournalStore + Send, C: Clock + Send, G: Gate + Sync, R: Threads 
     options: MakeOptions,
     workload: &Workload,
     tail: Tail<S, C>,
-) -> Returned<Result<Bytes, CommandFault>, S, C>
+) -> Returned<Result<Output, CommandFault>, S, C>
     requires some { 0 < options.workers }
     requires of { IsWorkload options workload.now }
     ensures { (before : StoreTold) → HasLoaded S.told (mask_of options.seed) before tail → tail.standing.blocks ≡ []
@@ -130,7 +129,7 @@ fn make_if_empty<S: JournalStore + Send, C: Clock + Send, G: Gate + Sync, R: Thr
     options: MakeOptions,
     workload: &Workload,
     tail: Tail<S, C>,
-) -> Returned<Result<Bytes, CommandFault>, S, C>
+) -> Returned<Result<Output, CommandFault>, S, C>
     requires some { 0 < options.workers }
     requires of { IsWorkload options workload.now }
     ensures { (before : StoreTold) → HasLoaded S.told (mask_of options.seed) before tail
@@ -159,7 +158,7 @@ pub fn make<S: JournalStore + Send, C: Clock + Send, G: Gate + Sync, R: Threads 
     host: &Host<'_, R, G>,
     options: MakeOptions,
     resources: Resources<S, C>,
-) -> Returned<Result<Bytes, CommandFault>, S, C>
+) -> Returned<Result<Output, CommandFault>, S, C>
     requires { 0 < options.workers }
     ensures { Makes options result.value (span (S.told resources.store) (S.told result.store))
         (span (C.answers resources.clock) (C.answers result.clock)) }
@@ -184,7 +183,7 @@ fn make_by<S: JournalStore + Send, C: Clock + Send, G: Gate + Sync, R: Threads +
     options: MakeOptions,
     workload: &Workload,
     resources: Resources<S, C>,
-) -> Returned<Result<Bytes, CommandFault>, S, C>
+) -> Returned<Result<Output, CommandFault>, S, C>
     requires some { 0 < options.workers }
     requires of { IsWorkload options workload.now }
     ensures { Makes options result.value (span (S.told resources.store) (S.told result.store))

@@ -9,11 +9,10 @@ use crate::command_fault::CommandFault;
 use crate::compact::compact_text;
 use crate::counts::counts_text;
 use crate::export::export_bytes;
-use crate::output::bytes_of;
+use crate::output::Output;
 use crate::prove::{digest_text, proof_text};
 use crate::returned::{Resources, Returned};
 use cli_model::Question;
-use containers::Bytes;
 use journal_reader::Journal;
 use outside::JournalStore;
 use std::alloc::Global;
@@ -23,7 +22,7 @@ pub fn ask<S: JournalStore, C>(
     alloc: Global,
     question: Question,
     resources: Resources<S, C>,
-) -> Returned<Result<Bytes, CommandFault>, S, C>
+) -> Returned<Result<Output, CommandFault>, S, C>
     ensures tells { Tells question result.value (span (S.told resources.store) (S.told result.store)) }
     ensures clock { result.clock ≡ resources.clock }
 {
@@ -41,7 +40,7 @@ fn ask_store<S: JournalStore>(
     alloc: Global,
     question: Question,
     store: &mut S,
-) -> Result<Bytes, CommandFault>
+) -> Result<Output, CommandFault>
     ensures { Tells question result (span (S.told store.old) (S.told store.new)) }
 {
     match Journal::read(alloc, store) {
@@ -54,19 +53,19 @@ fn ask_store<S: JournalStore>(
 }
 
 /// The answer of this journal.
-fn answer_in(alloc: Global, question: Question, journal: &Journal) -> Result<Bytes, CommandFault>
+fn answer_in(alloc: Global, question: Question, journal: &Journal) -> Result<Output, CommandFault>
     ensures answers { IfOk result (λ text. Answers question journal.now.blocks text) }
     ensures stop { IfErr result (λ stop. IsAnswerStop question journal.now.blocks stop) }
 {
     match question {
-        Question::Digest { tip } => Ok(bytes_of(digest_text(alloc, journal, tip)?)),
+        Question::Digest { tip } => Ok(Output::of_text(digest_text(alloc, journal, tip)?)),
         Question::Proof {
             sequence,
             index,
             tip,
-        } => Ok(bytes_of(proof_text(alloc, journal, sequence, index, tip)?)),
-        Question::Counts => Ok(bytes_of(counts_text(alloc, journal.blocks())?)),
-        Question::Compact => Ok(bytes_of(compact_text(alloc, journal)?)),
+        } => Ok(Output::of_text(proof_text(alloc, journal, sequence, index, tip)?)),
+        Question::Counts => Ok(Output::of_text(counts_text(alloc, journal.blocks())?)),
+        Question::Compact => Ok(Output::of_text(compact_text(alloc, journal)?)),
         Question::Export => export_bytes(alloc, journal),
     }
 }

@@ -13,11 +13,10 @@ ghost use Rattle.ledger_cli.specs.Stops.{IsLoadStop};
 
 use crate::command_fault::CommandFault;
 use crate::journal::unloaded;
-use crate::output::bytes_of;
+use crate::output::Output;
 use crate::returned::{Host, Resources, Returned};
 use crate::times::{FixedClock, mask_by, moments_have_times};
 use cli_args::RunOptions;
-use containers::Bytes;
 use journal_text::written_on_one_line;
 use ledger_core::Tail;
 use ledger_model::{Blocks, Outcomes, Script, Session};
@@ -79,11 +78,11 @@ fn reported(
     alloc: Global,
     blocks: &Blocks,
     value: Result<Outcomes, CommandFault>,
-) -> Result<Bytes, CommandFault>
+) -> Result<Output, CommandFault>
     ensures { Reports blocks.now.list value result }
 {
     match value {
-        Ok(outcomes) => Ok(bytes_of(report(alloc, blocks, &outcomes)?)),
+        Ok(outcomes) => Ok(Output::of_text(report(alloc, blocks, &outcomes)?)),
         Err(stop) => Err(stop),
     }
 }
@@ -94,7 +93,7 @@ fn run_on<S: JournalStore + Send, C: Clock + Send, G: Gate + Sync, R: Threads + 
     crew: &Crew<'_, R, G>,
     script: &Script,
     tail: Tail<S, C>,
-) -> Returned<Result<Bytes, CommandFault>, S, C>
+) -> Returned<Result<Output, CommandFault>, S, C>
     requires some { 0 < crew.now.workers }
     requires few { AreNumbered script.now }
     ensures done { (given : ℕ) (before : StoreTold) → HasLoaded S.told given before tail
@@ -130,7 +129,7 @@ fn run_by<S: JournalStore + Send, C: Clock + Send, G: Gate + Sync, R: Threads + 
     script: &Script,
     mask: IdMask,
     resources: Resources<S, C>,
-) -> Returned<Result<Bytes, CommandFault>, S, C>
+) -> Returned<Result<Output, CommandFault>, S, C>
     requires some { 0 < crew.now.workers }
     requires few { AreNumbered script.now }
     ensures done { IfOk result.value (λ text. (terms : Terms) → AreCovered mask.bits
@@ -167,7 +166,7 @@ pub fn run_script<
     script: &Script,
     options: &RunOptions,
     resources: Resources<S, C>,
-) -> Returned<Result<Bytes, CommandFault>, S, C>
+) -> Returned<Result<Output, CommandFault>, S, C>
     requires some { 0 < options.now.workers }
     requires few { AreNumbered script.now }
     ensures done { IfOk result.value (λ text.

@@ -14,13 +14,16 @@ use crate::extract::extract_input;
 use crate::input::read_all;
 use crate::judging::judge;
 use crate::make::make;
+use crate::output::Output;
 use crate::question::ask;
+use crate::replay::replay_input;
 use crate::returned::{Host, Resources, Returned};
 use crate::run::run_script;
+use crate::stream::stream_journal;
 use crate::verify::verify_input;
 use cli_args::{Command, RunOptions};
 use cli_model::Question;
-use containers::{Bytes, Text};
+use containers::Text;
 use ledger_model::Script;
 use outside::{Clock, Gate, JournalStore, Source};
 use std::alloc::Global;
@@ -40,7 +43,7 @@ pub fn work<
     command: Command,
     source: &mut So,
     resources: Resources<St, C>,
-) -> Returned<Result<Bytes, CommandFault>, St, C>
+) -> Returned<Result<Output, CommandFault>, St, C>
     requires some { HasWorkers command }
     ensures works { Works (result.store ≡ resources.store) (Some command) result.value
         (outside (span (So.told source.old) (So.told source.new))
@@ -81,6 +84,15 @@ pub fn work<
         Command::Audit => ask(alloc, Question::Counts, resources),
         Command::Compact => ask(alloc, Question::Compact, resources),
         Command::Export => ask(alloc, Question::Export, resources),
+        Command::Stream { from, to } => stream_journal(alloc, from, to, resources),
+        Command::Replay => {
+            let Resources { store, clock } = resources;
+            Returned {
+                value: replay_input(alloc, source),
+                store,
+                clock,
+            }
+        }
         Command::Make(options) => make(alloc, host, options, resources),
     }
 }
@@ -98,7 +110,7 @@ fn run<
     options: RunOptions,
     source: &mut So,
     resources: Resources<St, C>,
-) -> Returned<Result<Bytes, CommandFault>, St, C>
+) -> Returned<Result<Output, CommandFault>, St, C>
     requires { 0 < options.workers }
     ensures works { Works (result.store ≡ resources.store) (Some (asked.Run options)) result.value
         (outside (span (So.told source.old) (So.told source.new))

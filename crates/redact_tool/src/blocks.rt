@@ -13,8 +13,8 @@ use ion_values::OutOfMemory;
 use ledger_model::{Block, Blocks};
 use std::alloc::Global;
 
-/// The block, with its statements' hash in their place or not.
-fn compacted_block(
+/// The block without what is redacted, with its statements' hash in their place or not.
+pub fn compacted_block(
     alloc: Global,
     redactions: &Redactions,
     hides: bool,

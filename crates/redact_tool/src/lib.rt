@@ -6,6 +6,6 @@ mod blocks;
 mod compacting;
 mod redactions;
 
-pub use blocks::compact;
+pub use blocks::{compact, compacted_block};
 pub use compacting::shown_revision;
-pub use redactions::Redactions;
+pub use redactions::{Redactions, front};

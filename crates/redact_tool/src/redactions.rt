@@ -103,7 +103,7 @@ fn further(front: usize, next: usize, block: &Block) -> usize
 }
 
 /// The number of blocks up to the last that redacts anything, with it.
-pub(crate) fn front(blocks: &[Block]) -> usize
+pub fn front(blocks: &[Block]) -> usize
     ensures { result ≡ redacting_front blocks.now }
 {
     let mut front = 0;

@@ -34,6 +34,8 @@ mod runs;
 #[cfg(test)]
 mod selects;
 #[cfg(test)]
+mod streamed;
+#[cfg(test)]
 mod texts;
 #[cfg(test)]
 mod verdicts;

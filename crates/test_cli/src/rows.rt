@@ -18,6 +18,7 @@ use crate::redacted::{COMPACTED, REDACTED};
 use crate::ruled::RULED;
 use crate::runs::{LINES, REPORTS, SEEDS};
 use crate::selects::{LIMITS, REFUSED, SELECTS, refused, selected};
+use crate::streamed::{REPLAYED, STREAMED};
 use crate::texts::spelled;
 use crate::verdicts::{CHANGED, NO_BUNDLES, verdict};
 use std::alloc::Global;
@@ -154,6 +155,15 @@ fn rows_of_statements_and_questions(rt: HostRuntime) {
     for rows in [
         REFUSED, LIMITS, SELECTS, QUESTIONS, PROOFS, DAMAGED, CHANGED, NO_BUNDLES,
     ] {
+        for row in rows.lines() {
+            assert!(rt; row_holds(&rt, rt.alloc(), row) == Some(true), "{row}");
+        }
+    }
+}
+
+#[test]
+fn rows_of_streams(rt: HostRuntime) {
+    for rows in [STREAMED, REPLAYED] {
         for row in rows.lines() {
             assert!(rt; row_holds(&rt, rt.alloc(), row) == Some(true), "{row}");
         }

@@ -6,6 +6,7 @@ use crate::redacted::{
 };
 use crate::ruled::{ALL, KEEP};
 use crate::runs::{COMMITTED, FIRST, FOUR_OUTCOMES, RUN, SESSIONS};
+use crate::streamed::{COMPLETED, CREATED, DETAILS, STREAMED_JOURNAL, SUMMARY};
 use crate::verdicts::HONEST;
 use std::alloc::Global;
 use test_fixtures::{ONE_BLOCK, ONE_BUNDLE, THREE_BLOCKS, THREE_BUNDLE, THREE_STATEMENTS};
@@ -52,6 +53,14 @@ fn named(name: &str) -> Option<&'static str> {
         "THREE_PROOF" => Some(THREE_BUNDLE.trim_end()),
         "HONEST" => Some(HONEST),
         "SIX_BLOCKS" => Some(SIX_BLOCKS),
+        "STREAMED_JOURNAL" => Some(STREAMED_JOURNAL),
+        "STREAMED_LINE" => Some(STREAMED_JOURNAL.trim_end()),
+        "CREATED" => Some(CREATED),
+        "FIRST_RECORD" => Some(CREATED.trim_end()),
+        "SUMMARY" => Some(SUMMARY),
+        "DETAILS" => Some(DETAILS),
+        "COMPLETED" => Some(COMPLETED),
+        "LAST" => Some(COMPLETED.trim_end()),
         "LINE_FEED" => Some("\n"),
         _ => None,
     }

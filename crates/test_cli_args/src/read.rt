@@ -94,6 +94,21 @@ fn is_export(alloc: Global, line: &str) -> bool {
     }
 }
 
+/// Whether the words of a line ask for the stream from this block, up to but without that one.
+fn is_stream(alloc: Global, line: &str, wanted: (u64, Option<u64>)) -> bool {
+    match asked(alloc, line) {
+        Some(Ok(Command::Stream { from, to })) => (from, to) == wanted,
+        _ => false,
+    }
+}
+
+fn is_replay(alloc: Global, line: &str) -> bool {
+    match asked(alloc, line) {
+        Some(Ok(Command::Replay)) => true,
+        _ => false,
+    }
+}
+
 fn is_audit(alloc: Global, line: &str) -> bool {
     match asked(alloc, line) {
         Some(Ok(Command::Audit)) => true,
@@ -197,6 +212,23 @@ fn rules_of_run(rt: HostRuntime) {
     }
 }
 
+#[test]
+fn words_of_stream(rt: HostRuntime) {
+    for (line, from, to) in [
+        ("stream", 0, None),
+        ("stream --from 3", 3, None),
+        ("stream --to=7 --from=2", 2, Some(7)),
+        ("stream --from 0 --to 0", 0, Some(0)),
+        (
+            "stream --from 18446744073709551615",
+            18_446_744_073_709_551_615,
+            None,
+        ),
+    ] {
+        assert!(rt; is_stream(rt.alloc(), line, (from, to)), "{line}");
+    }
+}
+
 // Each row is a line, a seed, how many sessions, how many transactions of each, and how many workers.
 #[test]
 fn words_of_make(rt: HostRuntime) {
@@ -281,4 +313,6 @@ fn words_without_values(rt: HostRuntime) {
     assert!(rt; is_compact(rt.alloc(), "compact --"));
     assert!(rt; is_export(rt.alloc(), "export"));
     assert!(rt; is_export(rt.alloc(), "export --"));
+    assert!(rt; is_replay(rt.alloc(), "replay"));
+    assert!(rt; is_replay(rt.alloc(), "replay --"));
 }

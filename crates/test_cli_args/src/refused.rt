@@ -132,7 +132,20 @@ compacts
 Compact
 export 1
 export --tip 1
-Export";
+Export
+stream 1
+stream --from
+stream --from 01
+stream --from -1
+stream --to +1
+stream --to x
+stream --to 18446744073709551616
+stream --from 1 --from 1
+stream --tip 1
+Stream
+replay 1
+replay --from 0
+Replay";
 
 const MAKES: &str = "make
 make --seed 1

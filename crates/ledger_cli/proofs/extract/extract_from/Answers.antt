@@ -11,5 +11,5 @@ returns c =
       verified = (c.faults_are_exact.ensures b.digest b.revision b.proof).sound c.in_ok-what.ensures.refused;
       extracted = c.in_ok-what.what;
       is = c.in_ok-what.ensures.extracted;
-      text_is = c.bytes_of.ensures ∙ c.in_ok-text.ensures;
+      text_is = c.of_text.ensures ∙ c.in_ok-text.ensures;
     }

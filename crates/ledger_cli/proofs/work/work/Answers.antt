@@ -7,6 +7,8 @@ use Rattle.ledger_cli.specs.Ends.{Works}
 use Rattle.ledger_cli.proofs.Answering.{works_digest, works_proof, works_compact, works_counts, works_export}
 use Rattle.ledger_cli.proofs.Ending.{takes_none}
 use Rattle.ledger_cli.proofs.Making.{keeps_made, works_made}
+use Rattle.ledger_cli.proofs.Replaying.{works_replay}
+use Rattle.ledger_cli.proofs.Streaming.{works_stream}
 use Rattle.ledger_cli.proofs.Verifying.{works_verify}
 use Rattle.ledger_cli.proofs.work.work.Goals as goal
 
@@ -137,6 +139,46 @@ returns-in-Verify-clause-keeps g c =
     let answers = g.C.Clock.answers r.clock in
     let x = outside (span (g.So.Source.told c.args.source.now) (g.So.Source.told c.verify_input.new.source)) (span store store) (span answers answers) in
     subst (λ (w : Command). Keeps (r.store ≡ r.store) (Some w) x) (sym c.in-Verify.is) (record { is = refl; told = refl })
+
+pub returns-in-Stream-clause-works : goal.returns-in-Stream-clause-works
+returns-in-Stream-clause-works g c =
+    let k = c.stream_journal in
+    let r = c.args.resources in
+    let source = g.So.Source.told c.args.source.now in
+    let x = outside (span source source) (span (g.St.JournalStore.told r.store) (g.St.JournalStore.told k.result.store))
+    (span (g.C.Clock.answers r.clock) (g.C.Clock.answers k.result.clock)) in
+    subst (λ (w : Command). Works (k.result.store ≡ r.store) (Some w) k.result.value x) (sym c.in-Stream.is)
+    (works_stream (k.result.store ≡ r.store) c.in-Stream.from c.in-Stream.to x refl k.result.value k.ensures.tells)
+
+pub returns-in-Stream-clause-keeps : goal.returns-in-Stream-clause-keeps
+returns-in-Stream-clause-keeps g c =
+    let k = c.stream_journal in
+    let r = c.args.resources in
+    let source = g.So.Source.told c.args.source.now in
+    let x = outside (span source source) (span (g.St.JournalStore.told r.store) (g.St.JournalStore.told k.result.store))
+    (span (g.C.Clock.answers r.clock) (g.C.Clock.answers k.result.clock)) in
+    subst (λ (w : Command). Keeps (k.result.store ≡ r.store) (Some w) x) (sym c.in-Stream.is) (k.ensures.tells.1, refl)
+
+pub returns-in-Stream-clause-few : goal.returns-in-Stream-clause-few
+returns-in-Stream-clause-few g c = takes_none (g.So.Source.told c.args.source.now)
+
+pub returns-in-Replay-clause-works : goal.returns-in-Replay-clause-works
+returns-in-Replay-clause-works g c =
+    let k = c.replay_input.result in
+    let r = c.args.resources in
+    let store = g.St.JournalStore.told r.store in
+    let answers = g.C.Clock.answers r.clock in
+    let x = outside (span (g.So.Source.told c.args.source.now) (g.So.Source.told c.replay_input.new.source)) (span store store) (span answers answers) in
+    subst (λ (w : Command). Works (r.store ≡ r.store) (Some w) k x) (sym c.in-Replay.is)
+    (works_replay (r.store ≡ r.store) x (record { is = refl; told = refl }) k c.replay_input.ensures.replays)
+
+pub returns-in-Replay-clause-keeps : goal.returns-in-Replay-clause-keeps
+returns-in-Replay-clause-keeps g c =
+    let r = c.args.resources in
+    let store = g.St.JournalStore.told r.store in
+    let answers = g.C.Clock.answers r.clock in
+    let x = outside (span (g.So.Source.told c.args.source.now) (g.So.Source.told c.replay_input.new.source)) (span store store) (span answers answers) in
+    subst (λ (w : Command). Keeps (r.store ≡ r.store) (Some w) x) (sym c.in-Replay.is) (record { is = refl; told = refl })
 
 pub returns-in-Make-clause-works : goal.returns-in-Make-clause-works
 returns-in-Make-clause-works g c =

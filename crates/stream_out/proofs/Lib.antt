@@ -1,0 +1,12 @@
+pub mod Ranges
+pub mod Front
+pub mod OfSummaries
+pub mod OfRecords
+pub mod Equals
+pub mod Named
+pub mod Told
+pub mod Among
+pub mod Journals
+pub mod Located
+pub mod Rebuilding
+pub mod Kept

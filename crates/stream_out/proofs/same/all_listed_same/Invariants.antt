@@ -1,0 +1,8 @@
+use Rattle.std.proofs.Common.{◌≡◌, drop, length}
+use Rattle.std.specs.Cmp.Lexicographic.{pointwise}
+use Rattle.stream_out.specs.Same.{same_listed}
+use Rattle.stream_out.proofs.same.all_listed_same.Given as goal
+
+abbrev pub invariant-loop-at : goal.invariant-loop-at
+invariant-loop-at l =
+    record { lengths : length l.a ≡ length l.b; told : pointwise same_listed (drop l.at l.a) (drop l.at l.b) ≡ pointwise same_listed l.a l.b }

@@ -1,0 +1,7 @@
+use Rattle.std.proofs.Common.{◌∙◌, ap}
+use Rattle.ledger_model.specs.Journal.{structure}
+use Rattle.stream_out.proofs.values.table_value.Goals as goal
+
+pub returns : goal.returns
+returns c =
+    c.structure.ensures ∙ ap structure (rw (c.in_ok-put-2.ensures, c.in_ok-put.ensures, c.in_ok-id_value.ensures, c.in_ok-string.ensures, c.new-fields.ensures))

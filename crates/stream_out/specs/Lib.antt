@@ -1,0 +1,6 @@
+pub mod Records
+pub mod ReadRecords
+pub mod Streams
+pub mod Named
+pub mod Same
+pub mod Replays
