@@ -119,8 +119,8 @@ fn hashes_of_told(
     Ok(hashes)
 }
 
-/// The bytes whose hash is that of what a transaction said and did: those of a struct's fields' hashes, in which the hash of
-/// the statements may stand for them.
+/// The bytes whose hash is that of what a transaction did. They are those of a struct's fields' hashes, in which the
+/// hash of the statements may stand for them.
 #[tactic(auto, using(crate::proofs::Hashing::told_same))]
 pub fn info_form(alloc: Global, info: &Info, revisions: &[Revision]) -> Result<Bytes, OutOfMemory>
     ensures { IfOk result (λ form. form ≡ struct_bytes (info_hashes info.now revisions.now)) }

@@ -1,5 +1,5 @@
--- The command `replay`, which writes the blocks that are rebuilt from the records of its input (own): some of them may be
--- lost, repeated or in another order.
+-- The command `replay`, which writes the blocks that are rebuilt from the records of its input (own). Some of them
+-- may be lost, repeated or in another order.
 use Rattle.std.specs.Prelude.{◌≡◌, ◌≢◌, ◌<◌, ◌^◌, ◌⊎◌, ℕ, List, [], ◌∷◌, ◌++◌, length, Some, None}
 use Rattle.ion_values.specs.declared.value.Value.{Value}
 use Rattle.ledger_model.specs.declared.block.Block.{Block}
@@ -75,8 +75,8 @@ pub record IsOtherRecord (sequence : ℕ) (records : List Record) (v : Value) : 
 
 -- ---- the claim
 
--- The input is the text of values of records that agree, and the text is that of the blocks that are rebuilt from them. If
--- they are records of the stream of an undamaged journal, these are its blocks up to the first of which one is lost.
+-- The input is the text of values of records that agree, and the text is that of the blocks that are rebuilt from them.
+-- If they are records of the stream of an undamaged journal, these are its blocks up to the first of which one is lost.
 pub record ReplayGives (x : Outside) (text : List ℕ) : Type 0 where
   pub values : List Value
   pub has : HasValuesWithin deepest_record x.source values

@@ -1,5 +1,5 @@
--- When two values are equal (Ion 1.0, "The Ion data model"), with the order of fields, which the data model leaves open: as
--- equivalent values, with structs compared in order.
+-- When two values are equal (Ion 1.0, "The Ion data model"), with the order of fields, which the data model leaves
+-- open: as equivalent values, with structs compared in order.
 use Rattle.std.specs.Prelude.{◌≡◌, ◌↔◌, ◌&&◌, Bool, true, List, map}
 use Rattle.std.specs.Str.{bytes_eq}
 use Rattle.ion_values.specs.Equivalent as equivalent

@@ -1,6 +1,6 @@
--- What a registry holds of the blocks of a journal so far: their transactions, the active tables by name and by id, the
--- fields with an index, of each document the latest revision, and what is redacted, as the ledger's journal format checks
--- them.
+-- What a registry holds of the blocks of a journal so far: their transactions, the active tables by name and by id,
+-- the fields with an index, of each document the latest revision, and what is redacted, as the ledger's journal
+-- format checks them.
 use Rattle.std.specs.Prelude.{◌≡◌, ℕ, ◌+◌, ◌==◌, ◌&&◌, ◌||◌, not, Bool, true, false, List, [], ◌∷◌, ◌++◌, map, slice_get, is_none, string_bytes}
 use Rattle.std.specs.List.{list_all, list_any}
 use Rattle.std.specs.Option.{option_map, option_map_or}

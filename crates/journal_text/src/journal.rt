@@ -110,9 +110,9 @@ pub(crate) fn check_asked(registry: &Registry, blocks: &[Block]) -> Result<(), J
     }
 }
 
-/// The blocks of a journal's whole lines, and the offset of the rest. No line feed stands in the rest. `Damaged` comes
-/// exactly at the first whole line that fails a check, with the first check that it fails, or if each passes, at the
-/// first block with a hash in place of data or statements that no redaction asks for.
+/// The blocks of a journal's whole lines, and the offset of the rest. No line feed stands in the rest. `Damaged`
+/// comes exactly at the first whole line that fails a check, with that check. If each passes, it comes at the first
+/// block with a hash in place of data or statements that no redaction asks for.
 pub fn read_journal(alloc: Global, bytes: &[u8]) -> Result<(Blocks, u64), JournalFault>
     ensures journal { IfOk result (λ read. IsJournal bytes.now read.0.list (drop read.1 bytes.now)) }
     ensures within { IfOk result (λ read. read.1 ≤ length bytes.now) }

@@ -1,5 +1,5 @@
--- The lengths of serializations (Ion Hash 1.0 specification, "Serialization"), and what equivalent headers agree in (Ion
--- 1.0, "The Ion data model").
+-- The lengths of serializations (Ion Hash 1.0 specification, "Serialization"), and what equivalent headers agree in
+-- (Ion 1.0, "The Ion data model").
 use Rattle.std.specs.Prelude.{ℕ, ◌<◌, ◌≡◌, true, List, [], ◌∷◌, length}
 use Rattle.ion_values.specs.Equivalent.{is_equivalent}
 use Rattle.ion_values.specs.declared.value.Field.{Field}

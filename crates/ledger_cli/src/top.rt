@@ -30,15 +30,15 @@ pub struct Ended<St, C> {
 /// `stream` or `replay`, with the words after it.
 ///
 /// `run` reads a script from the source, runs it on the journal that the store keeps, and writes its report to the
-/// sink; rules stand in front of the script if the words name them. `make` runs a workload that is made from a seed, on
-/// an empty journal, and writes how much it then holds. The workers of both run in threads of their own. Worker w of N
-/// runs the sessions w, w + N and so on, each whole and in order. Each worker calls the gate before it begins, executes
-/// and commits.
-/// `digest`, `prove`, `audit`, `compact`, `export` and `stream` read the journal and write its digest, the proof of a
-/// revision, how much it holds, or its blocks without what they redact, as lines, in Ion's binary encoding, or as a
-/// stream of records; `verify` reads such a proof from the source, and `extract` finds its revision in the journal.
-/// `replay` reads records from the source, and writes the lines of the blocks that are rebuilt from them. These eight
-/// leave the store's bytes as they are, and `verify` and `replay` don't call the store. The clock is asked by `make`, and by `run` if the words give no time or leave out where the ids come from.
+/// sink; rules stand in front of the script if the words name them. `make` runs a workload that is made from a seed,
+/// on an empty journal, and writes how much it then holds. The workers of both run in threads of their own. Worker w
+/// of N runs the sessions w, w + N and so on, each whole and in order. Each worker calls the gate before it begins,
+/// executes and commits. `digest`, `prove`, `audit`, `compact`, `export` and `stream` read the journal and write its
+/// digest, the proof of a revision, how much it holds, or its blocks without what they redact, as lines, in Ion's
+/// binary encoding, or as a stream of records; `verify` reads such a proof from the source, and `extract` finds its
+/// revision in the journal. `replay` reads records from the source, and writes the lines of the blocks that are
+/// rebuilt from them. These eight leave the store's bytes as they are, and `verify` and `replay` don't call the
+/// store. The clock is asked by `make`, and by `run` if the words give no time or leave out where the ids come from.
 pub fn ledger_top<
     R: Threads + Wait + Sync,
     So: Source,

@@ -1,6 +1,6 @@
--- An item of a footprint is a test on the rows of a table's view (the ledger's own rule): a document by its id, a key by
--- the first field of that name of the document's content, and a table always. Finer footprints are only other lists of
--- such items.
+-- An item of a footprint is a test on the rows of a table's view (the ledger's own rule): a document by its id, a key
+-- by the first field of that name of the document's content, and a table always. Finer footprints are only other
+-- lists of such items.
 use Rattle.std.specs.Prelude.{◌==◌, ◌&&◌, Bool, true, false, List, codes, Option, Some, None, if◌then◌else◌}
 use Rattle.std.specs.List.{list_any}
 use Rattle.ion_values.specs.declared.value.Body.TheVariants as body

@@ -93,8 +93,8 @@ module _ {S C : Type 0} (told : S → StoreTold) (o : Opening) where
 
 -- ---- laws
 
--- If the entries are right, and the hashes of the opening's blocks are asked for, what a stop left at any moment of such
--- a stretch recovers to a list of the ledger's own history.
+-- If the entries are right, and the hashes of the opening's blocks are asked for, what a stop left at any moment of
+-- such a stretch recovers to a list of the ledger's own history.
 abbrev pub ImagesRecover : Type 0
 ImagesRecover =
     (o : Opening) (first : List Block) (es : List Entry) (before now : Content) → IsRight o es → AreAsked o.blocks

@@ -123,8 +123,8 @@ typed_of _ = None
 abbrev pub typed_in : Value → Option (List ℕ × Value)
 typed_in v = and_then (fields_in v) typed_of
 
--- a value is read as the record whose value it is, its numbers, texts and bytes being within their types, and as none exactly
--- if no record has it
+-- a value is read as the record whose value it is, its numbers, texts and bytes being within their types, and as none
+-- exactly if no record has it
 abbrev pub IsReadAs : Value → Option Record → Type 0
 IsReadAs v (Some r) = (v ≡ record_value r) × (IsTrue (within v) → IsRecord r)
 IsReadAs v None = (r : Record) → IsRecord r → v ≢ record_value r

@@ -1,5 +1,5 @@
--- The records of a journal stream and their values (Amazon QLDB, "QLDB stream records in Kinesis"): control records, block
--- summary records and revision details records. A record is written as its value and a line feed.
+-- The records of a journal stream and their values (Amazon QLDB, "QLDB stream records in Kinesis"): control records,
+-- block summary records and revision details records. A record is written as its value and a line feed.
 use Rattle.std.specs.Prelude.{◌≡◌, ℕ, ◌&&◌, List, [], ◌∷◌, ◌++◌, map, codes, None, IsTrue}
 use Rattle.ion_values.specs.Within.{within}
 use Rattle.ion_values.specs.declared.time.TimeParts.{TimeParts}
@@ -91,8 +91,8 @@ record_text r = value_text (record_value r) ++ 10 ∷ []
 
 -- ---- which records have a text
 
--- it has no revisions itself, and its block is whole with what stands for them: the lists agree, its value nests at most
--- 256 deep, and each number, id and hash is within its type
+-- it has no revisions itself, and its block is whole with what stands for them: the lists agree, its value nests at
+-- most 256 deep, and each number, id and hash is within its type
 pub record IsSummary (s : Summary) : Type 0 where
   pub empty : s.block.revisions ≡ []
   pub whole : IsWhole (stood_in s)

@@ -1,5 +1,5 @@
--- What a replay makes of the records that it was given (own): it keeps a summary by its number, and details by their number and
--- document; a block is rebuilt once its summary and the details of each revision listed there are kept.
+-- What a replay makes of the records that it was given (own): it keeps a summary by its number, and details by their
+-- number and document; a block is rebuilt once its summary and the details of each revision listed there are kept.
 use Rattle.std.specs.Prelude.{◌≡◌, ◌≢◌, ◌⊎◌, ℕ, ◌+◌, ◌<◌, ◌^◌, ◌==◌, ◌&&◌, Bool, List, [], ◌∷◌, ◌++◌, length, take, drop, slice_get, Option, Some, None, Result, Ok, Err, option_map, if◌then◌else◌}
 use Rattle.std.specs.Ordering.{nat_cmp, ordering_then}
 use Rattle.std.specs.declared.cmp.Ordering.{Ordering}

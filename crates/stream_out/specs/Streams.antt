@@ -1,5 +1,6 @@
--- The stream of a journal (Amazon QLDB, "Streaming journal data"): a created record; for each block its summary and then the details of
--- its revisions in order; a completed record. A record names the table of a revision as it was created.
+-- The stream of a journal (Amazon QLDB, "Streaming journal data"): a created record; for each block its summary and
+-- then the details of its revisions in order; a completed record. A record names the table of a revision as it was
+-- created.
 use Rattle.std.specs.Prelude.{ℕ, ◌-◌, ◌==◌, List, [], ◌∷◌, ◌++◌, map, take, drop, Option, Some, None, if◌then◌else◌}
 use Rattle.std.specs.List.{flat_map}
 use Rattle.std.specs.Option.{unwrap_or}

@@ -319,8 +319,8 @@ fn typed_in(v: &Value) -> Option<(&Text, &Value)>
     Some((kind, payload))
 }
 
-/// The record whose value this is. None comes exactly if no record has this value: the fields stand in the written order,
-/// a summary nests at most 256 deep, and the document of a revision at most 64.
+/// The record whose value this is. None comes exactly if no record has this value: the fields stand in the written
+/// order, a summary nests at most 256 deep, and the document of a revision at most 64.
 pub fn read_record(alloc: Global, v: &Value) -> Result<Option<Record>, OutOfMemory>
     ensures { IfOk result (λ found. spec.IsReadAs v.now found) }
 {

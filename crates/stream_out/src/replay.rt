@@ -48,8 +48,8 @@ impl From<OutOfMemory> for ReplayFault {
     }
 }
 
-/// The blocks of a journal from a number on, rebuilt from records of its stream. Summaries are kept by their numbers, and
-/// details by their numbers and documents.
+/// The blocks of a journal from a number on, rebuilt from records of its stream. Summaries are kept by their numbers,
+/// and details by their numbers and documents.
 #[derive(Drop)]
 pub struct Replay {
     from: u64,
@@ -243,9 +243,9 @@ impl Replay {
         }
     }
 
-    /// Takes in a record of the stream, and rebuilds each block that is then whole. `Below` comes exactly if the record's
-    /// number is below the first one, and `Differs` exactly if what is kept in its place isn't equal; after both nothing
-    /// has changed. After `OutOfMemory` the record may be kept: deliver it again.
+    /// Takes in a record of the stream, and rebuilds each block that is then whole. `Below` comes exactly if the
+    /// record's number is below the first one, and `Differs` exactly if what is kept in its place isn't equal; after
+    /// both nothing has changed. After `OutOfMemory` the record may be kept: deliver it again.
     pub fn deliver(&mut self, alloc: Global, told: Record) -> Result<(), ReplayFault>
         ensures from { self.new.from ≡ self.old.from }
         ensures delivers { (kept : List model.Record) → spec.Holds kept self.old

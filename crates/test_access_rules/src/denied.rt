@@ -1,5 +1,6 @@
 //! What of transactions is denied. A row of a table is a session and its statements, which ` then ` parts, and after
-//! ` is` the number of the statement that is denied, its demand and its rule, or none. The rules stand on a line before.
+//! ` is` the number of the statement that is denied, its demand and its rule, or none. The rules stand on a line
+//! before.
 use crate::judged::put_rule;
 use crate::reading::{rules_of, values};
 use access_rules::denied;

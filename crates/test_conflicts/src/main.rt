@@ -4,11 +4,10 @@
 //! (four_blocks.rt):
 //!
 //! - `later`: the first block that touches one of the items `read`, and the item, of these lines' blocks or, where the
-//!   row has `since`, of those from this number on,
 //! - `statement`: what the statement reads, with the parameters `params`.
 //!
-//! An item is a struct, as a report spells it. `lines` isn't printed. ../../test_journal/vectors/make.py makes the lines
-//! of blocks that are told in steps.
+//! An item is a struct, as a report spells it. `lines` isn't printed. ../../test_journal/vectors/make.py makes the
+//! lines of blocks that are told in steps.
 #![tactic(auto)]
 
 mod conflicts;

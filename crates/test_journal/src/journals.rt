@@ -28,8 +28,8 @@ fn fed(alloc: Global, bytes: &[u8], long: usize) -> Result<(u64, u64), JournalFa
     Ok((blocks.len(), rest))
 }
 
-/// Puts how many blocks a journal holds and the offset of the rest, or its fault. Pieces of one byte and of seven have to give
-/// the same.
+/// Puts how many blocks a journal holds and the offset of the rest, or its fault. Pieces of one byte and of seven
+/// have to give the same.
 pub fn put_journal(alloc: Global, text: &str, out: &mut Text) -> Option<()> {
     let bytes = text.as_bytes();
     let found = read(alloc, bytes);

@@ -1,4 +1,5 @@
-//! Lines of reports. What they say is an outcome, a cause of a refusal, an item of a conflict or a key of an index's value.
+//! Lines of reports. What they say is an outcome, a cause of a refusal, an item of a conflict or a key of an index's
+//! value.
 use containers::{Sequence, Text};
 use ion_values::{Key, Kind};
 use ledger_model::{Blocks, Item, Named, Outcome, ParseKind, PlacedOutcome, Refusal};

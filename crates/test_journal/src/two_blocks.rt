@@ -1,7 +1,8 @@
 //! The lines of two blocks.
 
-/// The first transaction creates the tables `t` and `w` and inserts two documents into `t`. The second one makes an index
-/// on the field `a` of `t`, drops `w`, changes the first document, deletes the second one, and inserts a third one.
+/// The first transaction creates the tables `t` and `w` and inserts two documents into `t`. The second one makes an
+/// index on the field `a` of `t`, drops `w`, changes the first document, deletes the second one, and inserts a third
+/// one.
 pub const TWO_BLOCKS: &str = "{blockAddress:{strandId:\"0000000000000000000000\",sequenceNo:0},\
     transactionId:\"0000000000000000018OWG\",blockTimestamp:2020-01-01T00:00:10.000Z,\
     blockHash:{{ZrizNaA2ll03qbs1mvpGm88J+jQn0qbPOnC6C10egK0=}},\

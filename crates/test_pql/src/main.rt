@@ -12,8 +12,8 @@
 //! - `changed`: the documents that the rows `of` name, changed,
 //! - `deleted`: the ids of the documents that rows name.
 //!
-//! A row of sources is a struct. A source whose value has an annotation is a document, whose id is the annotation's first
-//! byte. A second annotation is its BY name.
+//! A row of sources is a struct. A source whose value has an annotation is a document, whose id is the annotation's
+//! first byte. A second annotation is its BY name.
 #![tactic(auto)]
 
 mod brackets;

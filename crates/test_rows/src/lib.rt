@@ -116,7 +116,8 @@ pub fn named<'a>(row: &'a [Field], name: &str) -> Option<&'a Value> {
     None
 }
 
-/// The text that a value spells: a string, or a list of strings, and of lists of a number and a string that stands so often.
+/// The text that a value spells: a string, or a list of strings, and of lists of a number and a string that stands so
+/// often.
 pub fn spelled(alloc: Global, value: &Value) -> Option<Text> {
     let mut out = Text::new(alloc);
     match &value.body {

@@ -1,5 +1,5 @@
-//! What is rebuilt of records that were lost, repeated or reordered: records of the stream of three blocks, of which the
-//! last has one revision.
+//! What is rebuilt of records that were lost, repeated or reordered: records of the stream of three blocks, of which
+//! the last has one revision.
 use containers::Text;
 use journal_text::{line, read_journal};
 use ledger_model::Blocks;
@@ -62,7 +62,7 @@ fn lines_of(alloc: Global, blocks: &Blocks) -> Option<Text> {
     Some(text)
 }
 
-/// The lines of so many blocks of the journal from one on.
+/// The lines of `count` blocks of the journal, from number `from` on.
 fn wanted(alloc: Global, from: usize, count: usize) -> Option<Text> {
     let mut text = Text::new(alloc);
     for line in THREE_BLOCKS.split('\n').skip(from).take(count) {

@@ -1,5 +1,5 @@
 //! The parts of blocks that values spell.
-ghost use Rattle.std.specs.Prelude.{◌≡◌, ◌^◌, length, option_map};
+ghost use Rattle.std.specs.Prelude.{◌≡◌, ◌^◌};
 ghost use Rattle.std.specs.Option.{option_copied};
 ghost use Rattle.value_codec.specs.ReadParts as spec;
 
