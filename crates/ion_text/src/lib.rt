@@ -7,5 +7,5 @@ mod writing;
 
 pub use ion_values::{IonFault, IonKind};
 pub use laws::{read_is_within, written_is_read};
-pub use stream::{ReadFault, read_stream};
+pub use stream::{ReadFault, Reader, Refused, read_stream};
 pub use writing::write;

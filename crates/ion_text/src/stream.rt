@@ -11,7 +11,7 @@ mod reader;
 use ion_lexer::lex;
 use ion_model::Lexed;
 use ion_values::{IonFault, IonKind, OutOfMemory, Values};
-use reader::{Reader, Refused};
+pub use reader::{Reader, Refused};
 use simdutf8::compat::from_utf8;
 use std::alloc::Global;
 use thiserror::Error;

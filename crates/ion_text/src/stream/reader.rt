@@ -18,7 +18,9 @@ use std::mem;
 /// Why a token isn't taken.
 #[derive(Drop)]
 pub enum Refused {
+    /// It may not stand there.
     Kind(IonKind),
+    /// Memory ran out.
     Memory,
 }
 
@@ -35,8 +37,8 @@ impl From<OutOfMemory> for Refused {
 /// The open containers: the innermost, and those around it, the outermost first.
 #[derive(Drop)]
 pub struct Reader {
-    outer: Vec<Frame>,
-    inner: Frame,
+    pub outer: Vec<Frame>,
+    pub inner: Frame,
 }
 
 impl Reader {
