@@ -41,7 +41,7 @@ OTHER_SECONDS = {
     "contended.py": 180,
     "faults.py": 180,
 }
-OTHER_PROGRAM = {"interleavings.py": "interleavings"}
+OTHER_PROGRAM = {"interleavings.py": "interleavings", "transactions.py": "interleavings"}
 
 
 def program_of(test, folder):

@@ -1,8 +1,6 @@
 //! A bench with the tail of a journal in memory, of which contracts tell nothing: what holds a tail itself is dear to
 //! prove.
-ghost use Rattle.std.specs.Prelude.{◌≡◌};
 ghost use Rattle.laws_history.specs.Standings.{Standing};
-ghost use Rattle.txn_core.specs.Opened.{Opened};
 ghost use Rattle.ledger_core.specs.Committing.{IsOpenOn};
 
 use crate::statements::asked_of;
@@ -25,7 +23,7 @@ const PLACE: Place = Place {
 };
 
 /// No transaction's digest.
-pub(crate) const NO_HASH: Hash32 = Hash32 { bytes: [0; 32] };
+const NO_HASH: Hash32 = Hash32 { bytes: [0; 32] };
 
 /// The beginning of 2020 in UTC.
 const START: i64 = 1_577_836_800_000;
@@ -53,17 +51,9 @@ pub(crate) struct Found {
     pub(crate) root: Hash,
 }
 
-/// How the commits of two transactions ended that were open at once: the later one, and the one that began first.
-#[derive(Drop)]
-pub(crate) struct Ends {
-    pub(crate) later: Option<Result<Receipt, CommitFault>>,
-    pub(crate) first: Result<Receipt, CommitFault>,
-}
-
 /// Does the statements in the transaction.
 fn ask_all(alloc: Global, txn: &mut Txn, asked: &[Request])
-    ensures stays { (s : Standing) → IsOpenOn s txn.old → IsOpenOn s txn.new }
-    ensures number { txn.new.begun ≡ txn.old.begun }
+    ensures { (s : Standing) → IsOpenOn s txn.old → IsOpenOn s txn.new }
 {
     'asked: for request in asked {
         let _answer = txn.execute(alloc, request.text.as_str(), request.params.as_slice());
@@ -88,40 +78,19 @@ fn digest_of(alloc: Global, tx: TxId, asked: &[Request]) -> Hash32 {
     }
 }
 
-/// How the commit of a transaction with these statements ends, with this digest or, where none is given, with its own.
+/// How the commit of a transaction with these statements ends.
 fn committed(
     alloc: Global,
     tail: &mut Tail<MemoryStore, SetClock>,
     asked: &[Request],
-    given: Option<Hash32>,
-) -> Option<Result<Receipt, CommitFault>>
-    ensures { (other : Opened) → IsOpenOn tail.old.standing other → IsOpenOn tail.new.standing other }
-{
+) -> Option<Result<Receipt, CommitFault>> {
     let Ok(txn) = tail.begin(alloc, PLACE) else {
         return None;
     };
     let mut txn = txn;
     ask_all(alloc, &mut txn, asked);
-    let sent = given.unwrap_or(digest_of(alloc, txn.tx(), asked));
+    let sent = digest_of(alloc, txn.tx(), asked);
     Some(tail.commit(alloc, txn, sent))
-}
-
-/// Commits a transaction with the statements `reads`, and while it is open another one with the statements `writes`.
-fn committed_around(
-    alloc: Global,
-    tail: &mut Tail<MemoryStore, SetClock>,
-    reads: &[Request],
-    writes: &[Request],
-) -> Option<Ends> {
-    let Ok(first) = tail.begin(alloc, PLACE) else {
-        return None;
-    };
-    let mut first = first;
-    ask_all(alloc, &mut first, reads);
-    let sent = digest_of(alloc, first.tx(), reads);
-    let later = committed(alloc, tail, writes, None);
-    let first = tail.commit(alloc, first, sent);
-    Some(Ends { later, first })
 }
 
 /// The bench with this tail, or None if memory runs out.
@@ -143,26 +112,13 @@ impl Bench {
         }
     }
 
-    /// How the commit of a transaction with these statements ends, with this digest or, where none is given, with its
-    /// own.
+    /// How the commit of a transaction with these statements ends.
     pub(crate) fn commit(
         &mut self,
         alloc: Global,
         asked: &[Request],
-        given: Option<Hash32>,
     ) -> Option<Result<Receipt, CommitFault>> {
-        committed(alloc, &mut *self.tail, asked, given)
-    }
-
-    /// Commits a transaction with the statements `reads`, and while it is open another one with the statements
-    /// `writes`.
-    pub(crate) fn commit_around(
-        &mut self,
-        alloc: Global,
-        reads: &[Request],
-        writes: &[Request],
-    ) -> Option<Ends> {
-        committed_around(alloc, &mut *self.tail, reads, writes)
+        committed(alloc, &mut *self.tail, asked)
     }
 
     /// Cuts what is marked to be cut.
@@ -209,6 +165,6 @@ pub(crate) fn empty_bench(alloc: Global, passes: u64) -> Option<Bench> {
 /// Makes statements a transaction of their own.
 pub(crate) fn make(alloc: Global, bench: &mut Bench, told: &str) -> Option<()> {
     let asked = asked_of(alloc, told)?;
-    bench.commit(alloc, asked.as_slice(), None)?.ok()?;
+    bench.commit(alloc, asked.as_slice())?.ok()?;
     Some(())
 }

@@ -39,7 +39,7 @@ fn is_end(end: &Result<Receipt, CommitFault>, told: &str) -> Option<bool> {
 /// Whether the commit of a statement ends so.
 fn ends_so(alloc: Global, bench: &mut Bench, text: &str, told: &str) -> Option<bool> {
     let asked = asked_of(alloc, text)?;
-    let end = bench.commit(alloc, asked.as_slice(), None)?;
+    let end = bench.commit(alloc, asked.as_slice())?;
     is_end(&end, told)
 }
 
@@ -95,7 +95,10 @@ fn is_settled(bench: Bench) -> bool {
 
 /// The calls that fail; how the commits end; and how many blocks there are, how many lines and further bytes stand in
 /// the store, and how many blocks a reload of them finds.
-const ROWS: &str = "# the second commit fails in its sync, and the third one cuts its line
+const ROWS: &str = "# the first commit fails in its append, and in its sync
+1:0 > S1 > 0 0 0 0
+2:0 > S1 > 0 1 0 1
+# the second commit fails in its sync, and the third one cuts its line
 4:0 > 0 S1 > 1 2 0 2
 4:0 > 0 S1 1 > 2 2 0 2
 # that one makes four calls, and the fourth commit fails in the next one, its append

@@ -1,12 +1,11 @@
-//! Tests of the tail of a journal over stores in memory.
+//! Tests of the tail of a journal over stores in memory. tests/transactions.py and tests/journal_rows.py have rows that go through
+//! the texts of programs.
 #![tactic(auto)]
 
 #[cfg(test)]
 mod bench;
 #[cfg(test)]
 mod commits;
-#[cfg(test)]
-mod conflicts;
 #[cfg(test)]
 mod digests;
 #[cfg(test)]

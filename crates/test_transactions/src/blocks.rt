@@ -2,8 +2,7 @@
 //!
 //! - `create NAME TABLE`, `index FIELD TABLE` and `drop NAME TABLE` change the schema,
 //! - `tables COUNT` creates `t0`, `t1` and so on, with the ids 0, 1 and so on,
-//! - `put TABLE DOCUMENT VERSION DAY CONTENT` adds a revision of a day of January 2020, and `-` deletes,
-//! - `documents COUNT` puts `{a:1}` into the table 1, as the documents 2, 3 and so on.
+//! - `put TABLE DOCUMENT VERSION DAY CONTENT` adds a revision of a day of January 2020, and `-` deletes.
 //!
 //! Of an id its last digit is told.
 ghost use Rattle.std.specs.Prelude.{⊤};
@@ -71,7 +70,6 @@ impl Lists {
         match verb {
             "put" => self.put(rest),
             "tables" => self.put_tables(alloc, rest),
-            "documents" => self.put_documents(rest),
             _ => {
                 let (name, table) = rest.split_once(' ')?;
                 put_change(&mut self.schema, verb, name, table)
@@ -93,15 +91,6 @@ impl Lists {
         put_revision(&mut self.revisions, document, told)
     }
 
-    fn put_documents(&mut self, count: &str) -> Option<()> {
-        for number in 0..count.parse::<usize>().ok()? {
-            let document = digit(DIGITS.get(2..)?, number)?;
-            put_document(&mut self.documents, "1", document)?;
-            put_revision(&mut self.revisions, document, "0 1 {a:1}")?;
-        }
-        Some(())
-    }
-
     /// The text of the block.
     fn text(&self, alloc: Global) -> Option<String> {
         let (schema, documents, revisions) = (
@@ -115,12 +104,12 @@ impl Lists {
     }
 }
 
-fn digit(digits: &str, at: usize) -> Option<&str> {
-    digits.get(at..)?.get(..1)
+fn digit(at: usize) -> Option<&'static str> {
+    DIGITS.get(at..)?.get(..1)
 }
 
 fn put_table(alloc: Global, schema: &mut String, number: usize) -> Option<()> {
-    let table = digit(DIGITS, number)?;
+    let table = digit(number)?;
     let name = format!(in alloc; "t{number}").ok()?;
     put_change(schema, "create", name.as_str(), table)
 }

@@ -1,29 +1,13 @@
-//! Tests of versions and transactions.
+//! Tests of versions and transactions: what only code sees of them. tests/transactions.py has rows that statements tell.
 #![tactic(auto)]
 
 #[cfg(test)]
 mod blocks;
 #[cfg(test)]
-mod changes;
-#[cfg(test)]
-mod histories;
-#[cfg(test)]
 mod journals;
-#[cfg(test)]
-mod keys;
 #[cfg(test)]
 mod lookups;
 #[cfg(test)]
-mod probes;
-#[cfg(test)]
-mod reads;
-#[cfg(test)]
-mod registration;
-#[cfg(test)]
-mod rows;
-#[cfg(test)]
-mod statements;
-#[cfg(test)]
-mod tables;
+mod opened;
 #[cfg(test)]
 mod transactions;

@@ -1,86 +1,45 @@
-//! What is asked of a version, by the ids of tables and documents.
+//! What versions tell, by the ids of tables and documents.
 use crate::blocks::{Page, page_of, value_in};
-use crate::journals::Version;
-use crate::probes::{probe_of, put_number};
+use crate::journals::{Version, continued, version_of};
 use containers::Text;
 use ion_values::Key;
-use ledger_model::Schema;
-use pql_model::{DocIds, Probe, View};
+use ledger_model::{Content, Schema};
+use pql_model::{DocIds, Probe, Tables, View};
 use ql_types::{DocId, TableId};
 use std::alloc::Global;
+use txn_core::TableViews;
 use versions::{
-    Indexed, Table, active_table, change_all, copy_indexes, copy_tables, has_index, index_all,
+    Indexed, Table, Versions, active_table, change_all, copy_content, copy_indexes, copy_tables,
+    has_index, index_all,
 };
 use view_rows::view_rows;
 
-/// Questions to versions:
-///
-/// - how many tables are active, how many documents there are with those that are deleted, how many indexes and
-///   documents a table has, the version of a document's latest revision, and its table,
-/// - whether a table was made with a name, is a name's active one, and has an index on a field,
-/// - a table's document ids in order of first insertion; the first of those with a number in a field;
-/// - the document and the version of a table's revision, and how many rows of a view meet a probe,
-/// - whether copies of the tables and of the indexes are changed by a block, and the version isn't.
-///
-/// In the first journal the table `t0` is dropped, and `t1` has an index on `a`, a deleted document and another one.
-/// In the second one document 2 has four revisions.
-pub(crate) const LOOKUPS: &str =
-    "on tables 2, drop t0 0 / index a 1 / put 1 2 0 1 {a:1}, put 1 3 0 1 {a:2} / put 1 2 1 1 -
-? active 0 = 1
-? newest 0 = 2
-? indexes 0 = 0
-? indexes 1 = 1
-? index 1 a = yes
-? index 0 a = no
-? name 0 t0 = yes
-? name 1 t1 = yes
-? name 1 t0 = no
-? name 2 t1 = no
-? latest 2 = 1
-? latest 3 = 0
-? latest 4 = none
-? table 2 = 1
-? table 4 = none
-? documents 1 = 1
-? documents 0 = 0
-on tables 2 / put 1 2 0 1 {n:1} / put 1 3 0 1 {n:2} / put 1 2 1 2 {n:3} / put 1 2 2 4 {n:4} / put 1 2 3 4 {n:5}
-? user 1 2 = 1
-? committed 1 2 = 1
-? history 1 2 = 3
-? history 0 all = 0
-# a version with blocks more tells what came with them, and the one before stays as it was
-on tables 2 / index a 1 / put 1 2 0 1 {a:1}, put 1 3 0 1 {a:2} / put 1 2 1 1 -
-then put 1 3 1 1 {a:5}
-? key 1 a:1 = none
-? key 1 a:2 = 3
-then? key 1 a:2 = none
-then? key 1 a:5 = 3
-? revision 1 0 = 2.0
-? revision 1 2 = 2.1
-? revision 1 3 = none
-then? revision 1 3 = 3.1
-? revision 0 0 = none
-on tables 2 / put 1 2 0 1 {a:1}
-then put 1 3 0 1 {a:2}
-? ids 1 = 2
-then? ids 1 = 2 3
-then? called 1 t1 = yes
-on tables 2
-then put 1 5 0 1 {} / put 1 3 0 1 {} / put 1 9 0 1 {} / put 1 4 0 1 {} / put 1 3 0 1 {} / put 1 8 0 1 {} / put 1 7 0 1 {} \
-/ put 1 9 0 1 {} / put 1 6 0 1 {}
-? ids 1 = none
-then? ids 1 = 5 3 9 4 8 7 6
-then? called 1 t1 = yes
-# tables and indexes are changed in copies
-on tables 2, index a 1 / put 1 2 0 1 {a:1}
-? copies drop t0 0, index b 1 = yes
-? called 0 t0 = yes";
+/// The tables `t0` and `t1`.
+const ZERO: TableId = TableId { raw: 0 };
 
-/// The table `t1`.
 const ONE: TableId = TableId { raw: 1 };
+
+/// The table `t0` is dropped, and `t1` has an index on `a`, a deleted document and another one.
+const DROPPED: &str =
+    "tables 2, drop t0 0 / index a 1 / put 1 2 0 1 {a:1}, put 1 3 0 1 {a:2} / put 1 2 1 1 -";
+
+/// The document 2 has four revisions, and 3 has one.
+const CHANGED: &str = "tables 2 / put 1 2 0 1 {n:1} / put 1 3 0 1 {n:2} / put 1 2 1 2 {n:3} / \
+put 1 2 2 4 {n:4} / put 1 2 3 4 {n:5}";
+
+const DELETED: &str = "tables 2 / index a 1 / put 1 2 0 1 {a:1}, put 1 3 0 1 {a:2} / put 1 2 1 1 -";
+
+const MANY: &str =
+    "put 1 5 0 1 {} / put 1 3 0 1 {} / put 1 9 0 1 {} / put 1 4 0 1 {} / put 1 3 0 1 {} / \
+put 1 8 0 1 {} / put 1 7 0 1 {} / put 1 9 0 1 {} / put 1 6 0 1 {}";
 
 fn documents(version: &Version, table: TableId) -> Option<DocIds> {
     version.get().documents(table).ok()
+}
+
+/// How many documents there are in the table.
+fn document_count(version: &Version, table: TableId) -> Option<u64> {
+    Some(documents(version, table)?.len() as u64)
 }
 
 /// How many documents there are in all tables, with those that are deleted.
@@ -91,98 +50,66 @@ fn newest(alloc: Global, version: &Version) -> Option<u64> {
     }
 }
 
-/// A number that the version keeps of an id.
-fn kept(version: &Version, word: &str, raw: u128) -> Option<u64> {
-    match word {
-        "active" => Some(version.get().active()),
-        "indexes" => Some(version.get().indexes(TableId { raw })),
-        "latest" => Some(version.get().latest(DocId { raw })?.metadata.version),
-        "table" => u64::try_from(version.get().table_of(DocId { raw })?.raw).ok(),
-        _ => None,
+/// The version of the document's latest revision.
+fn latest(version: &Versions, raw: u128) -> Option<u64> {
+    Some(version.latest(DocId { raw })?.metadata.version)
+}
+
+/// The number of the document's table.
+fn table_of(version: &Versions, raw: u128) -> Option<u128> {
+    Some(version.table_of(DocId { raw })?.raw)
+}
+
+/// Whether the table was made with the name.
+fn is_made(version: &Versions, table: TableId, name: &str) -> bool {
+    match version.name(table) {
+        Some(made) => made.as_str() == name,
+        None => false,
     }
 }
 
-/// The number that the version tells of an id.
-fn number(alloc: Global, version: &Version, word: &str, raw: u128) -> Option<u64> {
-    match word {
-        "documents" => Some(documents(version, TableId { raw })?.len() as u64),
-        "newest" => newest(alloc, version),
-        _ => kept(version, word, raw),
+/// Whether the table is the active one of the name.
+fn is_called(version: &Versions, table: TableId, name: &Text) -> bool {
+    match version.table(name) {
+        Some(found) => found.raw == table.raw,
+        None => false,
     }
 }
 
-/// Whether the table has an index on the field, is the active one of the name, or was made with it.
-fn has(version: &Version, word: &str, table: TableId, name: &Text) -> bool {
-    match word {
-        "index" => version.get().has_index(table, name),
-        "called" => match version.get().table(name) {
-            Some(found) => found.raw == table.raw,
-            None => false,
-        },
-        _ => match version.get().name(table) {
-            Some(made) => made.as_str() == name.as_str(),
-            None => false,
-        },
-    }
+fn are_names(version: &Versions) -> bool {
+    is_made(version, ZERO, "t0")
+        && is_made(version, ONE, "t1")
+        && !is_made(version, ONE, "t0")
+        && !is_made(version, TableId { raw: 2 }, "t1")
 }
 
-/// Whether the table has what is told, as the row says.
-fn has_so(
-    alloc: Global,
-    version: &Version,
-    word: &str,
-    table: TableId,
-    name: &str,
-    end: &str,
-) -> Option<bool> {
-    let name = Text::from_text(alloc, name).ok()?;
-    Some(has(version, word, table, &name) == (end == "yes"))
+fn are_indexes(version: &Versions, field: &Text) -> bool {
+    version.indexes(ZERO) == 0
+        && version.indexes(ONE) == 1
+        && version.has_index(ONE, field)
+        && !version.has_index(ZERO, field)
 }
 
-/// The table's documents with the key in the field, where that has an index.
-fn with_key(version: &Version, table: TableId, field: &Text, key: &Key) -> Option<DocIds> {
+fn are_latest(version: &Versions) -> bool {
+    latest(version, 2) == Some(1) && latest(version, 3) == Some(0) && latest(version, 4) == None
+}
+
+fn are_tables(version: &Versions) -> bool {
+    version.active() == 1 && table_of(version, 2) == Some(1) && table_of(version, 4) == None
+}
+
+fn are_counted(alloc: Global, version: &Version) -> bool {
+    newest(alloc, version) == Some(2)
+        && document_count(version, ONE) == Some(1)
+        && document_count(version, ZERO) == Some(0)
+}
+
+/// Whether the version with a dropped table tells so.
+fn is_dropped(alloc: Global, version: &Version) -> Option<bool> {
+    let field = Text::from_text(alloc, "a").ok()?;
     let versions = version.get();
-    if !versions.has_index(table, field) {
-        return None;
-    }
-    versions.with_key(table, field, key).ok()
-}
-
-/// The first document of the table with the number that is told as `FIELD:NUMBER`, where the field has an index.
-fn with_number(alloc: Global, version: &Version, table: TableId, told: &str) -> Option<u128> {
-    let (field, number) = told.split_once(':')?;
-    let key = Key::Number {
-        coefficient: number.parse::<i128>().ok()?,
-        exponent: 0,
-    };
-    let field = Text::from_text(alloc, field).ok()?;
-    let ids = with_key(version, table, &field, &key)?;
-    let id = ids.as_slice().first()?;
-    Some(id.raw)
-}
-
-/// The document and the version of a table's revision.
-fn revision_at(version: &Version, table: TableId, i: u64) -> Option<(u128, u64)> {
-    let revision = version.get().revision_at(table, i)?;
-    Some((revision.metadata.id.raw, revision.metadata.version))
-}
-
-/// A document and a version with a point between them.
-fn revision_in(told: &str) -> Option<(u128, u64)> {
-    let (document, version) = told.split_once('.')?;
-    Some((document.parse::<u128>().ok()?, version.parse::<u64>().ok()?))
-}
-
-/// A view, or the history since the third day.
-pub(crate) fn view_of(alloc: Global, word: &str) -> View {
-    match word {
-        "user" => View::User,
-        "committed" => View::Committed,
-        _ => View::History {
-            start: value_in(alloc, "2020-01-03T"),
-            end: None,
-        },
-    }
+    let is_found = are_names(versions) && are_latest(versions) && are_tables(versions);
+    Some(is_found && are_indexes(versions, &field) && are_counted(alloc, version))
 }
 
 /// How many rows of the view meet the probe.
@@ -199,49 +126,112 @@ fn met(
     }
 }
 
-/// Whether as many rows of the view meet the probe as `end` says.
-fn meet(
-    alloc: Global,
-    version: &Version,
-    word: &str,
-    table: TableId,
-    probe: &str,
-    end: &str,
-) -> Option<bool> {
-    let wanted = end.parse::<usize>().ok()?;
-    let probe = probe_of(alloc, probe)?;
-    let view = view_of(alloc, word);
-    Some(met(alloc, version, table, &view, &probe) == Some(wanted))
-}
-
-/// Whether the version answers the question about the table so.
-fn answers_of(
-    alloc: Global,
-    version: &Version,
-    word: &str,
-    table: TableId,
-    told: &str,
-    end: &str,
-) -> Option<bool> {
-    match word {
-        "index" | "called" | "name" => has_so(alloc, version, word, table, told, end),
-        "key" => Some(with_number(alloc, version, table, told) == end.parse::<u128>().ok()),
-        "revision" => {
-            let place = told.parse::<u64>().ok()?;
-            Some(revision_at(version, table, place) == revision_in(end))
-        }
-        _ => meet(alloc, version, word, table, told, end),
+/// The history since the third day.
+fn history(alloc: Global) -> View {
+    View::History {
+        start: value_in(alloc, "2020-01-03T"),
+        end: None,
     }
 }
 
-/// Whether the table's documents are those of these ids.
-fn has_documents(alloc: Global, version: &Version, raw: u128, ids: &str) -> Option<bool> {
-    let documents = documents(version, TableId { raw })?;
+/// Whether so many rows of the three views are of the document 2, and none of the history of `t0`.
+fn are_shown(alloc: Global, version: &Version) -> bool {
+    let (since, second) = (history(alloc), Probe::Id(DocId { raw: 2 }));
+    met(alloc, version, ONE, &View::User, &second) == Some(1)
+        && met(alloc, version, ONE, &View::Committed, &second) == Some(1)
+        && met(alloc, version, ONE, &since, &second) == Some(3)
+        && met(alloc, version, ZERO, &since, &Probe::All) == Some(0)
+}
+
+/// How many rows a transaction without changes sees of the table of this name.
+fn seen(alloc: Global, version: &Version, name: &str, view: &View) -> Option<usize> {
+    let version = version.get();
+    let views = TableViews::new(version.tables(), version, &[]);
+    let name = Text::from_text(alloc, name).ok()?;
+    match views.rows(alloc, &name, view, &Probe::All) {
+        Ok(rows) => Some(rows.len()),
+        Err(_) => None,
+    }
+}
+
+/// Whether a transaction sees the two documents of `t1`, and none of a table that isn't there.
+fn are_seen(alloc: Global, version: &Version) -> bool {
+    seen(alloc, version, "t1", &View::User) == Some(2)
+        && seen(alloc, version, "t2", &View::User) == Some(0)
+        && seen(alloc, version, "t2", &View::Committed) == Some(0)
+}
+
+/// The table's documents with the key in the field, where that has an index.
+fn with_key(version: &Version, table: TableId, field: &Text, key: &Key) -> Option<DocIds> {
+    let versions = version.get();
+    if !versions.has_index(table, field) {
+        return None;
+    }
+    versions.with_key(table, field, key).ok()
+}
+
+/// The first document of `t1` with the number in the field `a`.
+fn with_number(alloc: Global, version: &Version, number: i128) -> Option<u128> {
+    let key = Key::Number {
+        coefficient: number,
+        exponent: 0,
+    };
+    let field = Text::from_text(alloc, "a").ok()?;
+    let ids = with_key(version, ONE, &field, &key)?;
+    let id = ids.as_slice().first()?;
+    Some(id.raw)
+}
+
+/// The document and the version of a table's revision.
+fn revision_at(version: &Version, table: TableId, i: u64) -> Option<(u128, u64)> {
+    let revision = version.get().revision_at(table, i)?;
+    Some((revision.metadata.id.raw, revision.metadata.version))
+}
+
+/// Whether the version with a deleted document tells so.
+fn is_deleted(alloc: Global, version: &Version) -> bool {
+    with_number(alloc, version, 1) == None
+        && with_number(alloc, version, 2) == Some(3)
+        && revision_at(version, ONE, 0) == Some((2, 0))
+        && revision_at(version, ONE, 2) == Some((2, 1))
+        && revision_at(version, ONE, 3) == None
+        && revision_at(version, ZERO, 0) == None
+}
+
+/// Whether the version behind it tells what came with its block.
+fn is_changed(alloc: Global, version: &Version) -> bool {
+    with_number(alloc, version, 2) == None
+        && with_number(alloc, version, 5) == Some(3)
+        && revision_at(version, ONE, 3) == Some((3, 1))
+}
+
+/// Whether the table's documents are those of these ids, each with a space behind it.
+fn has_documents(alloc: Global, version: &Version, ids: &str) -> Option<bool> {
+    let documents = documents(version, ONE)?;
     let mut told = String::new(alloc);
     for document in documents.as_slice() {
-        put_number(alloc, &mut told, document.raw)?;
+        let text = format!(in alloc; "{} ", document.raw).ok()?;
+        told.push_str(text.as_str()).ok()?;
     }
-    Some(told.as_str().trim_end() == if ids == "none" { "" } else { ids })
+    Some(told.as_str() == ids)
+}
+
+/// Whether `t1` has these documents behind the blocks, and those before.
+fn are_behind(alloc: Global, journal: &str, ids: &str, blocks: &str, then: &str) -> Option<bool> {
+    let version = version_of(alloc, journal)?;
+    let later = continued(alloc, &version, blocks)?;
+    let name = Text::from_text(alloc, "t1").ok()?;
+    let is_as_before = has_documents(alloc, &version, ids)?;
+    let is_later = has_documents(alloc, &later, then)?;
+    Some(is_as_before && is_later && is_called(later.get(), ONE, &name))
+}
+
+/// Whether a version, and a share of it, stays as it was behind a block more.
+fn is_kept(alloc: Global) -> Option<bool> {
+    let version = version_of(alloc, DELETED)?;
+    let share = version.share(alloc)?;
+    let later = continued(alloc, &version, "put 1 3 1 1 {a:5}")?;
+    Some(is_deleted(alloc, &version) && is_deleted(alloc, &share) && is_changed(alloc, &later))
 }
 
 /// Whether a copy of the tables loses `t0` alone.
@@ -266,27 +256,50 @@ fn are_copies_changed(alloc: Global, version: &Version, page: &Page) -> bool {
         && !has_index(version.get().all_indexes(), ONE, "b")
 }
 
-fn answers(alloc: Global, version: &Version, word: &str, asked: &str, end: &str) -> Option<bool> {
-    let (id, told) = asked.split_once(' ').unwrap_or((asked, ""));
-    let raw = id.parse::<u128>().ok()?;
-    match told {
-        "" if word == "ids" => has_documents(alloc, version, raw, end),
-        "" => Some(number(alloc, version, word, raw) == end.parse::<u64>().ok()),
-        _ => answers_of(alloc, version, word, TableId { raw }, told, end),
-    }
+/// Whether tables and indexes are changed in copies, and the version's table `t0` stays.
+fn are_copied(alloc: Global) -> Option<bool> {
+    let version = version_of(alloc, "tables 2, index a 1 / put 1 2 0 1 {a:1}")?;
+    let page = page_of(alloc, "drop t0 0, index b 1")?;
+    let name = Text::from_text(alloc, "t0").ok()?;
+    let is_changed = are_copies_changed(alloc, &version, &page);
+    Some(is_changed && is_called(version.get(), ZERO, &name))
 }
 
-/// Whether the version answers the question so.
-pub(crate) fn answers_so(
-    alloc: Global,
-    version: &Version,
-    question: &str,
-    end: &str,
-) -> Option<bool> {
-    let (word, asked) = question.split_once(' ')?;
-    if word == "copies" {
-        let page = page_of(alloc, asked)?;
-        return Some(are_copies_changed(alloc, version, &page) == (end == "yes"));
-    }
-    answers(alloc, version, word, asked, end)
+/// Whether the versions of the first two journals tell so.
+fn are_told(alloc: Global) -> Option<bool> {
+    let dropped = version_of(alloc, DROPPED)?;
+    let changed = version_of(alloc, CHANGED)?;
+    let is_told = is_dropped(alloc, &dropped)?;
+    Some(is_told && are_shown(alloc, &changed) && are_seen(alloc, &changed))
+}
+
+#[test]
+fn a_version_tells_what_its_blocks_say(rt: HostRuntime) {
+    let alloc = rt.alloc();
+    assert_eq!(rt; are_told(alloc), Some(true));
+    assert_eq!(rt; are_copied(alloc), Some(true));
+}
+
+#[test]
+fn a_version_stays_as_it_was(rt: HostRuntime) {
+    let alloc = rt.alloc();
+    assert_eq!(rt; is_kept(alloc), Some(true));
+    let one = "tables 2 / put 1 2 0 1 {a:1}";
+    assert_eq!(rt;
+        are_behind(alloc, one, "2 ", "put 1 3 0 1 {a:2}", "2 3 "),
+        Some(true)
+    );
+    assert_eq!(rt;
+        are_behind(alloc, "tables 2", "", MANY, "5 3 9 4 8 7 6 "),
+        Some(true)
+    );
+}
+
+fn is_deletion_copied(alloc: Global) -> bool {
+    matches!(copy_content(alloc, &Content::Deleted), Ok(Content::Deleted))
+}
+
+#[test]
+fn a_deletion_is_copied(rt: HostRuntime) {
+    assert!(rt; is_deletion_copied(rt.alloc()));
 }

@@ -1,6 +1,6 @@
 //! Tails over empty stores in memory.
 use ledger_core::Tail;
-use outside::{JournalStore, MemoryStore, SetClock, SureStore};
+use outside::{JournalStore, MemoryStore, SetClock};
 use ql_types::IdMask;
 use std::alloc::Global;
 
@@ -18,9 +18,4 @@ pub(crate) fn tail_of<S: JournalStore + Drop>(
 /// A store without bytes that may fail, and never does.
 pub(crate) fn memory_store(alloc: Global) -> MemoryStore {
     MemoryStore::new(alloc, Vec::new(alloc), Vec::new(alloc))
-}
-
-/// A store without bytes that never fails.
-pub(crate) fn sure_store(alloc: Global) -> SureStore {
-    SureStore::new(alloc, Vec::new(alloc))
 }
