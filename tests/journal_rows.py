@@ -208,6 +208,9 @@ def contents(program):
     revision = re.compile(rb",hash:\{\{(.*?)\}\}")
     check(status == 0 and kept != compacted and b"dataHash" in compacted, f"a journal is compacted: {status}, {compacted}")
     check(revision.findall(kept) == revision.findall(compacted), "the hashes of its revisions")
+    program.put("compacted", compacted)
+    audits = [program.run(journal, ["audit"]) for journal in ("redacted", "compacted")]
+    check(audits == [(0, b"{blocks:4,revisions:2}\n")] * 2, f"both are what their hashes say: {audits}")
 
 
 def main():

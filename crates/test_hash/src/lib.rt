@@ -1,5 +1,5 @@
-//! Tests of ids, and of the hashes of pairs, trees and blocks, over their crates. tests/journal_rows.py has rows of the hashes of
-//! whole journals.
+//! Tests of ids, and of the hashes of pairs, trees and blocks, over their crates. tests/journal_rows.py has rows of the
+//! hashes of whole journals.
 #![tactic(auto)]
 
 #[cfg(test)]

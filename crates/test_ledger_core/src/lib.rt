@@ -1,5 +1,5 @@
-//! Tests of the tail of a journal over stores in memory. tests/transactions.py and tests/journal_rows.py have rows that go through
-//! the texts of programs.
+//! Tests of the tail of a journal over stores in memory. tests/transactions.py and tests/journal_rows.py have rows that
+//! go through the texts of programs.
 #![tactic(auto)]
 
 #[cfg(test)]

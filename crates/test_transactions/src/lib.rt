@@ -1,4 +1,5 @@
-//! Tests of versions and transactions: what only code sees of them. tests/transactions.py has rows that statements tell.
+//! Tests of versions and transactions: what only code sees of them. tests/transactions.py has rows that statements
+//! tell.
 #![tactic(auto)]
 
 #[cfg(test)]

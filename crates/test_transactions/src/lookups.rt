@@ -216,14 +216,16 @@ fn has_documents(alloc: Global, version: &Version, ids: &str) -> Option<bool> {
     Some(told.as_str() == ids)
 }
 
-/// Whether `t1` has these documents behind the blocks, and those before.
+/// Whether `t1` has these documents behind the blocks, and those before, of which a share has them too.
 fn are_behind(alloc: Global, journal: &str, ids: &str, blocks: &str, then: &str) -> Option<bool> {
     let version = version_of(alloc, journal)?;
+    let share = version.share(alloc)?;
     let later = continued(alloc, &version, blocks)?;
     let name = Text::from_text(alloc, "t1").ok()?;
     let is_as_before = has_documents(alloc, &version, ids)?;
+    let is_shared = has_documents(alloc, &share, ids)?;
     let is_later = has_documents(alloc, &later, then)?;
-    Some(is_as_before && is_later && is_called(later.get(), ONE, &name))
+    Some(is_as_before && is_shared && is_later && is_called(later.get(), ONE, &name))
 }
 
 /// Whether a version, and a share of it, stays as it was behind a block more.
@@ -256,27 +258,39 @@ fn are_copies_changed(alloc: Global, version: &Version, page: &Page) -> bool {
         && !has_index(version.get().all_indexes(), ONE, "b")
 }
 
-/// Whether tables and indexes are changed in copies, and the version's table `t0` stays.
+/// Whether tables and indexes are changed in copies, and the table `t0` of the version and of a share stays.
 fn are_copied(alloc: Global) -> Option<bool> {
     let version = version_of(alloc, "tables 2, index a 1 / put 1 2 0 1 {a:1}")?;
+    let share = version.share(alloc)?;
     let page = page_of(alloc, "drop t0 0, index b 1")?;
     let name = Text::from_text(alloc, "t0").ok()?;
-    let is_changed = are_copies_changed(alloc, &version, &page);
-    Some(is_changed && is_called(version.get(), ZERO, &name))
+    let are_changed = are_copies_changed(alloc, &version, &page)
+        && are_copies_changed(alloc, &share, &page);
+    Some(
+        are_changed && is_called(version.get(), ZERO, &name) && is_called(share.get(), ZERO, &name),
+    )
 }
 
-/// Whether the versions of the first two journals tell so.
-fn are_told(alloc: Global) -> Option<bool> {
-    let dropped = version_of(alloc, DROPPED)?;
-    let changed = version_of(alloc, CHANGED)?;
-    let is_told = is_dropped(alloc, &dropped)?;
-    Some(is_told && are_shown(alloc, &changed) && are_seen(alloc, &changed))
+/// Whether the version with a dropped table, and a share of it, tells so.
+fn are_dropped_told(alloc: Global) -> Option<bool> {
+    let version = version_of(alloc, DROPPED)?;
+    let share = version.share(alloc)?;
+    let is_told = is_dropped(alloc, &version)?;
+    Some(is_told && is_dropped(alloc, &share)?)
+}
+
+/// Whether the version with a changed document, and a share of it, shows so.
+fn are_changed_shown(alloc: Global) -> Option<bool> {
+    let version = version_of(alloc, CHANGED)?;
+    let share = version.share(alloc)?;
+    Some(are_shown(alloc, &version) && are_shown(alloc, &share) && are_seen(alloc, &version))
 }
 
 #[test]
 fn a_version_tells_what_its_blocks_say(rt: HostRuntime) {
     let alloc = rt.alloc();
-    assert_eq!(rt; are_told(alloc), Some(true));
+    assert_eq!(rt; are_dropped_told(alloc), Some(true));
+    assert_eq!(rt; are_changed_shown(alloc), Some(true));
     assert_eq!(rt; are_copied(alloc), Some(true));
 }
 

@@ -1,12 +1,12 @@
-//! Statements over documents that are no structs and over more tables than there may be, and what a transaction has read
-//! if a statement is refused.
+//! Statements over documents that are no structs and over more tables than there may be, and what a transaction has
+//! read if a statement is refused.
 use crate::journals::{Version, version_of};
 use crate::transactions::Open;
 use ledger_model::Item;
 use std::alloc::Global;
 
-/// Statements with `;` between them. Their end is the rows, or the cause of a refusal; or `read` and what they have read
-/// if one of them is refused.
+/// Statements with `;` between them. Their end is the rows, or the cause of a refusal; or `read` and what they have
+/// read if one of them is refused.
 const NO_STRUCTS: &str = "SELECT * FROM t1 = {a:y::1}{t1:x::5}{t1:null.struct}
 SELECT * FROM t1 AS \"a b\" = {a:y::1}{'a b':x::5}{'a b':null.struct}
 SELECT * FROM t0 = none";

@@ -1,5 +1,5 @@
-//! Tests of a ledger that several passes share, and of runs on stores that fail. tests/journal_rows.py has runs by several
-//! workers.
+//! Tests of a ledger that several passes share, and of runs on stores that fail. tests/journal_rows.py has runs by
+//! several workers.
 #![tactic(auto)]
 
 #[cfg(test)]
