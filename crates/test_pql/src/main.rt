@@ -7,7 +7,10 @@
 //! - `brackets`: the expression with its brackets,
 //! - `value`: what the expression means under the sources `of` and the parameters `params`,
 //! - `rows`: the rows that the sources give of the table `t` and of its committed view,
+//! - `behind`: the same rows, made behind all combinations of the sources but the last, and how many of these there
+//!   are, if there are several,
 //! - `select`: what is selected of the rows `of`,
+//! - `tallied`: what aggregates come to of the lists of rows `of`, one list after another,
 //! - `change`: what the change leaves of the document `of`, or of the document `standing` under it,
 //! - `changed`: the documents that the rows `of` name, changed,
 //! - `deleted`: the ids of the documents that rows name.
@@ -16,6 +19,7 @@
 //! first byte. A second annotation is its BY name.
 #![tactic(auto)]
 
+mod behind;
 mod brackets;
 mod changes;
 mod parsing;
@@ -46,6 +50,8 @@ impl Asked for Language {
             "value" => values::put_meaning(alloc, given, more, out),
             "select" => values::put_selected(alloc, given, more, out),
             "rows" => rows::put_rows(alloc, given, more, out),
+            "behind" => behind::put_behind(alloc, given, more, out),
+            "tallied" => behind::put_tallied(alloc, given, more, out),
             "change" => changes::put_left(alloc, given, more, out),
             "changed" => changes::put_changed(alloc, given, more, out),
             "deleted" => changes::put_deleted(alloc, given, out),

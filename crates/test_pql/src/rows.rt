@@ -83,7 +83,8 @@ fn documents(alloc: Global, values: &[Value]) -> Option<Rows> {
     Some(rows)
 }
 
-fn shelf(alloc: Global, more: &[Field]) -> Option<Shelf> {
+/// The table `t` with its documents and their committed view.
+pub fn shelf_of(alloc: Global, more: &[Field]) -> Option<Shelf> {
     let documents_in_t = documents(alloc, list_in(named(more, "t")?)?)?;
     let committed = documents(alloc, list_in(named(more, "committed")?)?)?;
     Some(Shelf {
@@ -101,7 +102,7 @@ pub fn put_rows(alloc: Global, given: &Value, more: &[Field], out: &mut Text) ->
 }
 
 fn put_of(alloc: Global, statement: &Statement, more: &[Field], out: &mut Text) -> Option<()> {
-    let shelf = shelf(alloc, more)?;
+    let shelf = shelf_of(alloc, more)?;
     put_given(alloc, statement, &shelf, out)
 }
 
@@ -131,7 +132,8 @@ fn change_clause(alloc: Global, from: &mut FromClause, more: &[Field]) -> Option
     from.sources.push(last).ok()
 }
 
-fn put_scopes(alloc: Global, rows: &Bindings, out: &mut Text) -> Result<(), OutOfMemory> {
+/// Puts rows of sources between brackets.
+pub fn put_scopes(alloc: Global, rows: &Bindings, out: &mut Text) -> Result<(), OutOfMemory> {
     out.push_str("[")?;
     for (at, row) in rows.as_slice().iter().enumerate() {
         put_separator(out, at, ",")?;
