@@ -1,7 +1,7 @@
 #!/usr/bin/env python3
-"""Runs small scripts, and looks at their reports and at the journals that they leave: each line against the hashes of another script,
-digests, what a run leaves of a file that is cut or damaged, and how transactions end. Ends with status 1 where something isn't as
-it should be.
+"""Runs small scripts and made workloads, and looks at their reports and at the journals that they leave: each line against the hashes
+of another script, digests, what a run leaves of a file that is cut or damaged, how transactions end, and made documents. Ends with
+status 1 where something isn't as it should be.
 
     tests/journal_rows.py [PROGRAM]
 
@@ -20,6 +20,7 @@ HERE = os.path.dirname(os.path.abspath(__file__))
 CRATES = os.path.join(os.path.dirname(HERE), "crates")
 PROGRAM = os.path.join(CRATES, "ledger", "out", "ledger")
 VECTORS = os.path.join(CRATES, "block_form", "vectors", "make.py")
+LAST_NUMBER = os.path.join(CRATES, "test_ledger_core", "vectors", "last_number.py")
 DIGITS = "0123456789ABCDEFGHIJKLMNOPQRSTUVWXYZabcdefghijklmnopqrstuvwxyz"
 
 # how many blocks there are, of one statement each, the first of which creates a table and the others of which select from it, and
@@ -54,6 +55,33 @@ ENDS = [
 ]
 LETTERS = {"refused": "R", "aborted": "A", "denied": "D"}
 
+# of made workloads the seed, how many sessions and transactions of each there are, and the documents of each session, whose amounts
+# are words of the session's stream
+MADE = [
+    ((0, 1, 3), ["{s:1,t:1,amount:119}{s:1,t:2,amount:110}{s:1,t:3,amount:469}"]),
+    (
+        (1, 2, 3),
+        [
+            "{s:1,t:1,amount:174}{s:1,t:2,amount:392}{s:1,t:3,amount:387}",
+            "{s:2,t:1,amount:242}{s:2,t:2,amount:889}{s:2,t:3,amount:160}",
+        ],
+    ),
+    (
+        (4, 5, 2),
+        [
+            "{s:1,t:1,amount:193}{s:1,t:2,amount:873}",
+            "{s:2,t:1,amount:386}{s:2,t:2,amount:39}",
+            "{s:3,t:1,amount:224}{s:3,t:2,amount:602}",
+            "{s:4,t:1,amount:34}{s:4,t:2,amount:550}",
+            "{s:5,t:1,amount:166}{s:5,t:2,amount:349}",
+        ],
+    ),
+    (
+        (18446744073709551615, 2, 2),
+        ["{s:1,t:1,amount:378}{s:1,t:2,amount:634}", "{s:2,t:1,amount:752}{s:2,t:2,amount:806}"],
+    ),
+]
+
 # rules that deny what reads the table `denied`
 RULES = b"""{some:[{rule:"all",effect:allow,actions:[PartiQLSelect,PartiQLCreateTable],tables:["*"]},
   {rule:"none",effect:deny,actions:[PartiQLSelect],tables:["denied"]}]}"""
@@ -72,9 +100,9 @@ def number_of(id):
     return number >> 24
 
 
-def first_line():
-    """The line of the first block by a script that shares nothing with the program."""
-    printed = subprocess.run([sys.executable, VECTORS], capture_output=True, check=True, timeout=60).stdout
+def line_of(script):
+    """The line of a block that a script prints last, which shares nothing with the program."""
+    printed = subprocess.run([sys.executable, script], capture_output=True, check=True, timeout=60).stdout
     return printed.splitlines(keepends=True)[-1]
 
 
@@ -163,6 +191,30 @@ def ends(program):
         check(number == following, f"{statements}: the number {following} comes next, and not {number}")
 
 
+def last_number(program):
+    """Behind the block of the last transaction that there can be no transaction begins, and the journal stays."""
+    line = line_of(LAST_NUMBER)
+    program.put("last", line)
+    told = program.run("last", RUN, b'[{statements:["SELECT * FROM t"]}]')
+    spent = b"{session:1,transaction:1,outcome:ids_spent,last:18446744073709551615}\n"
+    check(told == (0, spent), f"no number is left behind the last one: {told}")
+    check(program.left("last") == line, "the journal of the last number")
+
+
+def made(program):
+    """A made workload creates a table and its index, and inserts the documents of its seed, session by session."""
+    for (seed, sessions, transactions), documents in MADE:
+        journal = f"made{seed}"
+        numbers = ["--seed", str(seed), "--sessions", str(sessions), "--transactions", str(transactions), "--workers", "1"]
+        status, told = program.run(journal, ["make", *numbers])
+        first, *others = program.left(journal).decode().splitlines()
+        check(status == 0 and len(others) == sessions * transactions, f"a workload is made: {status}, {told}")
+        statements = re.findall(r'statement:"(.*?)"', first)
+        check(statements == ["CREATE TABLE made", "CREATE INDEX ON made (s)"], f"the first statements: {statements}")
+        found = "".join("".join(re.findall(r",data:(\{.*?\})", line)) for line in others)
+        check(found == "".join(documents), f"the documents of the seed {seed}: {found}")
+
+
 def sessions(program):
     """Three sessions that several workers run are told in order, each of them committed."""
     script = b"".join(b'[{statements:["CREATE TABLE %s"]}]' % name for name in (b"a", b"b", b"c"))
@@ -216,11 +268,13 @@ def contents(program):
 def main():
     with tempfile.TemporaryDirectory() as folder:
         program = Program(os.path.abspath(sys.argv[1] if len(sys.argv) > 1 else PROGRAM), folder)
-        line = first_line()
+        line = line_of(VECTORS)
         digests(program)
         lines(program, line)
         files(program, line)
         ends(program)
+        last_number(program)
+        made(program)
         sessions(program)
         parts(program)
         contents(program)

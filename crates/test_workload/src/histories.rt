@@ -240,11 +240,16 @@ create made 1, put {amount:18446744073709551615} 1 11, put {amount:1,amount:5} 1
     > {blocks:1,documents:2,total:18446744073709551616}";
 
 /// The first row that doesn't come out as it says.
-pub(crate) fn failing(alloc: Global) -> Option<&'static str> {
+fn failing(alloc: Global) -> Option<&'static str> {
     for row in ROWS.lines() {
         if !row.starts_with("#") && holds(alloc, row) != Some(true) {
             return Some(row);
         }
     }
     None
+}
+
+#[test]
+fn histories_add_up(rt: HostRuntime) {
+    assert_eq!(rt; failing(rt.alloc()), None);
 }

@@ -1,11 +1,5 @@
-//! Tests of made workloads: their amounts, and what histories add up to.
+//! Tests of what histories add up to. tests/journal_rows.py has the documents of made workloads.
 #![tactic(auto)]
 
 #[cfg(test)]
-mod amounts;
-#[cfg(test)]
-mod first;
-#[cfg(test)]
 mod histories;
-#[cfg(test)]
-mod tables;
