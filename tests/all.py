@@ -27,6 +27,7 @@ NOT_TESTS = ["all.py", "rows.py", "running.py", "edits.py"]
 OTHER_WORDS = {"contended.py": ["40"]}
 OTHER_SECONDS = {
     "clients.py": 240,
+    "commands.py": 240,
     "crash_images.py": 240,
     "deb.py": 240,
     "distribution.py": 400,

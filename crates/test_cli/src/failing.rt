@@ -14,7 +14,8 @@ frobnicate|@FIRST@||w0|1|=
 audit|@FIRST@||r0 w0|6|="#;
 
 /// Stores that fail at a call, and a question that isn't answered. The call is the size, the append, the sync, the cut
-/// after one of these, which is done or not, or the sync after the cut. If nothing fails the script is committed.
+/// after one of these, which is done or not, or the sync after the cut. If nothing fails the script is committed, also
+/// at the time that the clock answers.
 pub const STORES: &str = r#"@RUN@|@FIRST@||s0 s9|5 {status:5,faults:1}|=
 @RUN@|@FIRST@||s1 s9|0 @STORE_FAULT@|=
 @RUN@|@FIRST@||s1:10 s9|0 @STORE_FAULT@|=
@@ -28,11 +29,15 @@ pub const STORES: &str = r#"@RUN@|@FIRST@||s0 s9|5 {status:5,faults:1}|=
 @RUN@|@FIRST@||s1:10 s1|5 {status:5,faults:2}|=
 @RUN@|@FIRST@||s2 s1|5 {status:5,faults:2}|=
 @RUN@|@FIRST@|||0 @COMMITTED@|@FIRST_LINE@
+run --plain-ids|@FIRST@|||0 @COMMITTED@|@FIRST_LINE@
 digest||@FIRST_LINE@|s0|5 {status:5,faults:1}|=
 prove 0 0||@FIRST_LINE@|s0|5 {status:5,faults:1}|=
 audit||@FIRST_LINE@|s0|5 {status:5,faults:1}|="#;
 
-/// Three transactions of a table.
+/// Two transactions of a table.
+pub const TWO: &str = "[{statements:[\"CREATE TABLE t\"]},{statements:[\"SELECT * FROM t\"]}]";
+
+/// Three of them.
 pub const THREE: &str =
     "[{statements:[\"CREATE TABLE t\"]},{statements:[\"SELECT * FROM t\"]},{statements:[\"SELECT * FROM t\"]}]";
 
@@ -52,4 +57,15 @@ pub const MENDED_BY_SETTLE: &str =
 /// end takes the line.
 pub const MENDED: &str = r#"@RUN@|@THREE@||s4|0 @MENDED_LATER@|#2
 @RUN@|@THREE@||s4 s0 s0|5 {status:5,faults:3}|#2
-@RUN@|@THREE~,{statements:["SELECT * FROM t"]}]>]@||s4|0 @MENDED_BY_SETTLE@|#1"#;
+@RUN@|@TWO@||s4|0 @MENDED_BY_SETTLE@|#1"#;
+
+/// The first record of a stream.
+pub const FIRST_RECORD: &str = r#"{recordType:"CONTROL",payload:{controlRecordType:"CREATED"}}"#;
+
+/// Stores of other commands that fail, and those that aren't called; and a sink that fails behind the first record.
+pub const OTHERS: &str = r#"compact||@ONE_BLOCK@|s0|5 {status:5,faults:1}|=
+extract|5|@LINE_FEED@|s0|7 {status:7,fault:{code:1,field:"count"}}|=
+extract|@ONE_BUNDLE@|@ONE_BLOCK@|s0|5 {status:5,faults:1}|=
+stream --to 9||@ONE_BLOCK@|s0|5 {status:5,faults:1}|=
+stream||@ONE_BLOCK@|w1|6 @FIRST_RECORD@|=
+replay|@FIRST_RECORD@|@LINE_FEED@|s0|0|="#;

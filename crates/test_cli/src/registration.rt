@@ -1,5 +1,5 @@
-//! The registration of a vehicle: four transactions, of which each is a block, and the commands on their journal.
-use crate::commands::{Given, ask, run, unfailing};
+//! The registration of a vehicle: four transactions, of which each is a block, on stores that fail.
+use crate::commands::{Given, ask, run};
 use crate::runs::RUN;
 use std::alloc::Global;
 use std::sync::Wait;
@@ -18,50 +18,6 @@ const REGISTRATION: &str =
     INSERT INTO r.Owners.SecondaryOwners VALUE {'PersonId': 'p3'}\"]},\n\
     {statements:[\"SELECT h.metadata.version, h.data.Owners.PrimaryOwner.PersonId AS owner \
     FROM history(VehicleRegistration) AS h WHERE h.metadata.id = '000000000000000002Gn2Y'\"]}]\n";
-
-const REGISTERED: &str =
-    "0 {session:1,transaction:1,outcome:committed,tx:\"0000000000000000018OWG\",block:0,answers:[[{tableId:\"0000000000000000018OWH\"}],[{tableId:\"0000000000000000018OWI\"}],[{tableId:\"0000000000000000018OWH\"}],[{tableId:\"0000000000000000018OWI\"}]]}\n\
-    {session:1,transaction:2,outcome:committed,tx:\"000000000000000002Gn2W\",block:1,answers:[[{documentId:\"000000000000000002Gn2X\"}],[{documentId:\"000000000000000002Gn2Y\"}]]}\n\
-    {session:1,transaction:3,outcome:committed,tx:\"000000000000000003PBYm\",block:2,answers:[[{Make:\"Audi\",City:\"Seattle\"}],[{documentId:\"000000000000000002Gn2Y\"}],[{documentId:\"000000000000000002Gn2Y\"}]]}\n\
-    {session:1,transaction:4,outcome:committed,tx:\"000000000000000004Xa52\",block:3,answers:[[{version:0,owner:\"p1\"},{version:1,owner:\"p2\"}]]}\n";
-
-/// Whether the proof of the change begins with the digest, and is accepted.
-fn is_proved<R: Threads + Wait + Sync>(rt: &R, alloc: Global, held: &[u8]) -> Option<bool> {
-    let proof = ask(rt, alloc, "prove 2 0", "", held)?;
-    if !is_accepted(rt, alloc, proof.as_str())? {
-        return Some(false);
-    }
-    let digest = ask(rt, alloc, "digest", "", held)?;
-    Some(proof.as_str().starts_with(digest.as_str()))
-}
-
-fn is_accepted<R: Threads + Wait + Sync>(rt: &R, alloc: Global, proof: &str) -> Option<bool> {
-    let bundle = proof.strip_prefix("0 ")?;
-    let verdict = ask(rt, alloc, "verify", bundle, b"")?;
-    Some(verdict.as_str() == "0 {verified:true}\n")
-}
-
-/// Whether the registration is reported so, its journal counts these blocks and revisions, and the proof of the
-/// change is accepted.
-fn is_registered<R: Threads + Wait + Sync>(rt: &R, alloc: Global) -> Option<bool> {
-    let left = run(rt, alloc, &unfailing(RUN, REGISTRATION, b""))?;
-    let is_asked_right = is_asked_right(rt, alloc, left.held.as_slice());
-    Some(is_asked_right && left.told.as_str() == REGISTERED)
-}
-
-fn is_asked_right<R: Threads + Wait + Sync>(rt: &R, alloc: Global, held: &[u8]) -> bool {
-    is_counted(rt, alloc, held) == Some(true) && is_proved(rt, alloc, held) == Some(true)
-}
-
-fn is_counted<R: Threads + Wait + Sync>(rt: &R, alloc: Global, held: &[u8]) -> Option<bool> {
-    let counted = ask(rt, alloc, "audit", "", held)?;
-    Some(counted.as_str() == "0 {blocks:4,revisions:3}\n")
-}
-
-#[test]
-fn a_vehicle_is_registered(rt: HostRuntime) {
-    assert!(rt; is_registered(&rt, rt.alloc()) == Some(true));
-}
 
 /// How many bytes a failing append leaves: none, some, and all of a line.
 const KEPT: [u64; 3] = [0, 10, 9999];
