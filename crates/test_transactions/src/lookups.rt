@@ -69,8 +69,11 @@ fn is_made(version: &Versions, table: TableId, name: &str) -> bool {
 }
 
 /// Whether the table is the active one of the name.
-fn is_called(version: &Versions, table: TableId, name: &Text) -> bool {
-    match version.table(name) {
+fn is_called(alloc: Global, version: &Version, table: TableId, name: &str) -> bool {
+    let Ok(name) = Text::from_text(alloc, name) else {
+        return false;
+    };
+    match version.get().table(&name) {
         Some(found) => found.raw == table.raw,
         None => false,
     }
@@ -216,16 +219,19 @@ fn has_documents(alloc: Global, version: &Version, ids: &str) -> Option<bool> {
     Some(told.as_str() == ids)
 }
 
-/// Whether `t1` has these documents behind the blocks, and those before, of which a share has them too.
+/// Whether the version has these documents in `t1`.
+fn are_documents(alloc: Global, version: &Version, ids: &str) -> bool {
+    has_documents(alloc, version, ids) == Some(true)
+}
+
+/// Whether `t1` has the documents `then` behind the blocks, and a version, and a share of it, those of `ids` before.
 fn are_behind(alloc: Global, journal: &str, ids: &str, blocks: &str, then: &str) -> Option<bool> {
     let version = version_of(alloc, journal)?;
     let share = version.share(alloc)?;
     let later = continued(alloc, &version, blocks)?;
-    let name = Text::from_text(alloc, "t1").ok()?;
-    let is_as_before = has_documents(alloc, &version, ids)?;
-    let is_shared = has_documents(alloc, &share, ids)?;
-    let is_later = has_documents(alloc, &later, then)?;
-    Some(is_as_before && is_shared && is_later && is_called(later.get(), ONE, &name))
+    let are_before = are_documents(alloc, &version, ids) && are_documents(alloc, &share, ids);
+    let are_later = are_documents(alloc, &later, then) && is_called(alloc, &later, ONE, "t1");
+    Some(are_before && are_later)
 }
 
 /// Whether a version, and a share of it, stays as it was behind a block more.
@@ -263,20 +269,18 @@ fn are_copied(alloc: Global) -> Option<bool> {
     let version = version_of(alloc, "tables 2, index a 1 / put 1 2 0 1 {a:1}")?;
     let share = version.share(alloc)?;
     let page = page_of(alloc, "drop t0 0, index b 1")?;
-    let name = Text::from_text(alloc, "t0").ok()?;
-    let are_changed = are_copies_changed(alloc, &version, &page)
-        && are_copies_changed(alloc, &share, &page);
-    Some(
-        are_changed && is_called(version.get(), ZERO, &name) && is_called(share.get(), ZERO, &name),
-    )
+    let is_changed = are_copies_changed(alloc, &version, &page)
+        && is_called(alloc, &version, ZERO, "t0");
+    let is_shared = are_copies_changed(alloc, &share, &page)
+        && is_called(alloc, &share, ZERO, "t0");
+    Some(is_changed && is_shared)
 }
 
 /// Whether the version with a dropped table, and a share of it, tells so.
 fn are_dropped_told(alloc: Global) -> Option<bool> {
     let version = version_of(alloc, DROPPED)?;
     let share = version.share(alloc)?;
-    let is_told = is_dropped(alloc, &version)?;
-    Some(is_told && is_dropped(alloc, &share)?)
+    Some(is_dropped(alloc, &version) == Some(true) && is_dropped(alloc, &share) == Some(true))
 }
 
 /// Whether the version with a changed document, and a share of it, shows so.
