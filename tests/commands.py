@@ -14,8 +14,10 @@ there, `>`, and what takes its place; between changes stands `;`. `let NAME = TE
 with the output or nothing behind it, or `*` for anything. What the journal holds then is `=` for what it held, `!` for anything else,
 `*` for anything, `#` with a count of lines, `^` with its beginning, or all of it.
 
-Some rows are told in short: `refused|STATEMENTS = NUMBER = CAUSE`, `selected|SELECT => ANSWER` of two tables, and `verdict|CHANGES|TOLD`
-of a bundle that is verified.
+Some rows are told in short: `refused|STATEMENTS = NUMBER = CAUSE`, `selected|SELECT => ANSWER` of two tables, `verdict|CHANGES|TOLD`
+of a bundle that is verified, and `bad|VALUE = KIND` of a value that is no set of rules. `rules RULES` tells those of the rows after it
+that are `denied|SESSION STATEMENTS is NUMBER ACTION TABLE by RULE`, or `is none`; between statements stands ` then `, and ` of ` before
+a statement's parameters.
 """
 import os
 import re
@@ -47,6 +49,8 @@ SELECTED = (
     f'tx:"0000000000000000018OWG",block:0,answers:[{TWO_MADE},[%s]]}}|*'
 )
 VERDICT = "verify|@HONEST~%s@|@LINE_FEED@||%s|="
+BAD = "@RUN@ --rules r|%s|||2 {status:2,fault:{kind:%s}}|="
+DENIED = re.compile(r'outcome:denied,statement:(\d+),action:(\w+),table:"(.*?)",rule:(?:null|"(.*?)")\}')
 
 # nine sessions on one table, of two transactions each, that all read what all others write, and may try again
 CONTENDED = "\n".join(
@@ -97,8 +101,9 @@ def in_full(row):
     if kind == "selected":
         return SELECTED % tuple(rest.split(" => "))
     if kind == "verdict":
-        changes, _, told = rest.partition("|")
-        return VERDICT % (changes, told)
+        return VERDICT % tuple(rest.split("|"))
+    if kind == "bad":
+        return BAD % tuple(rest.split(" = "))
     return row
 
 
@@ -151,14 +156,40 @@ def holds(program, texts, row):
     return True
 
 
+def statement_of(told):
+    """The statement that a row tells with its parameters."""
+    text, _, params = told.partition(" of ")
+    quoted = text.replace("\\", "\\\\").replace('"', '\\"')
+    return '{text:"%s",params:[%s]}' % (quoted, ",".join(params.split(" ")))
+
+
+def is_denied(program, rules, row):
+    """Whether the rules deny of a session's statements what the row says."""
+    told, _, wanted = row.removeprefix("denied|").partition(" is ")
+    session, _, statements = told.partition(" ")
+    statements = ",".join(statement_of(it) for it in statements.split(" then ")) if statements else ""
+    script = rules + "[]" * (int(session) - 1) + "[{statements:[%s]}]" % statements
+    status, report = program.run("denied", [*RUN, "--rules", "r"], script.encode())
+    denial = DENIED.search(report.decode())
+    found = "{} {} {} by {}".format(*denial.groups("no rule")) if denial else "none"
+    if (status, found) != (0, wanted):
+        print(f"{status}, {found}, and not as the row says: {row[:300]}")
+    return (status, found) == (0, wanted)
+
+
 def all_rows(program, texts, lines):
     """How many rows there are, each of which comes out as it says."""
-    held = []
+    held, rules = [], ""
     for line in lines:
-        if line.startswith("let "):
-            name, _, text = line.removeprefix("let ").partition(" = ")
+        word, _, rest = line.partition(" ")
+        if word == "let":
+            name, _, text = rest.partition(" = ")
             texts.named[name] = texts.spelled(text)
-        elif not line.startswith("# "):
+        elif word == "rules":
+            rules = rest
+        elif line.startswith("denied|"):
+            held.append(is_denied(program, rules, line))
+        elif word != "#":
             held.append(holds(program, texts, line))
     if not all(held):
         sys.exit(1)

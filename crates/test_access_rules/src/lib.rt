@@ -1,13 +1,9 @@
-//! Tests of permissions: what statements demand, what rules allow, what of transactions is denied, and which values are
-//! sets of rules.
+//! Tests of permissions: what statements demand, and what sets of rules are read as. tests/commands.py has rows of what
+//! rules deny, and of values that are no sets of rules.
 #![tactic(auto)]
 
 #[cfg(test)]
 mod demanded;
-#[cfg(test)]
-mod denied;
-#[cfg(test)]
-mod judged;
 #[cfg(test)]
 mod reading;
 #[cfg(test)]

@@ -1,7 +1,6 @@
-//! Which values are sets of rules. A row of a table is a value, and after ` is` the rules of its set `r` or why there
-//! are none. A row of the last table is the fields of the only rule of that set.
-use crate::reading::values;
-use access_rules::{Action, Rule, RulesAnswer, Sessions, read_rules};
+//! What sets of rules are read as. A row is a value, and after ` is` the rules of its set `r`.
+use crate::reading::rules_of;
+use access_rules::{Action, Rule, Sessions};
 use ion_values::Text;
 use std::alloc::Global;
 
@@ -16,73 +15,6 @@ pub(crate) const GOOD: &str = r#"{r:[]} is
 {'r' : [{"rule":'''x''',effect:'allow',actions:['PartiQLSelect'],tables:["t"]}], /* s */ s:[]} is x allow PartiQLSelect on t;
 {r:[{rule:"all",effect:allow,actions:[PartiQLSelect,PartiQLInsert,PartiQLUpdate,PartiQLDelete,PartiQLCreateTable,PartiQLCreateIndex,PartiQLDropTable,PartiQLHistoryFunction,PartiQLRedact],tables:["*"]}]} is all allow PartiQLSelect PartiQLInsert PartiQLUpdate PartiQLDelete PartiQLCreateTable PartiQLCreateIndex PartiQLDropTable PartiQLHistoryFunction PartiQLRedact on *;
 {a:[{rule:"y",effect:deny,actions:[],tables:[]}],r:[{rule:"x",effect:allow,actions:[],tables:[]}],R:[]} is x allow on;"#;
-
-/// Values that are none.
-pub(crate) const BAD: &str = r#"5 is BadRules
-[] is BadRules
-[{statements:["SELECT * FROM t"]}] is BadRules
-null is BadRules
-null.struct is BadRules
-x::{r:[]} is BadRules
-{r:[],r:[]} is BadRules
-{r:[],s:[],s:[]} is BadRules
-{s:[],t:[],u:[],s:[]} is BadRules
-{r:{rule:"x",effect:allow,actions:[PartiQLSelect],tables:["t"]}} is BadRules
-{r:({rule:"x",effect:allow,actions:[PartiQLSelect],tables:["t"]})} is BadRules
-{r:null.list} is BadRules
-{r:x::[]} is BadRules
-{r:[[]]} is BadRules
-{r:[null.struct]} is BadRules
-{r:[x::{rule:"x",effect:allow,actions:[PartiQLSelect],tables:["t"]}]} is BadRules
-{r:[],s:[{rule:"x",effect:allow,actions:[PartiQLSelect],tables:["t"]},{rule:"y"}]} is BadRules
-{s:[{}],r:[]} is BadRules
-{s:5} is BadRules
-{} is NoSuchRules
-{s:[]} is NoSuchRules
-{R:[],'r ':[]} is NoSuchRules
-{s:[{rule:"r",effect:allow,actions:[PartiQLSelect],tables:["t"]}]} is NoSuchRules"#;
-
-/// Structs that are no rules.
-pub(crate) const NO_RULES: &str = r#"effect:allow,actions:[PartiQLSelect],tables:["t"] is BadRules
-rule:"x",actions:[PartiQLSelect],tables:["t"] is BadRules
-rule:"x",effect:allow,tables:["t"] is BadRules
-rule:"x",effect:allow,actions:[PartiQLSelect] is BadRules
-rule:"x",rule:"x",effect:allow,actions:[PartiQLSelect],tables:["t"] is BadRules
-rule:"x",effect:allow,effect:allow,actions:[PartiQLSelect],tables:["t"] is BadRules
-rule:"x",effect:allow,actions:[PartiQLSelect],tables:["t"],sessions:[1],sessions:[1] is BadRules
-rule:x,effect:allow,actions:[PartiQLSelect],tables:["t"] is BadRules
-rule:null.string,effect:allow,actions:[PartiQLSelect],tables:["t"] is BadRules
-rule:y::"x",effect:allow,actions:[PartiQLSelect],tables:["t"] is BadRules
-rule:"x",effect:"allow",actions:[PartiQLSelect],tables:["t"] is BadRules
-rule:"x",effect:permit,actions:[PartiQLSelect],tables:["t"] is BadRules
-rule:"x",effect:ALLOW,actions:[PartiQLSelect],tables:["t"] is BadRules
-rule:"x",effect:x::allow,actions:[PartiQLSelect],tables:["t"] is BadRules
-rule:"x",effect:null.symbol,actions:[PartiQLSelect],tables:["t"] is BadRules
-rule:"x",effect:allow,actions:PartiQLSelect,tables:["t"] is BadRules
-rule:"x",effect:allow,actions:(PartiQLSelect),tables:["t"] is BadRules
-rule:"x",effect:allow,actions:null.list,tables:["t"] is BadRules
-rule:"x",effect:allow,actions:x::[PartiQLSelect],tables:["t"] is BadRules
-rule:"x",effect:allow,actions:["PartiQLSelect"],tables:["t"] is BadRules
-rule:"x",effect:allow,actions:[PartiQLSelect,PartiQLUndrop],tables:["t"] is BadRules
-rule:"x",effect:allow,actions:[partiqlselect],tables:["t"] is BadRules
-rule:"x",effect:allow,actions:[x::PartiQLSelect],tables:["t"] is BadRules
-rule:"x",effect:allow,actions:['*'],tables:["t"] is BadRules
-rule:"x",effect:allow,actions:[PartiQLSelect],tables:"t" is BadRules
-rule:"x",effect:allow,actions:[PartiQLSelect],tables:[t] is BadRules
-rule:"x",effect:allow,actions:[PartiQLSelect],tables:[null.string] is BadRules
-rule:"x",effect:allow,actions:[PartiQLSelect],tables:[x::"t"] is BadRules
-rule:"x",effect:allow,actions:[PartiQLSelect],tables:x::["t"] is BadRules
-rule:"x",effect:allow,actions:[PartiQLSelect],tables:["t"],sessions:[0] is BadRules
-rule:"x",effect:allow,actions:[PartiQLSelect],tables:["t"],sessions:[1,1025] is BadRules
-rule:"x",effect:allow,actions:[PartiQLSelect],tables:["t"],sessions:[-1] is BadRules
-rule:"x",effect:allow,actions:[PartiQLSelect],tables:["t"],sessions:[1.] is BadRules
-rule:"x",effect:allow,actions:[PartiQLSelect],tables:["t"],sessions:[4294967297] is BadRules
-rule:"x",effect:allow,actions:[PartiQLSelect],tables:["t"],sessions:[170141183460469231731687303715884105727] is BadRules
-rule:"x",effect:allow,actions:[PartiQLSelect],tables:["t"],sessions:null is BadRules
-rule:"x",effect:allow,actions:[PartiQLSelect],tables:["t"],sessions:1 is BadRules
-rule:"x",effect:allow,actions:[PartiQLSelect],tables:["t"],sessions:[x::1] is BadRules
-rule:"x",effect:allow,actions:[PartiQLSelect],tables:["t"],more:1 is BadRules
-rule:"x",effect:allow,actions:[PartiQLSelect],tables:["t"],Sessions:[1] is BadRules"#;
 
 fn put_actions(out: &mut String, actions: &[Action]) -> Option<()> {
     for action in actions {
@@ -135,29 +67,10 @@ fn put_rules(alloc: Global, out: &mut String, rules: &[Rule]) -> Option<()> {
     Some(())
 }
 
-fn refusal(answer: RulesAnswer) -> Option<&'static str> {
-    match answer {
-        RulesAnswer::BadRules => Some(" BadRules"),
-        RulesAnswer::NoSuchRules => Some(" NoSuchRules"),
-        RulesAnswer::OutOfMemory => None,
-    }
-}
-
-/// The rules of the set `r`, each after a space, or why there are none.
+/// The rules of the set `r`, each after a space.
 pub(crate) fn read(alloc: Global, text: &str) -> Option<String> {
-    let values = values(alloc, text)?;
+    let rules = rules_of(alloc, text)?;
     let mut out = String::new(alloc);
-    match read_rules(alloc, values.as_slice().first()?, "r") {
-        Ok(rules) => put_rules(alloc, &mut out, rules.as_slice())?,
-        Err(answer) => out.push_str(refusal(answer)?).ok()?,
-    }
+    put_rules(alloc, &mut out, rules.as_slice())?;
     Some(out)
-}
-
-/// What the set `r` is read as, which has one rule with these fields.
-pub(crate) fn read_rule(alloc: Global, fields: &str) -> Option<String> {
-    let mut text = String::from_str(alloc, "{r:[{").ok()?;
-    text.push_str(fields).ok()?;
-    text.push_str("}]}").ok()?;
-    read(alloc, text.as_str())
 }
