@@ -147,7 +147,7 @@ def holds(program, texts, row):
         program.put("row", held)
     found = told_by(*run(program, texts.spelled(words).split(" "), texts.spelled(given).encode(), fails))
     left = program.left("row")
-    if told not in ("*", found) and found != texts.spelled(told):
+    if told != "*" and found != texts.spelled(told):
         print(f"{found[:300]}, and not as the row says: {row[:300]}")
         return False
     if not is_left(texts, left, held, wanted):
@@ -169,6 +169,7 @@ def is_denied(program, rules, row):
     session, _, statements = told.partition(" ")
     statements = ",".join(statement_of(it) for it in statements.split(" then ")) if statements else ""
     script = rules + "[]" * (int(session) - 1) + "[{statements:[%s]}]" % statements
+    program.put("denied", b"")
     status, report = program.run("denied", [*RUN, "--rules", "r"], script.encode())
     denial = DENIED.search(report.decode())
     found = "{} {} {} by {}".format(*denial.groups("no rule")) if denial else "none"
