@@ -1,5 +1,5 @@
 //! Rows that are made behind combinations, and what aggregates come to as rows come.
-ghost use Rattle.std.specs.Prelude.{◌≡◌, List, IfSome};
+ghost use Rattle.std.specs.Prelude.{◌≡◌, List, IfOk, IfSome};
 ghost use Rattle.ion_values.specs.declared.value.Value as value;
 ghost use Rattle.pql_model.specs.declared.statement.FromClause as clause;
 ghost use Rattle.pql_from.specs.Behind.{AreReady};
@@ -9,7 +9,7 @@ ghost use Rattle.pql_from.specs.Joins.{JoinsHold};
 use crate::parsing::{select_of, selecting, statement};
 use crate::rows::{put_scopes, scopes, shelf_of};
 use crate::shelf::Shelf;
-use ion_values::{Field, Text, Value};
+use ion_values::{Field, OutOfMemory, Text, Value};
 use pql_from::{Given, Parts, parts_over, source_rows};
 use pql_model::{FromClause, Probe, Select, SelectItem, Source, Statement};
 use pql_select::Tallies;
@@ -17,25 +17,29 @@ use std::alloc::Global;
 use test_rows::{list_in, named, put_number, put_value, text_in};
 
 /// Each source with all rows of its table.
-fn all_given<'a>(alloc: Global, sources: &'a [Source], shelf: &Shelf) -> Option<Vec<Given<'a>>>
-    ensures sources { IfSome result (λ given. sources_of given.items ≡ sources.now) }
-    ensures joins { IfSome result (λ given. (params : List value.Value) (from : clause.FromClause) →
+fn all_given<'a>(
+    alloc: Global,
+    sources: &'a [Source],
+    shelf: &Shelf,
+) -> Result<Vec<Given<'a>>, OutOfMemory>
+    ensures sources { IfOk result (λ given. sources_of given.items ≡ sources.now) }
+    ensures joins { IfOk result (λ given. (params : List value.Value) (from : clause.FromClause) →
         JoinsHold params from 0 (joins_of given.items)) }
 {
     let mut given = Vec::new(alloc);
     'sources: for source in sources {
-        let rows = source_rows(alloc, shelf, &source.from, &[], &Probe::All).ok()?;
+        let rows = source_rows(alloc, shelf, &source.from, &[], &Probe::All)?;
         let join = None;
-        given.push(Given { source, rows, join }).ok()?;
+        given.push(Given { source, rows, join })?;
     }
-    Some(given)
+    Ok(given)
 }
 
 /// The rows of the clause, in parts.
 fn parts_of<'a>(alloc: Global, from: &'a FromClause, shelf: &Shelf) -> Option<Parts<'a>>
     ensures { IfSome result AreReady }
 {
-    let given = all_given(alloc, from.sources.as_slice(), shelf)?;
+    let given = all_given(alloc, from.sources.as_slice(), shelf).ok()?;
     parts_over(alloc, from, given, &[]).ok()
 }
 
