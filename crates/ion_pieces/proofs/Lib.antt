@@ -1,0 +1,5 @@
+pub mod Kept
+pub mod Quoted
+pub mod Stays
+pub mod FramesWithin
+pub mod Led
