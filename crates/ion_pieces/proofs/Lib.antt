@@ -3,3 +3,4 @@ pub mod Quoted
 pub mod Stays
 pub mod FramesWithin
 pub mod Led
+pub mod Steps

@@ -8,6 +8,7 @@ use Rattle.ion_model.specs.Table.{Open}
 use Rattle.ion_model.specs.declared.Lexed.{Lexed}
 use Rattle.ion_model.specs.declared.Lexed.TheVariants as lexed
 use Rattle.ion_text.specs.Stream.{open_of}
+use Rattle.ion_text.specs.declared.stream.reader.Reader.{Reader}
 use Rattle.ion_pieces.specs.declared.tokens.Stop.{Stop}
 use Rattle.ion_pieces.specs.declared.tokens.Stop.TheVariants as stop
 
@@ -36,10 +37,9 @@ abbrev pub may_go_on : Lexed → ℕ → Bool
 may_go_on (lexed.Blank more) len = nat_lt 0 more && more + 1 == len
 may_go_on _ len = false
 
--- what stands in front, whatever follows; nothing is known where more is wanted
+-- what stands in front, whatever follows; where more is wanted the whole text is cut
 abbrev pub Stands : Bool → List ℕ → Lexed → Type 0
-Stands true z lexed.Cut = lex z ≡ lexed.Cut
-Stands false z lexed.Cut = Unit {0}
+Stands whole z lexed.Cut = whole ≡ true → lex z ≡ lexed.Cut
 Stands whole z l = (span_of l ≤ length z) × ((more : List ℕ) → MayFollow whole more → lex (z ++ more) ≡ l)
 
 -- whatever follows, these containers are open behind so many bytes, or the text is refused there
@@ -51,3 +51,8 @@ Stops depth fs whole z (stop.Waits frames passed) =
     × (whole ≡ true → passed < length z → lex (drop passed z) ≡ lexed.Cut)
 Stops depth fs whole z (stop.Refused place kind) =
     (at : ℕ) (more : List ℕ) → MayFollow whole more → run depth 0 at fs (z ++ more) ≡ refused (at + place) kind
+
+-- the containers of a reader wait behind so many bytes
+abbrev pub WaitsWith : Reader → ℕ → Stop → Type 0
+WaitsWith reader passed (stop.Waits frames n) = (frames.reader ≡ reader) × (n ≡ passed)
+WaitsWith reader passed (stop.Refused place kind) = ⊥

@@ -3,7 +3,7 @@ ghost use Rattle.std.specs.Prelude.{◌≡◌, ◌≤◌, true, IfOk};
 ghost use Rattle.ion_model.specs.Spans.{span_of};
 ghost use Rattle.ion_text.specs.Stream.{open_of};
 ghost use Rattle.ion_pieces.specs.Frames.{frames_within};
-ghost use Rattle.ion_pieces.specs.Fronts.{may_go_on, IsFront, Stands, Stops};
+ghost use Rattle.ion_pieces.specs.Fronts.{may_go_on, IsFront, Stands, Stops, WaitsWith};
 
 use crate::frames::Frames;
 use ion_lexer::lex;
@@ -76,6 +76,7 @@ pub fn read_tokens(
 /// The containers that are open behind so many bytes.
 fn waits(reader: Reader, passed: usize) -> Stop
     requires { frames_within (open_of reader) ≡ true }
+    ensures { WaitsWith reader passed result }
 {
     Stop::Waits {
         frames: Frames::of(reader),

@@ -36,9 +36,9 @@ first_within vs inner f g (h ∷ xs) some is both =
 pub returns-in-Some-clause-led : goal.returns-in-Some-clause-led
 returns-in-Some-clause-led c =
     first_led c.take_values.result c.args.reader.now.inner c.in-Some.outermost.now c.take_values.new.frame c.args.reader.now.outer.items
-    (c.in-Some.ensures.variant.0 refl) c.in-Some.ensures.value c.take_values.ensures.led
+    c.in-Some.ensures.item.3.0 c.in-Some.ensures.value c.take_values.ensures.led
 
 pub returns-in-Some-clause-within : goal.returns-in-Some-clause-within
 returns-in-Some-clause-within c =
     first_within c.take_values.result c.args.reader.now.inner c.in-Some.outermost.now c.take_values.new.frame c.args.reader.now.outer.items
-    (c.in-Some.ensures.variant.0 refl) c.in-Some.ensures.value c.take_values.ensures.within
+    c.in-Some.ensures.item.3.0 c.in-Some.ensures.value c.take_values.ensures.within

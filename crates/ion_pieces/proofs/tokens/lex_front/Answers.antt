@@ -16,7 +16,7 @@ alone : (z more : List ℕ) (l : Lexed) → l ≡ lex z → more ≡ [] → lex 
 alone z more l is none = rw none (ap lex (append-nil z) ∙ sym is)
 
 whole_stands : (z : List ℕ) (l : Lexed) → l ≡ lex z → span_of l ≤ length z → Stands true z l
-whole_stands z lexed.Cut is room = sym is
+whole_stands z lexed.Cut is room = λ _. sym is
 whole_stands z (lexed.Blank more) is room = (room, λ rest none. alone z rest (lexed.Blank more) is none)
 whole_stands z (lexed.Token t more) is room = (room, λ rest none. alone z rest (lexed.Token t more) is none)
 whole_stands z (lexed.Refused k) is room = (room, λ rest none. alone z rest (lexed.Refused k) is none)
@@ -31,7 +31,7 @@ goes_not_on : (more len : ℕ) → more + 1 ≤ len → (nat_lt 0 more && (more 
 goes_not_on more len room other some = grind (arith, and_cases, eqb-false, ltb-false)
 
 front_stands : (z : List ℕ) (l : Lexed) → EndsWhite z → l ≡ lex z → span_of l ≤ length z → may_go_on l (length z) ≡ false → Stands false z l
-front_stands z lexed.Cut ends is room done = tt
+front_stands z lexed.Cut ends is room done = λ no. absurd (cc)
 front_stands z (lexed.Blank more) ends is room done =
     (room, λ rest _. subst (λ l. Stays (length z) l (lex (z ++ rest))) (sym is) (stays z rest ends) (goes_not_on more (length z) room done))
 front_stands z (lexed.Token t more) ends is room done = (room, λ rest _. subst (λ l. Stays (length z) l (lex (z ++ rest))) (sym is) (stays z rest ends))
