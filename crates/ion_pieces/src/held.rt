@@ -59,7 +59,10 @@ impl Held {
     {
         let end = sum(self.at, self.bytes.len())?;
         match check_utf8(end, more) {
-            Ok(()) => self.take_utf8(alloc, depth, more),
+            Ok(()) => {
+                let new = self.take_utf8(alloc, depth, more)?;
+                Ok(new)
+            }
             Err(ReadFault::Ion(fault)) => Ok(self.ill_formed(alloc, fault)),
             Err(ReadFault::OutOfMemory) => Err(OutOfMemory),
         }
@@ -96,7 +99,8 @@ impl Held {
         let bytes = joined(bytes, more)?;
         match known {
             Known::Open(frames) if bytes.len() >= wait => {
-                read_open(alloc, depth, frames, at, &bytes)
+                let read = read_open(alloc, depth, frames, at, &bytes)?;
+                Ok(read)
             }
             Known::Open(frames) => Ok(Held {
                 known: Known::Open(frames),
@@ -119,7 +123,10 @@ impl Held {
         ensures within { IfOk result (λ values. list_all within values ≡ true) }
     {
         let Held {
-            known, at, bytes, ..
+            known,
+            at,
+            bytes,
+            ..
         } = self;
         if let Known::NotUtf8(fault) = known {
             return Err(ReadFault::Ion(fault));

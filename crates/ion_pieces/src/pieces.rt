@@ -46,9 +46,22 @@ impl PieceReader {
         ensures within { IfOk result (λ next. list_all within next.0 ≡ true) }
     {
         let (front, rest) = piece.split_at(white_end(piece));
-        let mut reader = self.take_white(alloc, front)?;
-        reader.rest.extend_from_slice(rest)?;
-        Ok(reader.hand_out(alloc))
+        let ended = self.take_white(alloc, front)?;
+        let whole = ended.hold(rest)?;
+        Ok(whole.hand_out(alloc))
+    }
+
+    /// Takes bytes without looking at them.
+    fn hold(self, more: &[u8]) -> Result<PieceReader, OutOfMemory>
+        ensures { IfOk result (λ new. (z : List ℕ) → gives self (more.now ++ z) ≡ gives new z) }
+    {
+        let PieceReader {
+            depth,
+            held,
+            mut rest,
+        } = self;
+        rest.extend_from_slice(more)?;
+        Ok(PieceReader { depth, held, rest })
     }
 
     /// Takes bytes of which the last is white space, or none.
