@@ -1,5 +1,5 @@
 -- Values in front of those of the whole text go with all that is read behind them.
-use Rattle.std.proofs.Common.{◌≡◌, ◌+◌, ◌&&◌, ℕ, zero, suc, Bool, true, false, nat_le, List, [], ◌∷◌, ◌++◌, length, reverse, Option, Some, None, Result, Ok, Err, if◌then◌else◌, refl, ap, sym, ◌∙◌}
+use Rattle.std.proofs.Common.{◌≡◌, ◌+◌, ℕ, zero, suc, Bool, true, false, nat_le, List, [], ◌∷◌, ◌++◌, length, reverse, Option, Some, None, Ok, Err, if◌then◌else◌, refl, ap, sym, ◌∙◌}
 use Rattle.std.proofs.lemmas.List.{append_assoc, reverse-append}
 use Rattle.ion_values.specs.declared.fault.IonKind.TheVariants as fault
 use Rattle.ion_values.specs.declared.value.Value.{Value}
@@ -8,7 +8,7 @@ use Rattle.ion_values.specs.declared.value.Body.TheVariants as body
 use Rattle.ion_model.specs.Lex.{lex}
 use Rattle.ion_model.specs.Table as table
 use Rattle.ion_model.specs.Table.{Open, Taken}
-use Rattle.ion_model.specs.Read.{Answer, may_end, values_of, finish, finish_at, go_on, refused, turn, run}
+use Rattle.ion_model.specs.Read.{Answer, may_end, values_of, finish, go_on, refused, turn, run}
 use Rattle.ion_model.specs.declared.Token.{Token}
 use Rattle.ion_model.specs.declared.Token.TheVariants as token
 use Rattle.ion_model.specs.declared.Members.{Members}

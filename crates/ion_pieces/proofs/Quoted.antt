@@ -1,11 +1,11 @@
 -- Where quotes, comments and braces close.
-use Rattle.std.proofs.Common.{◌≡◌, ◌≤◌, ◌+◌, ◌==◌, ℕ, zero, suc, Bool, true, false, List, [], ◌∷◌, ◌++◌, length, drop, codes, Option, Some, None, option_map, refl, ap, sym, ◌∙◌, arith}
+use Rattle.std.proofs.Common.{◌≡◌, ◌≤◌, ◌+◌, ◌==◌, ℕ, zero, suc, Bool, true, false, List, [], ◌∷◌, ◌++◌, length, drop, codes, Option, Some, None, option_map, refl, arith}
 use Rattle.std.specs.Prelude.{option_and_then}
 use Rattle.std.specs.Str.{byte}
 use Rattle.std.proofs.lemmas.Bool.{cond_both}
 use Rattle.std.proofs.lemmas.List.{drop-append-le}
 use Rattle.ion_model.specs.Blanks.{begins, is_space, to_close}
-use Rattle.ion_model.specs.Lobs.{before_braces, begins_segment, clob_hides}
+use Rattle.ion_model.specs.Lobs.{before_braces, clob_hides}
 use Rattle.ion_model.specs.Texts.{before}
 use Rattle.ion_pieces.proofs.Kept.{Keeps, AtMost, keeps_if, keeps_map, keeps_then, at_most_suc, at_most_then, is_dark, begins_fits, begins_kept}
 

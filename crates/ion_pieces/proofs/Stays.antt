@@ -1,9 +1,9 @@
 -- The token in front of white space stays the same with whatever follows that, unless it isn't complete (Ion 1.0, "Text
 -- encoding").
-use Rattle.std.proofs.Common.{◌⊎◌, ◌≡◌, ◌≤◌, ◌<◌, ◌+◌, ◌-◌, ◌*◌, ◌==◌, ◌&&◌, ◌||◌, ℕ, zero, suc, Bool, true, false, not, List, [], ◌∷◌, ◌++◌, length, length-append, length-drop, take, drop, codes, Option, Some, None, if◌then◌else◌, inl, inr, refl, ap, sym, subst, ◌∙◌, arith}
+use Rattle.std.proofs.Common.{◌⊎◌, ◌≡◌, ◌≤◌, ◌<◌, ◌+◌, ◌-◌, ◌*◌, ◌==◌, ◌&&◌, ◌||◌, ℕ, suc, Bool, true, false, not, List, [], ◌∷◌, ◌++◌, length, length-append, length-drop, take, drop, codes, Option, Some, None, if◌then◌else◌, inl, inr, refl, ap, sym, subst, ◌∙◌, arith}
 use Rattle.std.specs.Char.{is_ascii_digit}
 use Rattle.std.specs.List.{filter, list_all, prefix_len}
-use Rattle.std.specs.Str.{byte, bytes_eq}
+use Rattle.std.specs.Str.{byte}
 use Rattle.std.proofs.lemmas.Bool.{and_from, and_parts, cases_Bool, ne_eqb, not_from_true, or_cases}
 use Rattle.std.proofs.lemmas.Bool.Decides.{nat_tests}
 use Rattle.std.proofs.lemmas.List.{append_assoc, drop-append-le}
@@ -12,8 +12,8 @@ use Rattle.ion_values.specs.declared.fault.IonKind.TheVariants as fault
 use Rattle.ion_model.specs.Blanks.{begins, is_line_end, is_space, line_comment, block_comment, enclosed, to_close}
 use Rattle.ion_model.specs.Escapes.{Piece, text_escape}
 use Rattle.ion_model.specs.Lex.{begins_number, lex, lex_at, lex_mark, lex_run}
-use Rattle.ion_model.specs.Lobs.{base64_bytes, before_braces, begins_clob, begins_segment, clob_bytes, clob_hides, lex_blob, lex_clob, lex_lob, lob_token, without_white}
-use Rattle.ion_model.specs.Numbers.{is_stop, lex_number, number_in, number_token}
+use Rattle.ion_model.specs.Lobs.{base64_bytes, before_braces, begins_clob, clob_bytes, clob_hides, lex_blob, lex_clob, lex_lob, lob_token, without_white}
+use Rattle.ion_model.specs.Numbers.{is_stop, lex_number}
 use Rattle.ion_model.specs.Texts.{before, closed, lex_quoted, lex_segment, lex_string, lex_text, long, pieces, short, text_token}
 use Rattle.ion_model.specs.Words.{begins_word, is_end_at, is_infinity, is_operator, is_typed, is_word_char, lex_operator, lex_word, typed_null, word_of}
 use Rattle.ion_model.specs.declared.Scalar.TheVariants as scalar

@@ -1,13 +1,12 @@
 -- One token after another, whatever follows the bytes.
-use Rattle.std.proofs.Common.{◌≡◌, ◌≤◌, ◌<◌, ◌+◌, ℕ, zero, suc, Bool, true, List, [], ◌∷◌, ◌++◌, drop, length, length-append, length-drop, Ok, Err, refl, ap, sym, ◌∙◌, arith}
-use Rattle.std.proofs.lemmas.List.{drop-append-le, drop-drop, append-nil}
+use Rattle.std.proofs.Common.{◌≡◌, ◌≤◌, ◌<◌, ◌+◌, ℕ, zero, suc, Bool, List, [], ◌∷◌, ◌++◌, drop, length, length-append, length-drop, Ok, Err, ap, sym, ◌∙◌, arith}
+use Rattle.std.proofs.lemmas.List.{drop-append-le, drop-drop}
 use Rattle.ion_values.specs.declared.fault.IonKind.{IonKind}
 use Rattle.ion_values.specs.declared.fault.IonKind.TheVariants as fault
 use Rattle.ion_model.specs.Lex.{lex}
 use Rattle.ion_model.specs.Table.{Open, accept}
-use Rattle.ion_model.specs.Read.{Answer, go_on, refused, run, turn}
+use Rattle.ion_model.specs.Read.{go_on, refused, run, turn}
 use Rattle.ion_model.specs.declared.Token.{Token}
-use Rattle.ion_model.specs.declared.Lexed.{Lexed}
 use Rattle.ion_model.specs.declared.Lexed.TheVariants as lexed
 use Rattle.ion_pieces.specs.Fronts.{MayFollow, Stands}
 

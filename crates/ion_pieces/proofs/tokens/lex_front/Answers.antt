@@ -1,12 +1,11 @@
 use Rattle.std.proofs.Common.{◌≡◌, ◌≤◌, ◌<◌, ◌+◌, ◌==◌, ◌&&◌, nat_lt, ℕ, Bool, true, false, List, [], ◌∷◌, ◌++◌, length, refl, ap, sym, subst, ◌∙◌, arith}
 use Rattle.std.proofs.lemmas.Bool.{and_cases, eqb-false, ltb-false}
 use Rattle.std.proofs.lemmas.List.{append-nil, append_assoc}
-use Rattle.ion_model.specs.Blanks.{is_space}
 use Rattle.ion_model.specs.Lex.{lex}
 use Rattle.ion_model.specs.Spans.{span_of}
 use Rattle.ion_model.specs.declared.Lexed.{Lexed}
 use Rattle.ion_model.specs.declared.Lexed.TheVariants as lexed
-use Rattle.ion_pieces.specs.Fronts.{EndsWhite, IsFront, MayFollow, Stands, may_go_on}
+use Rattle.ion_pieces.specs.Fronts.{EndsWhite, IsFront, Stands, may_go_on}
 use Rattle.ion_pieces.proofs.Stays.{Stays, lex_stays}
 use Rattle.ion_pieces.proofs.tokens.lex_front.Goals as goal
 use Rattle.ion_pieces.proofs.tokens.lex_front.Goals.{else-not-whole-via-then-not-whole+else-may_go_on, else-not-whole-via-else-not-whole}

@@ -1,5 +1,4 @@
 use Rattle.std.proofs.Common.{◌≡◌, ◌≤◌, ◌<◌, ◌+◌, ℕ, Bool, true, false, List, [], ◌++◌, drop, length, Ok, Err, refl, ap, sym, subst, ◌∙◌, arith}
-use Rattle.std.proofs.lemmas.List.{append-nil}
 use Rattle.ion_model.specs.Lex.{lex}
 use Rattle.ion_model.specs.Table.{Open, accept}
 use Rattle.ion_model.specs.Read.{refused}

@@ -1,4 +1,4 @@
-use Rattle.std.proofs.Common.{sym, subst, ◌≡◌, true, refl}
+use Rattle.std.proofs.Common.{sym, subst, ◌≡◌, true}
 use Rattle.ion_pieces.specs.Frames.{frames_within}
 use Rattle.ion_pieces.proofs.FramesWithin.{start_within}
 use Rattle.ion_pieces.proofs.frames.Frames.new.Goals as goal

@@ -1,4 +1,4 @@
-use Rattle.std.proofs.Common.{◌≡◌, ◌+◌, ◌++◌, List, ℕ, length, ap, sym, ◌∙◌, arith}
+use Rattle.std.proofs.Common.{◌≡◌, ◌+◌, length, ap, sym, ◌∙◌, arith}
 use Rattle.ion_pieces.specs.Checks.{ill_formed_at}
 use Rattle.ion_pieces.specs.Pieces.{first_fault}
 use Rattle.ion_pieces.proofs.Holding.{ill_formed_behind}

@@ -1,8 +1,7 @@
 use Rattle.std.proofs.Common.{◌≡◌, ◌+◌, ◌++◌, List, ℕ, [], true, length, refl, ap, sym, subst, ◌∙◌, arith}
 use Rattle.std.specs.Str.{is_utf8}
-use Rattle.ion_values.specs.declared.fault.IonFault.{IonFault}
 use Rattle.ion_pieces.specs.Fronts.{EndsWhite}
-use Rattle.ion_pieces.specs.Pieces.{answer_in, held_gives}
+use Rattle.ion_pieces.specs.Pieces.{answer_in}
 use Rattle.ion_pieces.specs.declared.frames.Frames.{Frames}
 use Rattle.ion_pieces.specs.declared.held.Known.{Known}
 use Rattle.ion_pieces.specs.declared.held.Known.TheVariants as known

@@ -1,4 +1,4 @@
-use Rattle.std.proofs.Common.{◌≡◌, ◌<◌, ◌==◌, ◌++◌, List, ℕ, false, [], ◌∷◌, length, sym, subst, ◌∙◌, arith}
+use Rattle.std.proofs.Common.{◌≡◌, ◌<◌, ◌==◌, List, ℕ, false, [], ◌∷◌, length, sym, subst, ◌∙◌, arith}
 use Rattle.ion_pieces.specs.Fronts.{EndsWhite}
 use Rattle.ion_pieces.proofs.Holding.{ends_behind}
 use Rattle.ion_pieces.proofs.pieces.PieceReader.take_white.Goals as goal
