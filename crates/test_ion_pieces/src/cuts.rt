@@ -94,6 +94,9 @@ fn in_two(alloc: Global, front: &[u8], back: &[u8]) -> Option<Text> {
 
 /// What pieces of this length give.
 fn in_many(alloc: Global, text: &[u8], len: usize) -> Option<Text> {
+    if len == 0 {
+        return None;
+    }
     let mut out = Text::new(alloc);
     let mut reader = PieceReader::new(alloc, DEEPEST);
     for piece in text.chunks(len) {
