@@ -1,0 +1,4 @@
+pub mod Checks
+pub mod Frames
+pub mod Fronts
+pub mod Pieces
