@@ -1,10 +1,9 @@
 -- What comes of the records of an input, from the source to the end.
-use Rattle.std.proofs.Common.{◌≡◌, ◌∙◌, ◌<◌, ◌≤◌, ◌+◌, ◌^◌, ℕ, zero, suc, true, List, [], ◌∷◌, ◌++◌, length, append-nil, append_assoc, take, take_all, drop, get_or, refl, sym, ap, subst, arith, Some, Result, Ok, Err, inl, inr}
-use Rattle.std.specs.Prelude.{◌&&◌, Bool, false, IfOk}
-use Rattle.std.specs.List.{list_all}
-use Rattle.std.proofs.lemmas.List.{drop_more, take_more, length-take-le}
-use Rattle.std.proofs.lemmas.List.{take-append-drop}
-use Rattle.ion_text.specs.Laws.{ReadIsWithin}
+use Rattle.std.proofs.Common.{◌≡◌, ◌∙◌, ◌<◌, ◌≤◌, ◌+◌, ◌^◌, ℕ, true, List, [], ◌∷◌, ◌++◌, length, append-nil, append_assoc, take, drop, get_or, refl, sym, ap, subst, arith, None, Some, Result, Ok, Err, inl, inr}
+use Rattle.std.proofs.lemmas.List.{drop_more, take_more, take-append-drop}
+use Rattle.ion_model.specs.Read.{Answer, read_text}
+use Rattle.ion_pieces.specs.Pieces.{gives, led}
+use Rattle.ion_pieces.specs.declared.pieces.PieceReader.{PieceReader}
 use Rattle.ion_values.specs.Within.{within}
 use Rattle.ion_values.specs.declared.value.Value.{Value}
 use Rattle.ledger_model.specs.Journal.{journal_bytes}
@@ -17,7 +16,7 @@ use Rattle.stream_out.specs.Replays.{Agrees, AreBlocks, DeliveriesRebuild, Holds
 use Rattle.stream_out.specs.Replays as stream
 use Rattle.cli_args.specs.declared.Command.TheVariants as command
 use Rattle.laws_history.specs.Calls.{Span}
-use Rattle.laws_history.specs.Streams.{Taken, WasRead}
+use Rattle.laws_history.specs.Streams.{WasRead}
 use Rattle.cli_model.specs.Calls.{Outside}
 use Rattle.cli_model.specs.Inputs.{IsFine, longest}
 use Rattle.cli_model.specs.Replays.{AllAgree, AreDelivered, AreRebuilt, AreRecords, IsNoRecord, IsOtherRecord, IsValueOf, StopsAt, deepest_record}
@@ -26,24 +25,11 @@ use Rattle.ledger_cli.specs.declared.lines.BadInput.{BadInput}
 use Rattle.ledger_cli.specs.declared.lines.BadInput.TheVariants as cause
 use Rattle.ledger_cli.specs.declared.command_fault.CommandFault.{CommandFault}
 use Rattle.ledger_cli.specs.declared.command_fault.CommandFault.TheVariants as stop
-use Rattle.ledger_cli.specs.Bundles.{IsFaulty, ReadsValues}
+use Rattle.ledger_cli.specs.Bundles.{IsFaulty}
 use Rattle.ledger_cli.specs.Ends.{IsTold, Works}
-use Rattle.ledger_cli.specs.Inputs.{IsUnread}
-use Rattle.ledger_cli.specs.Replaying.{HasDelivered, IsRecordAt, IsReplayStop, IsUndelivered, ReplaysInput}
+use Rattle.ledger_cli.specs.Replaying.{Ends, HasDelivered, IsUndelivered, ReplaysInput}
 
 -- ---- values
-
-both : (a b : Bool) → (a && b) ≡ true → (a ≡ true) × (b ≡ true)
-both true b e = (refl, e)
-both false b e = let bad : ⊥ = cc e in absurd bad
-
-pub within_at : (values : List Value) (at : ℕ) (v : Value) → list_all within values ≡ true → at < length values
-    → v ≡ get_or values at v → within v ≡ true
-within_at [] at v all less is = absurd (omega (arith, less))
-within_at (x ∷ values) zero v all less is =
-    ap (λ (y : Value). within y) is ∙ (both (within x) (list_all within values) all).0
-within_at (x ∷ values) (suc at) v all less is =
-    within_at values at v (both (within x) (list_all within values) all).1 (omega (arith, less)) is
 
 -- the record of a value within its ranges
 pub value_of : (r : Record) (v : Value) → IsReadAs v (Some r) → within v ≡ true → IsValueOf r v
@@ -74,61 +60,41 @@ delivered_more values records v r d is agrees = record {
   agree = agree_more [] records r d.agree agrees;
 }
 
-module _ (values : List Value) (at : ℕ) (v : Value) (less : at < length values) (is : v ≡ get_or values at v) where
-  opened : values ≡ take at values ++ v ∷ drop (at + 1) values
-  opened =
-      sym (take-append-drop at values)
-      ∙ ap (λ (vs : List Value). take at values ++ vs)
-      (drop_more values at v less ∙ ap (λ (u : Value). u ∷ drop (at + 1) values) (sym is))
-
-  taken : take at values ++ v ∷ [] ≡ take (at + 1) values
-  taken = ap (λ (u : Value). take at values ++ u ∷ []) is ∙ sym (take_more values at v less)
-
-  stops : (Is : List Record → Value → Type 0) (records : List Record) → AreDelivered (take at values) records → Is records v
-      → StopsAt values at Is
-  stops Is records d so = record {
-    before = take at values;
+-- behind the values before, whose number it has
+module _ (before : List Value) (at : ℕ) (count : length before ≡ at) (v : Value) where
+  stops : (Is : List Record → Value → Type 0) (records : List Record) → AreDelivered before records → Is records v
+      → (more : List Value) → StopsAt (before ++ v ∷ more) at Is
+  stops Is records d so more = record {
+    before = before;
     value = v;
-    behind = drop (at + 1) values;
-    values_are = opened;
-    at_is = sym (length-take-le at values (omega (arith, less)));
+    behind = more;
+    values_are = refl;
+    at_is = sym count;
     records = records;
     delivered = d;
     is = so;
   }
 
   -- it is no record
-  pub no_record : (old : Replay) → HasDelivered (take at values) old → (why : CommandFault) → IsRecordAt at v (Err why)
-      → IsReplayStop why values
-  no_record old has stop.BadWords h = absurd h
-  no_record old has (stop.BadInput why) h =
-      subst (λ (c : BadInput). IsUndelivered c values) (sym h.0) (stops IsNoRecord has.records has.delivered h.1)
-  no_record old has (stop.NoSuch why) h = absurd h
-  no_record old has (stop.Damaged sequence kind) h = absurd h
-  no_record old has stop.SourceFailed h = absurd h
-  no_record old has stop.StoreFailed h = absurd h
-  no_record old has (stop.NotEmpty blocks) h = absurd h
-  no_record old has (stop.BadRange from to) h = absurd h
-  no_record old has (stop.NotAccepted why) h = absurd h
-  no_record old has stop.NotPublished h = absurd h
-  no_record old has stop.OutOfMemory h = tt
+  pub no_record : (old : Replay) → HasDelivered before old → IsReadAs v None → (more : List Value)
+      → IsUndelivered (cause.NotARecord at) (before ++ v ∷ more)
+  no_record old has none = stops IsNoRecord has.records has.delivered none
 
-  module _ (old new : Replay) (has : HasDelivered (take at values) old) (r : Record) (of_value : IsValueOf r v) where
+  module _ (old new : Replay) (has : HasDelivered before old) (r : Record) (of_value : IsValueOf r v) where
     -- it is a record that agrees with the others
     pub delivered_so : (u : Unit {0}) → new.from ≡ old.from → stream.Delivers has.records r old (Ok u) new
-        → HasDelivered (take (at + 1) values) new
+        → HasDelivered (before ++ v ∷ []) new
     delivered_so u from h = record {
       records = has.records ++ r ∷ [];
-      delivered =
-          subst (λ (vs : List Value). AreDelivered vs (has.records ++ r ∷ [])) taken
-          (delivered_more (take at values) has.records v r has.delivered of_value h.0.1);
+      delivered = delivered_more before has.records v r has.delivered of_value h.0.1;
       from = from ∙ has.from;
       holds = h.0.2;
       settled = h.1;
     }
 
     -- it is one that differs
-    pub differs_so : (n : ℕ) → stream.Delivers has.records r old (Err (refused.Differs n)) new → StopsAt values at (IsOtherRecord n)
+    pub differs_so : (n : ℕ) → stream.Delivers has.records r old (Err (refused.Differs n)) new → (more : List Value)
+        → StopsAt (before ++ v ∷ more) at (IsOtherRecord n)
     differs_so n h =
         stops (IsOtherRecord n) has.records has.delivered
         (record { told = r; of_value = of_value; number_is = h.1; differs = h.2 })
@@ -148,9 +114,47 @@ none_delivered r from holds settled = record {
   settled = settled;
 }
 
-pub all_delivered : (values : List Value) (at : ℕ) (r : Replay) → length values ≤ at → HasDelivered (take at values) r
-    → HasDelivered values r
-all_delivered values at r past has = subst (λ (vs : List Value). HasDelivered vs r) (take_all at values past) has
+-- one value behind others that stand in front of the rest
+module _ (before values more : List Value) (at : ℕ) (v : Value) (less : at < length values) (is : v ≡ get_or values at v) where
+  pub next_taken : (before ++ take at values) ++ v ∷ [] ≡ before ++ take (at + 1) values
+  next_taken =
+      append_assoc before (take at values) (v ∷ [])
+      ∙ ap (λ (vs : List Value). before ++ vs) (ap (λ (u : Value). take at values ++ u ∷ []) is ∙ sym (take_more values at v less))
+
+  opened : values ≡ take at values ++ v ∷ drop (at + 1) values
+  opened =
+      sym (take-append-drop at values)
+      ∙ ap (λ (vs : List Value). take at values ++ vs)
+      (drop_more values at v less ∙ ap (λ (u : Value). u ∷ drop (at + 1) values) (sym is))
+
+  pub next_opened : (before ++ take at values) ++ v ∷ (drop (at + 1) values ++ more) ≡ (before ++ values) ++ more
+  next_opened =
+      append_assoc before (take at values) (v ∷ (drop (at + 1) values ++ more))
+      ∙ ap (λ (vs : List Value). before ++ vs)
+      (sym (append_assoc (take at values) (v ∷ drop (at + 1) values) more) ∙ ap (λ (vs : List Value). vs ++ more) (sym opened))
+      ∙ sym (append_assoc before values more)
+
+-- ---- pieces
+
+led_led : (vs ws : List Value) (a : Answer) → led vs (led ws a) ≡ led (vs ++ ws) a
+led_led vs ws (Ok xs) = ap (λ (ys : List Value). let a : Answer = Ok ys in a) (sym (append_assoc vs ws xs))
+led_led vs ws (Err f) = refl
+
+module _ (input : List ℕ) (values : List Value) (old : PieceReader)
+    (text : (more : List ℕ) → read_text deepest_record (input ++ more) ≡ led values (gives old more)) where
+  -- one piece more
+  pub text_more : (piece : List ℕ) (handed : List Value) (new : PieceReader)
+      → ((more : List ℕ) → gives old (piece ++ more) ≡ led handed (gives new more)) → (more : List ℕ)
+      → read_text deepest_record ((input ++ piece) ++ more) ≡ led (values ++ handed) (gives new more)
+  text_more piece handed new h more =
+      ap (read_text deepest_record) (append_assoc input piece more)
+      ∙ text (piece ++ more)
+      ∙ ap (led values) (h more)
+      ∙ led_led values handed (gives new more)
+
+  -- the end of the text
+  pub text_ends : (a : Answer) → gives old [] ≡ a → read_text deepest_record input ≡ led values a
+  text_ends a h = ap (read_text deepest_record) (sym (append-nil input)) ∙ text [] ∙ ap (led values) h
 
 rebuilt : (values : List Value) (r : Replay) (has : HasDelivered values r) → AreRebuilt has.records r.blocks.list
 rebuilt values r has =
@@ -164,36 +168,6 @@ rebuilt values r has =
 
 -- ---- the input
 
--- what is read is within its ranges
-pub all_within : ReadIsWithin → (depth : ℕ) (input : List ℕ) (r : Result (List Value) CommandFault) → ReadsValues depth r input
-    → IfOk r (λ values. list_all within values ≡ true)
-all_within law depth input (Ok values) h = law depth input values h
-all_within law depth input (Err why) h = tt
-
--- it wasn't read
-pub unread_replays : (source : Span SourceTold) (why : CommandFault) → IsUnread why source
-    → (why ≡ stop.BadInput cause.TooLong → (input : List ℕ) × Taken source input × (longest < length input))
-    → ReplaysInput (Err why) source
-unread_replays source stop.BadWords h long = absurd h
-unread_replays source (stop.BadInput cause.TooLong) h long =
-    let taken = long refl in
-    (record { input = taken.0; taken = taken.1; long = taken.2 }, h.1)
-unread_replays source (stop.BadInput (cause.Faulty fault)) h long = cc
-unread_replays source (stop.BadInput cause.BadRules) h long = cc
-unread_replays source (stop.BadInput cause.NoSuchRules) h long = cc
-unread_replays source (stop.BadInput (cause.Misspelt fault)) h long = cc
-unread_replays source (stop.BadInput (cause.NotARecord at)) h long = cc
-unread_replays source (stop.BadInput (cause.RecordDiffers at sequence)) h long = cc
-unread_replays source (stop.NoSuch why) h long = absurd h
-unread_replays source (stop.Damaged sequence kind) h long = absurd h
-unread_replays source stop.SourceFailed h long = h
-unread_replays source stop.StoreFailed h long = absurd h
-unread_replays source (stop.NotEmpty blocks) h long = absurd h
-unread_replays source (stop.BadRange from to) h long = absurd h
-unread_replays source (stop.NotAccepted fault) h long = absurd h
-unread_replays source stop.NotPublished h long = absurd h
-unread_replays source stop.OutOfMemory h long = h
-
 module _ (source : Span SourceTold) (input : List ℕ) (read : WasRead source input) (short : length input ≤ longest)
     (fine : IsFine source) where
   faulty_replays : (why : BadInput) → IsFaulty deepest_record why input → ReplaysInput (Err (stop.BadInput why)) source
@@ -206,21 +180,21 @@ module _ (source : Span SourceTold) (input : List ℕ) (read : WasRead source in
   faulty_replays (cause.RecordDiffers at sequence) h = absurd h
 
   -- it is no text of values
-  pub no_values_replay : (why : CommandFault) → ReadsValues deepest_record (Err why) input → ReplaysInput (Err why) source
-  no_values_replay stop.BadWords h = absurd h
-  no_values_replay (stop.BadInput why) h = faulty_replays why h
-  no_values_replay (stop.NoSuch why) h = absurd h
-  no_values_replay (stop.Damaged sequence kind) h = absurd h
-  no_values_replay stop.SourceFailed h = absurd h
-  no_values_replay stop.StoreFailed h = absurd h
-  no_values_replay (stop.NotEmpty blocks) h = absurd h
-  no_values_replay (stop.BadRange from to) h = absurd h
-  no_values_replay (stop.NotAccepted fault) h = absurd h
-  no_values_replay stop.NotPublished h = absurd h
-  no_values_replay stop.OutOfMemory h = fine
+  pub ends_replays : (why : CommandFault) → Ends input (Err why) → ReplaysInput (Err why) source
+  ends_replays stop.BadWords h = absurd h
+  ends_replays (stop.BadInput why) h = faulty_replays why h
+  ends_replays (stop.NoSuch why) h = absurd h
+  ends_replays (stop.Damaged sequence kind) h = absurd h
+  ends_replays stop.SourceFailed h = absurd h
+  ends_replays stop.StoreFailed h = absurd h
+  ends_replays (stop.NotEmpty blocks) h = absurd h
+  ends_replays (stop.BadRange from to) h = absurd h
+  ends_replays (stop.NotAccepted fault) h = absurd h
+  ends_replays stop.NotPublished h = absurd h
+  ends_replays stop.OutOfMemory h = fine
 
-  module _ (values : List Value) (reads : ReadsValues deepest_record (Ok values) input) where
-    undelivered_replays : (why : BadInput) → IsUndelivered why values → ReplaysInput (Err (stop.BadInput why)) source
+  module _ (values : List Value) (reads : read_text deepest_record input ≡ Ok values) where
+    pub undelivered_replays : (why : BadInput) → IsUndelivered why values → ReplaysInput (Err (stop.BadInput why)) source
     undelivered_replays cause.TooLong h = absurd h
     undelivered_replays (cause.Faulty fault) h = absurd h
     undelivered_replays cause.BadRules h = absurd h
@@ -242,20 +216,6 @@ module _ (source : Span SourceTold) (input : List ℕ) (read : WasRead source in
       },
       fine,
     )
-
-    -- one of them isn't delivered
-    pub stopped_replay : (why : CommandFault) → IsReplayStop why values → ReplaysInput (Err why) source
-    stopped_replay stop.BadWords h = absurd h
-    stopped_replay (stop.BadInput why) h = undelivered_replays why h
-    stopped_replay (stop.NoSuch why) h = absurd h
-    stopped_replay (stop.Damaged sequence kind) h = absurd h
-    stopped_replay stop.SourceFailed h = absurd h
-    stopped_replay stop.StoreFailed h = absurd h
-    stopped_replay (stop.NotEmpty blocks) h = absurd h
-    stopped_replay (stop.BadRange from to) h = absurd h
-    stopped_replay (stop.NotAccepted fault) h = absurd h
-    stopped_replay stop.NotPublished h = absurd h
-    stopped_replay stop.OutOfMemory h = fine
 
     -- all are
     pub replayed_so : DeliveriesRebuild → (r : Replay) → HasDelivered values r → (text : List ℕ) → text ≡ journal_bytes r.blocks.list

@@ -13,7 +13,7 @@ use std::alloc::Global;
 pub const LONGEST: usize = 16_777_216;
 
 /// The most that one call reads, in bytes.
-const PIECE: usize = 65_536;
+pub const PIECE: usize = 65_536;
 
 /// Reads the input to its end. Each turn takes at least one byte, and all take at most one more than the longest
 /// input has.

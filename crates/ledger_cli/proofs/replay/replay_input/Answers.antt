@@ -1,20 +1,20 @@
-use Rattle.std.proofs.Common.{ℕ, List, Ok, subst}
-use Rattle.ion_values.specs.declared.value.Value.{Value}
+use Rattle.std.proofs.Common.{[], append-nil, subst}
 use Rattle.laws_history.specs.Calls.{span}
-use Rattle.cli_model.specs.Replays.{deepest_record}
-use Rattle.ledger_cli.specs.Bundles.{ReadsValues}
-use Rattle.ledger_cli.specs.Replaying.{HasDelivered}
-use Rattle.ledger_cli.proofs.Replaying.{replayed_so}
+use Rattle.ledger_cli.specs.Replaying.{IsUndelivered}
+use Rattle.ledger_cli.proofs.Replaying.{replayed_so, undelivered_replays}
 use Rattle.ledger_cli.proofs.replay.replay_input.Goals as goal
 
-pub returns-clause-replays : goal.returns-clause-replays
-returns-clause-replays g c =
+pub returns-in-Delivered-clause-replays : goal.returns-in-Delivered-clause-replays
+returns-in-Delivered-clause-replays g c =
     let told = g.So.Source.told in
-    let input = c.in_ok-input.input.items in
-    let values = c.in_ok-values.values in
-    replayed_so (span (told c.args.source.now) (told c.read_all.new.source)) input c.in_ok-input.ensures.read c.in_ok-input.ensures.short
-    c.in_ok-input.ensures.fine values
-    (subst (λ (bytes : List ℕ). ReadsValues deepest_record (Ok values) bytes) c.deref.ensures.value c.in_ok-values.ensures.reads)
-    c.deliveries_rebuild.ensures c.in_ok-replay.replay
-    (subst (λ (vs : List Value). HasDelivered vs c.in_ok-replay.replay) c.as_slice.ensures c.in_ok-replay.ensures)
-    c.of_replay.result c.of_replay.ensures
+    let is = rw c.in-Delivered.is at c.in_ok-replay.ensures.came in
+    replayed_so (span (told c.args.source.now) (told c.read_course.new.source)) is.input is.read is.short is.fine is.came.values is.came.text_of
+    c.deliveries_rebuild.ensures c.in-Delivered.replay is.came.came.0 c.of_replay.result c.of_replay.ensures
+
+pub returns-in-Stopped-clause-replays : goal.returns-in-Stopped-clause-replays
+returns-in-Stopped-clause-replays g c =
+    let told = g.So.Source.told in
+    let is = rw c.in-Stopped.is at c.in_ok-replay.ensures.came in
+    let values = is.came.values in
+    undelivered_replays (span (told c.args.source.now) (told c.read_course.new.source)) is.input is.read is.short is.fine values is.came.text_of
+    c.in-Stopped.why (subst (λ vs. IsUndelivered c.in-Stopped.why vs) (append-nil values) (is.came.came []))
