@@ -5,22 +5,27 @@ digests that the forger made. Each is judged by tools/ledger-verify, which share
 say: where the revision stands, or that the digest isn't the journal's. Ends with `N passed, N failed`, and with status 1 where one
 failed.
 
-    tests/forged_bundles.py [PROGRAM [COUNT [SEED]]]
+    tests/forged_bundles.py [PROGRAM] [--count COUNT] [--seed SEED] [--workers WORKERS] [--forks]
 
 PROGRAM is crates/ledger/out/ledger, where `rt ci` leaves it, or another path. There are COUNT bundles, 2,000 if absent; equal seeds
-make equal ones. How far it is stands on standard error.
+make equal ones. How far it is stands on standard error. With `--forks`, for many bundles, the program is started once for each journal
+and command, and each bundle is judged by a fork of it that begins at its `main` (tests/forks.c), for which there has to be a C compiler.
 """
+import argparse
 import importlib.machinery
 import importlib.util
 import os
 import random
+import re
+import select
+import struct
 import subprocess
 import sys
 import tempfile
 import time
 from collections import Counter
 from concurrent.futures import ProcessPoolExecutor
-from functools import partial
+from functools import lru_cache, partial
 from pathlib import Path
 from typing import NamedTuple
 
@@ -30,7 +35,9 @@ COUNT = 2_000
 BATCH = 250  # bundles that one process forges
 OTHERS = 10  # one refused bundle in so many is given to `extract` too
 EVERY = 10  # seconds between two words on standard error
+SECONDS = 600  # that a run may take, also where others keep the processors busy
 MOST_TOLD = 20
+REMEMBERED = 4_096  # lines of bundles whose values are at hand
 ACCEPTED = "{verified:true}"
 NOT_PUBLISHED = "{status:7,fault:{kind:NotPublished}}"
 RUN = ["run", "--workers", "1", "--at", "2020-01-01T00:00:00.000Z"]
@@ -49,9 +56,62 @@ def load_verifier():
 tool = load_verifier()
 
 
+# ---- Runs of the program
+
+
+def ended(program, words, data=b""):
+    """The exit status of a command, and what it writes."""
+    run = subprocess.run([program, *map(str, words)], input=data, capture_output=True, timeout=SECONDS)
+    return run.returncode, run.stdout.decode()
+
+
 def said(program, words, data=b""):
     """What a command writes, on one line or more."""
-    return subprocess.run([program, *map(str, words)], input=data, capture_output=True, timeout=60).stdout.decode()
+    return ended(program, words, data)[1]
+
+
+class Forks:
+    """A program that stands ahead of its `main`, and is forked for each run (tests/forks.c)."""
+
+    def __init__(self, library, program, words):
+        streams = {"stdin": subprocess.PIPE, "stdout": subprocess.PIPE, "stderr": subprocess.DEVNULL}
+        self.process = subprocess.Popen([program, *words], env=os.environ | {"LD_PRELOAD": library}, **streams)
+
+    def ended(self, data):
+        """The exit status of a run that is given these bytes, and what it writes."""
+        self.process.stdin.write(struct.pack("=Q", len(data)) + data)
+        self.process.stdin.flush()
+        if not select.select([self.process.stdout], [], [], SECONDS)[0]:
+            raise TimeoutError(f"no fork of {self.process.args} ends")
+        status, size = struct.unpack("=QQ", self.process.stdout.read(16))
+        return os.waitstatus_to_exitcode(status), self.process.stdout.read(size).decode()
+
+
+class Runner(NamedTuple):
+    """How the program is run: its path, and the library of tests/forks.c, or None where each run is a process of its own."""
+
+    program: str
+    library: object
+
+    def ended(self, words, data):
+        """The exit status of a command, and what it writes."""
+        if self.library is None:
+            return ended(self.program, words, data)
+        return forks(self.library, self.program, *words).ended(data)
+
+
+@lru_cache(None)
+def forks(library, program, *words):
+    """The one Forks of this process for these words."""
+    return Forks(library, program, words)
+
+
+def built_library(folder):
+    """The library of tests/forks.c."""
+    library = os.path.join(folder, "forks.so")
+    source = str(ROOT / "tests" / "forks.c")
+    subprocess.run(["cc", "-shared", "-fPIC", "-O2", "-o", library, source], check=True)
+    return library
 
 
 # ---- Honest bundles
@@ -100,9 +160,15 @@ def sources(program, folder):
     return [source(program, os.path.join(folder, f"journal-{n}"), *what) for n, what in enumerate(made)]
 
 
-# ---- Forgeries. Each takes a chance, the journals, and an honest bundle of one of them, as its three lines.
+# ---- Forgeries
+
+NUMBERED = re.compile("(?:sequenceNo|index|revisionCount|version):")
+DIGITS = re.compile("[0-9]*")
+
+# Each takes a chance, the journals, and an honest bundle of one of them, as its three lines.
 
 
+@lru_cache(REMEMBERED)
 def value_of(line):
     return tool.read_values(line.encode())[0]
 
@@ -123,7 +189,9 @@ def bytes_changed(rng, journals, bundle):
 def digit_changed(rng, journals, bundle):
     """A digit or a letter in the place of another."""
     text = "\n".join(bundle)
-    at = rng.choice([at for at, one in enumerate(text) if one.isalnum()])
+    at = rng.randrange(len(text))
+    while not text[at].isalnum():
+        at = rng.randrange(len(text))
     return (text[:at] + rng.choice("0123456789ABCXYZabcxyz+/") + text[at + 1:]).encode()
 
 
@@ -181,18 +249,13 @@ def path_changed(rng, journals, bundle):
 def number_changed(rng, journals, bundle):
     """A tip, an index, a count or an address is another one, which a digest and a proof don't always bind."""
     text = "\n".join(bundle)
-    places = [at for name in ("sequenceNo:", "index:", "revisionCount:", "version:") for at in found(text, name)]
+    places = [found.end() for found in NUMBERED.finditer(text)]
     for at in rng.sample(places, rng.choice([1, 1, 2, 3])):
-        end = at + len(text[at:]) - len(text[at:].lstrip("0123456789"))
+        end = DIGITS.match(text, at).end()
         number = max(int(text[at:end]) + rng.choice([-1, 1, 2, 7]), 0)
         if end - at == len(str(number)):  # the places behind it stay where they are
             text = text[:at] + str(number) + text[end:]
     return text.encode()
-
-
-def found(text, name):
-    """Where the numbers of a name begin."""
-    return [at + len(name) for at in range(len(text)) if text.startswith(name, at)]
 
 
 def rehashed(revision, data, metadata):
@@ -262,67 +325,90 @@ def extract(journal, line, parts):
         return NOT_PUBLISHED
     if line != ACCEPTED:
         return line
-    return f"{{found:{journal.hashes[revision.address.sequence].index(revision.stated)}}}"
+    block = journal.hashes[revision.address.sequence]
+    return f"{{found:{block.index(revision.stated)}}}" if revision.stated in block else "a place in the journal, where it doesn't stand"
+
+
+def status_of(line):
+    """The exit status of a command that writes this line."""
+    return int(line[8]) if line.startswith("{status:") else 0
+
+
+def kind_of(line):
+    """The sort of an answer."""
+    if line.startswith("{status:7"):
+        return re.search(r"(?:code|kind):\w+", line)[0]
+    return "status:2" if line.startswith("{status:2") else line.strip("{}").split(":")[0]
 
 
 class Tried:
     """What was tried, and what isn't as it should be."""
 
-    def __init__(self):
+    def __init__(self, runner, journals):
+        self.runner, self.journals = runner, journals
         self.faults, self.kinds = [], Counter()
 
-    def same(self, what, there, here):
-        if there.rstrip("\n") != here:
-            self.faults.append(f"{what}: the program says {there!r}, and not {here!r}")
+    def same(self, words, data, line, what):
+        """Runs a command on a bundle, which has to write this line."""
+        status, text = self.runner.ended(words, data)
+        if text.rstrip("\n") != line or status != status_of(line):
+            self.faults.append(f"{' '.join(words)}, {what}: the program says {text!r} with status {status}, and not {line!r}")
+
+    def one(self, rng, what):
+        """Forges a bundle and tries it."""
+        journal = rng.choice(self.journals)
+        forge, bundle = rng.choice(FORGERIES), rng.choice(journal.bundles)
+        data = forge(rng, self.journals, bundle)
+        line, parts = verdict(data)
+        verb = "accepted" if line == ACCEPTED else "refused"
+        what = f"{what}, {forge.__name__}: {data!r}"
+        self.same(["/", "verify"], data, line, what)
+        self.kinds[f"{forge.__name__} {verb}"] += 1
+        self.kinds[f"verify {kind_of(line)}"] += 1
+        if line == ACCEPTED or rng.randrange(OTHERS) == 0:
+            wanted = extract(journal, line, parts)
+            self.same([journal.path, "extract"], data, wanted, what)
+            self.kinds[f"extract, {verb}: {kind_of(wanted)}"] += 1
 
 
-def kind_of(line):
-    """The sort of an answer."""
-    return line if line in (ACCEPTED, NOT_PUBLISHED) else line.split(",fault:{")[-1].split(",")[0].strip("{}")
-
-
-def try_one(tried, program, journals, rng, what):
-    journal = rng.choice(journals)
-    forge, bundle = rng.choice(FORGERIES), rng.choice(journal.bundles)
-    data = forge(rng, journals, bundle)
-    line, parts = verdict(data)
-    what = f"{what}, {forge.__name__}: {data!r}"
-    tried.same(f"verify, {what}", said(program, ["/", "verify"], data), line)
-    tried.kinds["verify " + ("status:2" if line.startswith("{status:2") else kind_of(line))] += 1
-    if line == ACCEPTED or rng.randrange(OTHERS) == 0:
-        wanted = extract(journal, line, parts)
-        tried.same(f"extract with {journal.path}, {what}", said(program, [journal.path, "extract"], data), wanted)
-        tried.kinds["extract " + ("found" if wanted.startswith("{found") else "NotPublished" if wanted == NOT_PUBLISHED else "refused")] += 1
-
-
-def batch(program, journals, seed, numbers):
+def batch(runner, journals, seed, numbers):
     """What isn't as it should be of these bundles, and how often each answer came."""
-    tried, failed = Tried(), 0
+    tried, failed = Tried(runner, journals), 0
     for number in numbers:
         before = len(tried.faults)
-        try_one(tried, program, journals, random.Random(f"{seed} {number}"), f"bundle {number} of seed {seed}")
+        tried.one(random.Random(f"{seed} {number}"), f"bundle {number} of seed {seed}")
         failed += len(tried.faults) > before
     return tried.faults, tried.kinds, failed
 
 
+def words_given():
+    words = argparse.ArgumentParser(description="Forges bundles, and compares what two verifiers say of them.")
+    words.add_argument("program", nargs="?", default=str(PROGRAM))
+    words.add_argument("--count", type=int, default=COUNT)
+    words.add_argument("--seed", type=int, default=0)
+    words.add_argument("--workers", type=int, default=os.cpu_count())
+    words.add_argument("--forks", action="store_true")
+    return words.parse_args()
+
+
 def main():
-    words = sys.argv[1:] + [None] * 3
-    program, count, seed = os.path.abspath(words[0] or PROGRAM), int(words[1] or COUNT), int(words[2] or 0)
+    given = words_given()
+    program, count = os.path.abspath(given.program), given.count
     if not os.access(program, os.X_OK):
         sys.exit(f"there is no program {program}")
     begun, told, kinds, done, failed = time.monotonic(), 1, Counter(), 0, 0
-    with tempfile.TemporaryDirectory() as folder, ProcessPoolExecutor(os.cpu_count()) as pool:
-        journals = sources(program, folder)
+    with tempfile.TemporaryDirectory() as folder, ProcessPoolExecutor(given.workers) as pool:
+        runner = Runner(program, built_library(folder) if given.forks else None)
+        judge = partial(batch, runner, sources(program, folder), given.seed)
         ranges = [range(begin, min(begin + BATCH, count)) for begin in range(0, count, BATCH)]
-        for numbers, ended in zip(ranges, pool.map(partial(batch, program, journals, seed), ranges)):
-            faults, counted, wrong = ended
+        for numbers, (faults, counted, wrong) in zip(ranges, pool.map(judge, ranges)):
             for fault in faults[:max(MOST_TOLD - failed, 0)]:
                 print(fault[:2000], flush=True)
             done, failed, kinds = done + len(numbers), failed + wrong, kinds + counted
             if time.monotonic() >= begun + EVERY * told:
                 told = int((time.monotonic() - begun) / EVERY) + 1
                 print(f"{done:,} of {count:,} bundles, {time.monotonic() - begun:.0f} s", file=sys.stderr, flush=True)
-    print(f"{count:,} bundles:", ", ".join(f"{kind} {times:,}" for kind, times in sorted(kinds.items())))
+    print(f"{done:,} bundles of seed {given.seed}:", ", ".join(f"{kind} {times:,}" for kind, times in sorted(kinds.items())))
     print(f"{done - failed} passed, {failed} failed")
     return 1 if failed else 0
 
