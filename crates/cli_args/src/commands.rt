@@ -110,7 +110,8 @@ pub fn audit_in(alloc: Global, words: &[String]) -> Result<Command, WordsFault>
 
 /// What the words behind `compact` ask for.
 pub fn compact_in(alloc: Global, words: &[String]) -> Result<Command, WordsFault>
-    ensures { Gives result (option_map (λ _. Command.Compact) (found_in form.compact_app (map string_bytes words.now))) }
+    ensures { Gives result
+        (option_map (λ _. Command.Compact) (found_in form.compact_app (map string_bytes words.now))) }
 {
     let _found = found_in(compact_form(alloc), words)?;
     Ok(Command::Compact)

@@ -1,5 +1,5 @@
--- The open containers of a text whose values so far are within their ranges, and those that a reader hands out (Ion 1.0,
--- "Text encoding").
+-- The open containers of a text whose values so far are within their ranges, and those that a reader hands out (Ion
+-- 1.0, "Text encoding").
 use Rattle.std.specs.Prelude.{◌&&◌, Bool, true, List, [], ◌∷◌, ◌++◌}
 use Rattle.std.specs.List.{list_all}
 use Rattle.ion_values.specs.Within.{within, field_within, text_within}

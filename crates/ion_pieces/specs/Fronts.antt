@@ -20,29 +20,29 @@ pub record EndsWhite (z : List ℕ) : Type 0 where
   pub is : is_space white ≡ true
   pub ends : z ≡ before ++ white ∷ []
 
--- a front ends in white space where it isn't the whole text
+-- a front ends in white space unless it is the whole text
 abbrev pub IsFront : Bool → List ℕ → Type 0
 IsFront true z = Unit {0}
 IsFront false z = EndsWhite z
 
--- behind the whole text nothing follows
+-- nothing follows the whole text
 abbrev pub MayFollow : Bool → List ℕ → Type 0
 MayFollow true more = more ≡ []
 MayFollow false more = Unit {0}
 
 -- ---- tokens
 
--- a comment that ends with a text of so many bytes may go on behind it
+-- a comment that ends where a text of length `len` ends may go on after it
 abbrev pub may_go_on : Lexed → ℕ → Bool
 may_go_on (lexed.Blank more) len = nat_lt 0 more && more + 1 == len
 may_go_on _ len = false
 
--- what stands in front, whatever follows; where more is wanted the whole text is cut
+-- what stands in front, whatever follows; if the whole text is given, `Cut` is what the lexer says of it
 abbrev pub Stands : Bool → List ℕ → Lexed → Type 0
 Stands whole z lexed.Cut = whole ≡ true → lex z ≡ lexed.Cut
 Stands whole z l = (span_of l ≤ length z) × ((more : List ℕ) → MayFollow whole more → lex (z ++ more) ≡ l)
 
--- whatever follows, these containers are open behind so many bytes, or the text is refused there
+-- whatever follows, these containers are open after the first `passed` bytes, or the text is refused at `place`
 abbrev pub Stops : ℕ → Open → Bool → List ℕ → Stop → Type 0
 Stops depth fs whole z (stop.Waits frames passed) =
     (passed ≤ length z)
@@ -52,7 +52,7 @@ Stops depth fs whole z (stop.Waits frames passed) =
 Stops depth fs whole z (stop.Refused place kind) =
     (at : ℕ) (more : List ℕ) → MayFollow whole more → run depth 0 at fs (z ++ more) ≡ refused (at + place) kind
 
--- the containers of a reader wait behind so many bytes
+-- the containers of a reader wait after the first `passed` bytes
 abbrev pub WaitsWith : Reader → ℕ → Stop → Type 0
 WaitsWith reader passed (stop.Waits frames n) = (frames.reader ≡ reader) × (n ≡ passed)
 WaitsWith reader passed (stop.Refused place kind) = ⊥

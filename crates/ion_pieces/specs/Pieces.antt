@@ -21,8 +21,8 @@ led vs (Err f) = Err f
 abbrev pub if_utf8 : ℕ → List ℕ → Answer → Answer
 if_utf8 at z answer = if is_utf8 z then answer else refused (at + utf8_valid_len z) fault.NotUtf8
 
--- What the text gives where the bytes z are still to be seen behind those that are held: a text is refused first where it
--- isn't UTF-8, and else at its first token that may not stand there.
+-- What the text gives where the bytes z are still to be seen behind those that are held: a text is refused first where
+-- it isn't UTF-8, and else at its first token that may not stand there.
 abbrev pub answer_in : ℕ → Known → ℕ → List ℕ → List ℕ → Answer
 answer_in depth (known.Open frames) at held z =
     if_utf8 (at + length held) z (run depth 0 at (open_of frames.reader) (held ++ z))

@@ -8,7 +8,7 @@ use ion_text::ReadFault;
 use ion_values::{IonFault, IonKind, OutOfMemory};
 use simdutf8::compat::from_utf8;
 
-/// Tests that the bytes from an offset on are UTF-8, or tells where they aren't.
+/// Returns Ok if the bytes are UTF-8, and else where they aren't, `at` being the offset of the first of them.
 pub fn check_utf8(at: usize, bytes: &[u8]) -> Result<(), ReadFault>
     ensures { IsChecked at bytes.now result }
 {
@@ -29,7 +29,7 @@ fn ill_formed(bytes: &[u8]) -> Option<usize>
     }
 }
 
-/// The offset behind so many bytes. One past the greatest number counts as out of memory.
+/// The offset `more` bytes after `at`. One past the greatest number counts as out of memory.
 pub fn sum(at: usize, more: usize) -> Result<usize, OutOfMemory>
     ensures { IfOk result (λ sum. sum ≡ at + more) }
 {

@@ -21,7 +21,7 @@ use std::alloc::Global;
 pub enum Known {
     /// These containers are open.
     Open(Frames),
-    /// A token is refused. The bytes behind it may still be none of UTF-8.
+    /// A token is refused. Bytes after it may still be found not to be UTF-8.
     Refused(IonFault),
     /// Bytes aren't UTF-8.
     NotUtf8(IonFault),
@@ -33,7 +33,7 @@ pub struct Held {
     pub known: Known,
     /// The offset of the bytes.
     pub at: usize,
-    /// The bytes behind the last token, which are UTF-8.
+    /// The bytes after the last token, which are UTF-8.
     pub bytes: Vec<u8>,
     /// How many bytes there have to be before tokens are tried again.
     pub wait: usize,
@@ -68,7 +68,7 @@ impl Held {
         }
     }
 
-    /// Goes over more bytes that aren't UTF-8, as the fault tells unless there is an earlier one.
+    /// Goes over more bytes that aren't UTF-8, with this fault unless such bytes came before.
     fn ill_formed(self, alloc: Global, fault: IonFault) -> Held
         ensures { (depth : ℕ) (z : List ℕ) → held_gives depth result z ≡ first_fault self.known fault }
     {
@@ -117,7 +117,7 @@ impl Held {
         }
     }
 
-    /// The values that are left at the end of the text, behind these bytes, or its first fault.
+    /// The values that are left if the text ends after these bytes, or its first fault.
     pub fn finish(self, alloc: Global, depth: u32, rest: &[u8]) -> Result<Values, ReadFault>
         ensures gives { Gives result (held_gives depth self rest.now) }
         ensures within { IfOk result (λ values. list_all within values ≡ true) }
@@ -182,7 +182,7 @@ impl Known {
     }
 }
 
-/// The bytes with more behind them.
+/// The bytes with more appended.
 fn joined(mut bytes: Vec<u8>, more: &[u8]) -> Result<Vec<u8>, OutOfMemory>
     ensures { IfOk result (λ all. all.items ≡ bytes.items ++ more.now) }
 {
@@ -190,7 +190,7 @@ fn joined(mut bytes: Vec<u8>, more: &[u8]) -> Result<Vec<u8>, OutOfMemory>
     Ok(bytes)
 }
 
-/// Takes the tokens in front of the bytes, the last of which is white space, where these containers are open.
+/// Takes the tokens in front of the bytes, the last of which is white space, while these containers are open.
 fn read_open(
     alloc: Global,
     depth: u32,
@@ -221,8 +221,8 @@ fn read_open(
     }
 }
 
-/// The values that are left at the end of the text, where these containers are open before the bytes, or its first
-/// fault.
+/// The values that are left if the text ends after the bytes, or its first fault. These containers are open before
+/// the bytes.
 fn finish_open(
     alloc: Global,
     depth: u32,

@@ -1,4 +1,5 @@
-//! Ion text, read in pieces: neither the whole text nor all of its values are held at once.
+//! Ion text, read in pieces. Values are handed out as they end, and of the text what stands after the last token is
+//! held.
 #![tactic(auto)]
 
 mod checks;

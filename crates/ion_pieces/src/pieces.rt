@@ -15,13 +15,13 @@ use std::alloc::Global;
 
 /// A text that is read in pieces, as far as it was taken.
 ///
-/// A token is read once white space stands behind it, so the bytes that are held are those of one token at most where
-/// white space parts the tokens.
+/// A token is read once white space stands after it. If white space parts the tokens, the bytes that are held are those
+/// of one token at most.
 #[derive(Drop)]
 pub struct PieceReader {
     depth: u32,
     held: Held,
-    /// The bytes behind the last white space.
+    /// The bytes after the last white space.
     rest: Vec<u8>,
 }
 
@@ -37,9 +37,10 @@ impl PieceReader {
         }
     }
 
-    /// The values that end in the next piece, and the reader behind it.
+    /// The values that end in the next piece, and the reader after it.
     ///
-    /// After a fault it has no more values, and still reads: bytes that aren't UTF-8 are told before any other fault.
+    /// After a fault it has no more values, and still reads. Bytes that aren't UTF-8 are reported before any other
+    /// fault.
     pub fn take(self, alloc: Global, piece: &[u8]) -> Result<(Values, PieceReader), OutOfMemory>
         ensures gives { IfOk result (λ next. (more : List ℕ)
             → gives self (piece.now ++ more) ≡ led next.0 (gives next.1 more)) }

@@ -15,13 +15,13 @@ use std::alloc::Global;
 /// Where the tokens in front of a text end.
 #[derive(Drop)]
 pub enum Stop {
-    /// The token behind so many bytes may go on behind the front.
+    /// The token at offset `passed` may go on after the front.
     Waits { frames: Frames, passed: usize },
-    /// The token behind so many bytes is refused.
+    /// The token at offset `place` is refused.
     Refused { place: usize, kind: IonKind },
 }
 
-/// The token in front, or `Cut` where it may go on behind these bytes. `whole` tells that nothing follows them.
+/// The token in front, or `Cut` if it may go on after these bytes. If `whole` is set nothing follows them.
 fn lex_front(alloc: Global, bytes: &[u8], whole: bool) -> Result<Lexed, OutOfMemory>
     requires { IsFront whole bytes.now }
     ensures { IfOk result (λ l. Stands whole bytes.now l) }
@@ -33,7 +33,7 @@ fn lex_front(alloc: Global, bytes: &[u8], whole: bool) -> Result<Lexed, OutOfMem
     Ok(lexed)
 }
 
-/// Whether a comment ends where a text of so many bytes ends.
+/// Whether a comment ends where a text of length `len` ends.
 fn may_go_on(lexed: &Lexed, len: usize) -> bool
     requires { span_of lexed.now ≤ len }
     ensures { result ≡ may_go_on lexed.now len }
@@ -44,7 +44,7 @@ fn may_go_on(lexed: &Lexed, len: usize) -> bool
     }
 }
 
-/// Takes the tokens in front, up to the first that may go on behind these bytes.
+/// Takes the tokens in front, up to the first that may go on after these bytes.
 pub fn read_tokens(
     alloc: Global,
     depth: u32,
@@ -73,7 +73,7 @@ pub fn read_tokens(
     Ok(waits(reader, at))
 }
 
-/// The containers that are open behind so many bytes.
+/// The containers that are open after the first `passed` bytes.
 fn waits(reader: Reader, passed: usize) -> Stop
     requires { frames_within (open_of reader) ≡ true }
     ensures { WaitsWith reader passed result }

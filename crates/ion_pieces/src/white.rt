@@ -3,7 +3,7 @@ ghost use Rattle.std.specs.Prelude.{◌≡◌, ◌≤◌, ◌<◌, length, take}
 ghost use Rattle.ion_model.specs.Blanks.{is_space};
 ghost use Rattle.ion_pieces.specs.Fronts.{EndsWhite};
 
-/// How many bytes there are up to the last white space and with it, 0 where there is none.
+/// The length of the bytes up to the last white space and with it, 0 if there is none.
 pub fn white_end(bytes: &[u8]) -> usize
     ensures within { result ≤ length bytes.now }
     ensures ends { 0 < result → EndsWhite (take result bytes.now) }

@@ -35,7 +35,7 @@ pub record HasDelivered (values : List Value) (r : Replay) : Type 0 where
   pub holds : Holds records r
   pub settled : IsSettled records r
 
--- of so many values
+-- the replay holds the records of `count` values
 pub record IsReplaying (count : ℕ) (r : Replay) : Type 0 where
   pub values : List Value
   pub count_is : length values ≡ count

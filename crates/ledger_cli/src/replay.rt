@@ -23,7 +23,7 @@ const DEEPEST_RECORD: u32 = 257;
 /// What the values so far came to.
 #[derive(Drop)]
 enum Course {
-    /// All of them are delivered, so many.
+    /// All `count` of them are delivered.
     Delivered { replay: Replay, count: u64 },
     /// One of them isn't, for this cause.
     Stopped(BadInput),
@@ -36,7 +36,7 @@ struct Reading {
     course: Course,
 }
 
-/// The number of a value behind others. One past the greatest number counts as out of memory.
+/// The number of a value, `more` after the one of number `before`. One past the greatest counts as out of memory.
 fn number(before: u64, more: usize) -> Result<u64, OutOfMemory>
     ensures { IfOk result (λ n. n ≡ before + more) }
 {
@@ -72,7 +72,7 @@ fn deliver_value(
     }
 }
 
-/// Delivers the records of these values, behind so many others, up to the first that isn't delivered.
+/// Delivers the records of these values, after `count` others, up to the first that isn't delivered.
 fn deliver_all(
     alloc: Global,
     mut replay: Replay,
@@ -95,11 +95,12 @@ fn deliver_all(
 }
 
 impl Course {
-    /// The course behind these values.
+    /// The course after these values.
     fn with(self, alloc: Global, values: &[Value]) -> Result<Course, OutOfMemory>
         requires within { list_all within values.now ≡ true }
         requires came { (before : List model.Value) × CameTo before self }
-        ensures { IfOk result (λ new. (before : List model.Value) → CameTo before self → CameTo (before ++ values.now) new) }
+        ensures { IfOk result (λ new. (before : List model.Value) → CameTo before self
+            → CameTo (before ++ values.now) new) }
     {
         match self {
             Course::Delivered { replay, count } => {
@@ -125,7 +126,7 @@ impl Reading {
         }
     }
 
-    /// The reading behind one piece more.
+    /// The reading after one piece more.
     fn take(self, alloc: Global, piece: &[u8]) -> Result<Reading, OutOfMemory>
         requires { (input : List ℕ) × Reads input self }
         ensures { IfOk result (λ new. (input : List ℕ) → Reads input self → Reads (input ++ piece.now) new) }
@@ -153,8 +154,9 @@ impl Reading {
     }
 }
 
-/// Reads the input to its end, and returns what its values came to. Faults of the source and of Ion text, and an input that
-/// is too long, go before a record that isn't delivered.
+/// Reads the input to its end, and returns what its values came to.
+///
+/// Faults of the source and of Ion text, and an input that is too long, go before a record that isn't delivered.
 fn read_course<So: Source>(alloc: Global, source: &mut So) -> Result<Course, CommandFault>
     ensures came { CourseOf result (span (So.told source.old) (So.told source.new)) }
     ensures few { TakesFew (span (So.told source.old) (So.told source.new)) }

@@ -52,7 +52,8 @@ summary_by listed block = record { block = record block { revisions = [] }; list
 
 -- the summary of the block that is read
 abbrev pub IsJoined : Parts → Option Summary → Type 0
-IsJoined p (Some s) = (b : Block) × blocks.IsReadAs (stood_value p.fields p.listed) (Some b) × (s ≡ summary_by p.listed b)
+IsJoined p (Some s) =
+    (b : Block) × blocks.IsReadAs (stood_value p.fields p.listed) (Some b) × (s ≡ summary_by p.listed b)
 IsJoined p None = blocks.IsReadAs (stood_value p.fields p.listed) None
 
 -- a value is read as the summary whose value it is, and as none exactly if no summary has it

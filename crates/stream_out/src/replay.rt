@@ -147,7 +147,8 @@ impl Replay {
     fn settle(&mut self, alloc: Global) -> Result<(), OutOfMemory>
         ensures from { self.new.from ≡ self.old.from }
         ensures holds { (told : List model.Record) → spec.Holds told self.old → spec.Holds told self.new }
-        ensures settled { (told : List model.Record) → spec.Holds told self.old → OnOk result (spec.IsSettled told self.new) }
+        ensures settled { (told : List model.Record) → spec.Holds told self.old
+            → OnOk result (spec.IsSettled told self.new) }
     {
         'rebuilt: while let Some(next) = self.from.checked_add(self.blocks.len()) {
             let Some(block) = self.block_of(alloc, next)? else {
@@ -233,7 +234,8 @@ impl Replay {
 
     fn keep(&mut self, told: Record) -> Result<(), ReplayFault>
         ensures from { self.new.from ≡ self.old.from }
-        ensures keeps { (kept : List model.Record) → spec.Holds kept self.old → spec.Keeps kept told self.old result self.new }
+        ensures keeps { (kept : List model.Record) → spec.Holds kept self.old
+            → spec.Keeps kept told self.old result self.new }
     {
         match told {
             Record::Created => Ok(()),

@@ -137,7 +137,7 @@ fn history(alloc: Global) -> View {
     }
 }
 
-/// Whether so many rows of the three views are of the document 2, and none of the history of `t0`.
+/// Whether one row of each view and three of the history are of the document 2, and none of the history of `t0`.
 fn are_shown(alloc: Global, version: &Version) -> bool {
     let (since, second) = (history(alloc), Probe::Id(DocId { raw: 2 }));
     met(alloc, version, ONE, &View::User, &second) == Some(1)
