@@ -71,29 +71,29 @@ joined_within text more h k =
 
 -- ---- open containers
 
-abbrev MembersWithin : Members → Type 0
+abbrev pub MembersWithin : Members → Type 0
 MembersWithin (members.Stream vs) = list_all within.within vs ≡ true
 MembersWithin (members.List vs) = list_all within.within vs ≡ true
 MembersWithin (members.Sexp vs) = list_all within.within vs ≡ true
 MembersWithin (members.Struct fs) = list_all field_within fs ≡ true
 
 -- a symbol or a long string that may become a member
-abbrev LastWithin : Last → Type 0
+abbrev pub LastWithin : Last → Type 0
 LastWithin (last.Symbol text quoted) = text_within text ≡ true
 LastWithin (last.LongString text) = text_within text ≡ true
 LastWithin _ = Unit {0}
 
-record Fine (f : Frame) : Type 0 where
-  members : MembersWithin f.members
-  name : text_within f.name ≡ true
-  annotations : list_all text_within f.annotations ≡ true
-  last : LastWithin f.last
+pub record Fine (f : Frame) : Type 0 where
+  pub members : MembersWithin f.members
+  pub name : text_within f.name ≡ true
+  pub annotations : list_all text_within f.annotations ≡ true
+  pub last : LastWithin f.last
 
-abbrev AllFine : Open → Type 0
+abbrev pub AllFine : Open → Type 0
 AllFine [] = Unit {0}
 AllFine (f ∷ fs) = Fine f × AllFine fs
 
-abbrev FineTaken : Taken → Type 0
+abbrev pub FineTaken : Taken → Type 0
 FineTaken (Ok fs) = AllFine fs
 FineTaken (Err k) = Unit {0}
 
@@ -178,7 +178,7 @@ colon_taken last.Name f fs h hs = (then_fine last.Colon f h tt, hs)
 colon_taken last.LongName f fs h hs = (then_fine last.Colon f h tt, hs)
 colon_taken _ f fs h hs = tt
 
-opened_fine : (ms : Members) → MembersWithin ms → Fine (table.opened ms)
+pub opened_fine : (ms : Members) → MembersWithin ms → Fine (table.opened ms)
 opened_fine ms h = record { members = h; name = empty_within; annotations = refl; last = tt }
 
 begun : (depth : ℕ) (ms : Members) (f : Frame) (fs : Open) → MembersWithin ms → Fine f → AllFine fs → FineTaken (table.begin depth ms f fs)
@@ -240,13 +240,13 @@ put_taken depth token.Comma f fs k h hs = replaced (table.may_comma f.members f.
 put_taken depth token.Colon f fs k h hs = colon_taken f.last f fs h hs
 put_taken depth token.DoubleColon f fs k h hs = annotated_taken f.last f fs h.last h hs
 
-accept_taken : (depth : ℕ) (fs : Open) (t : Token) → token_within t ≡ true → AllFine fs → FineTaken (table.accept depth fs t)
+pub accept_taken : (depth : ℕ) (fs : Open) (t : Token) → token_within t ≡ true → AllFine fs → FineTaken (table.accept depth fs t)
 accept_taken depth [] t k h = tt
 accept_taken depth (f ∷ fs) t k h = put_taken depth t (table.before t f) fs k (before_fine t f h.0) h.1
 
 -- ---- the whole text
 
-abbrev AnswerWithin : Answer → Type 0
+abbrev pub AnswerWithin : Answer → Type 0
 AnswerWithin (Ok vs) = list_all within.within vs ≡ true
 AnswerWithin (Err f) = Unit {0}
 
@@ -256,7 +256,7 @@ values_within at (members.List vs) h = tt
 values_within at (members.Sexp vs) h = tt
 values_within at (members.Struct fs) h = tt
 
-finish_within : (at : ℕ) (fs : Open) → AllFine fs → AnswerWithin (finish at fs)
+pub finish_within : (at : ℕ) (fs : Open) → AllFine fs → AnswerWithin (finish at fs)
 finish_within at [] h = tt
 finish_within at (f ∷ []) h =
     cond_both (may_end (table.settled f).last) _ _ AnswerWithin (λ _. values_within at (table.settled f).members (settled_fine f h.0).members) (λ _. tt)
