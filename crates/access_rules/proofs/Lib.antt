@@ -1,4 +1,2 @@
-mod Resolving
-mod Repeats
 mod Each
 mod Numbering

@@ -7,7 +7,6 @@ mod fields;
 mod judging;
 mod reading;
 mod requests;
-mod roots;
 mod rule;
 mod scripts;
 mod statements;

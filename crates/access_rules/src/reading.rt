@@ -9,11 +9,11 @@ ghost use Rattle.access_rules.specs.Actions.{action_name, action_of};
 ghost use Rattle.access_rules.specs.Answers.{Gives, Reads};
 ghost use Rattle.access_rules.specs.ReadRules as spec;
 
-use crate::fields::{has_unknown, named, repeats};
+use crate::fields::has_unknown;
 use crate::rule::{Action, Actions, Rule, Rules, RulesAnswer, Sessions};
 use containers::{Sequence, Text};
 use ion_values::{Field, Names, Value};
-use ledger_model::{fields_in, int_in, list_in, string_in, symbol_in};
+use ledger_model::{fields_in, int_in, list_in, repeats, string_in, symbol_in, value_named};
 use std::alloc::Global;
 
 /// The rules of the set of that name.
@@ -118,7 +118,7 @@ fn rule_said(alloc: Global, fields: &[Field]) -> Result<Rule, RulesAnswer>
 fn text_said(alloc: Global, fields: &[Field]) -> Result<Text, RulesAnswer>
     ensures { Reads result (spec.said string_in (codes "rule") fields.now) }
 {
-    let value = named("rule", fields).ok_or(RulesAnswer::BadRules)?;
+    let value = value_named("rule", fields).ok_or(RulesAnswer::BadRules)?;
     let text = string_in(value).ok_or(RulesAnswer::BadRules)?;
     Ok(text.copy(alloc)?)
 }
@@ -127,7 +127,7 @@ fn text_said(alloc: Global, fields: &[Field]) -> Result<Text, RulesAnswer>
 fn effect_said(fields: &[Field]) -> Result<bool, RulesAnswer>
     ensures { Reads result (spec.said spec.effect_in (codes "effect") fields.now) }
 {
-    let value = named("effect", fields).ok_or(RulesAnswer::BadRules)?;
+    let value = value_named("effect", fields).ok_or(RulesAnswer::BadRules)?;
     effect_in(value).ok_or(RulesAnswer::BadRules)
 }
 
@@ -144,7 +144,7 @@ fn effect_in(v: &Value) -> Option<bool>
 fn actions_said(alloc: Global, fields: &[Field]) -> Result<Actions, RulesAnswer>
     ensures { Reads result (spec.said spec.actions_in (codes "actions") fields.now) }
 {
-    let value = named("actions", fields).ok_or(RulesAnswer::BadRules)?;
+    let value = value_named("actions", fields).ok_or(RulesAnswer::BadRules)?;
     let members = list_in(value).ok_or(RulesAnswer::BadRules)?;
     let actions = actions_of(alloc, members.as_slice())?;
     Ok(actions)
@@ -189,7 +189,7 @@ fn action_among(actions: &[Action], name: &str) -> Option<Action>
 fn tables_said(alloc: Global, fields: &[Field]) -> Result<Names, RulesAnswer>
     ensures { Reads result (spec.said spec.tables_in (codes "tables") fields.now) }
 {
-    let value = named("tables", fields).ok_or(RulesAnswer::BadRules)?;
+    let value = value_named("tables", fields).ok_or(RulesAnswer::BadRules)?;
     let members = list_in(value).ok_or(RulesAnswer::BadRules)?;
     let tables = tables_of(alloc, members.as_slice())?;
     Ok(tables)
@@ -210,7 +210,7 @@ fn tables_of(alloc: Global, members: &[Value]) -> Result<Names, RulesAnswer>
 fn sessions_said(alloc: Global, fields: &[Field]) -> Result<Option<Sessions>, RulesAnswer>
     ensures { Reads result (spec.sessions_said (named (codes "sessions") fields.now)) }
 {
-    let Some(value) = named("sessions", fields) else {
+    let Some(value) = value_named("sessions", fields) else {
         return Ok(None);
     };
     let members = list_in(value).ok_or(RulesAnswer::BadRules)?;

@@ -9,12 +9,11 @@ ghost use Rattle.access_rules.specs.declared.demand.Demand as declared;
 ghost use Rattle.pql_model.specs.declared.statement.Source as source;
 
 use crate::demand::{Demand, Demands};
-use crate::roots::{is_changed, roots_of};
 use crate::rule::Action;
 use containers::Sequence;
 use ion_values::{Body, OutOfMemory, Text, Value};
 use pql_expr::eval;
-use pql_model::{Change, Evaluated, Expr, Source, SourceKind, Statement};
+use pql_model::{Change, Evaluated, Expr, Source, SourceKind, Statement, has_root, roots_of};
 use std::alloc::Global;
 
 /// What a committed view's name begins with.
@@ -179,7 +178,7 @@ fn all_changing(
 {
     let mut all = Sequence::new(alloc);
     'sources: for (place, source) in sources.iter().enumerate() {
-        put_changing(alloc, &mut all, is_changed(roots, place), &source.from)?;
+        put_changing(alloc, &mut all, has_root(roots, place), &source.from)?;
     }
     Ok(all)
 }

@@ -13,7 +13,7 @@ mod seals;
 mod values;
 
 pub use checked::{CheckedBlock, checked_from_ion};
-pub use read_blocks::{from_ion, values_tell_blocks};
+pub use read_blocks::{from_ion, header_with, is_shallow, values_tell_blocks};
 pub use read_info::place_in;
 pub use read_revisions::revision_in;
 pub use revisions::{metadata_value, revision_value};

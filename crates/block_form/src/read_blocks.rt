@@ -24,12 +24,10 @@ struct Hashes {
     list: [Hash; 3],
 }
 
-fn header_of(revisions: u32, fields: &[Field]) -> Option<Header>
-    ensures { result ≡ spec.header_of revisions fields.now }
+/// The header of this number of revisions, from its other three fields.
+pub fn header_with(revisions: u32, address: &Field, tx: &Field, time: &Field) -> Option<Header>
+    ensures { result ≡ spec.header_of revisions (address.now ∷ tx.now ∷ time.now ∷ []) }
 {
-    let [address, tx, time] = fields else {
-        return None;
-    };
     let address = address_in(named(address, "blockAddress")?)?;
     let tx = id_in(named(tx, "transactionId")?)?;
     let time = moment_in(named(time, "blockTimestamp")?)?;
@@ -39,6 +37,15 @@ fn header_of(revisions: u32, fields: &[Field]) -> Option<Header>
         time,
         revisions,
     })
+}
+
+fn header_of(revisions: u32, fields: &[Field]) -> Option<Header>
+    ensures { result ≡ spec.header_of revisions fields.now }
+{
+    let [address, tx, time] = fields else {
+        return None;
+    };
+    header_with(revisions, address, tx, time)
 }
 
 #[tactic(auto, unfolding(crate::specs::ReadBack::entries_of))]
@@ -194,7 +201,7 @@ fn are_shallow(revisions: &[Revision]) -> bool
 }
 
 /// Whether a document nests at most 64 deep.
-fn is_shallow(content: &Content) -> bool
+pub fn is_shallow(content: &Content) -> bool
     ensures { result ≡ is_shallow content.now }
 {
     match content {

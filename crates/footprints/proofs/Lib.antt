@@ -2,5 +2,4 @@ pub mod Firsts
 mod Indexes
 pub mod Naming
 pub mod Once
-mod Resolving
 mod SourcesRead

@@ -3,11 +3,10 @@ ghost use Rattle.std.specs.Prelude.{◌≡◌, [], ◌∷◌, ◌++◌, None, op
 ghost use Rattle.ledger_model.specs.Conditions as spec;
 ghost use Rattle.footprints.specs.Lent.{all_asked_of, asked_of, meant_of, side_of, texts, values_lent};
 
-use crate::names::resolved;
 use crate::sides::Side;
 use containers::Sequence;
 use ion_values::{Body, OutOfMemory, Text, Value};
-use pql_model::{Resolved, Source};
+use pql_model::{Resolved, Source, resolve_source};
 use std::alloc::Global;
 
 /// What a path of names means: the id of the document of the source at a place, or what stands at these names in its
@@ -201,7 +200,7 @@ fn meaning<'a>(
 ) -> Result<Meant<'a>, OutOfMemory>
     ensures { IfOk result (λ m. meant_of m ≡ spec.meant sources.now first.now (texts fields.entry)) }
 {
-    match resolved(first.as_str(), sources) {
+    match resolve_source(first.as_str(), sources) {
         Some(Resolved::Variable(place)) => Ok(Meant::AtNames { place, fields }),
         Some(Resolved::Id(place)) => {
             if fields.is_empty() {

@@ -5,7 +5,6 @@
 mod asked;
 mod items;
 mod joins;
-mod names;
 mod parts;
 mod read;
 mod rules;

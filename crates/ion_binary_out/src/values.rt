@@ -2,14 +2,17 @@
 //! front of it.
 ghost use Rattle.std.specs.Prelude.{ℕ, List, ◌≡◌, ◌≤◌, ◌<◌, ◌++◌, map, length, unsigned_abs, if◌then◌else◌, OnOk};
 ghost use Rattle.hash_model.specs.Numbers.{is_below_zero, magnitude, var_uint};
-ghost use Rattle.hash_model.specs.Serialize.{decimal_bytes, joined, null_qualifier};
+ghost use Rattle.hash_model.specs.Serialize.{decimal_bytes, joined};
 ghost use Rattle.hash_model.specs.Timestamps.{timestamp_bytes};
 ghost use Rattle.ion_binary_out.specs.BinaryText.{body_bytes, descriptor, field_bytes, ids_of, symbol_id, typed, value_bytes};
 
 use super::symbols::Symbols;
 use containers::OutOfMemory;
-use ion_binary::{Buffer, put_decimal_fields, put_magnitude, put_timestamp_fields, put_var_uint};
-use ion_values::{Body, Decimal, Field, IonTime, Kind, Names, Value};
+use ion_binary::{
+    Buffer, put_decimal_fields, put_magnitude, put_timestamp_fields, put_var_uint,
+    qualifier_of_null,
+};
+use ion_values::{Body, Decimal, Field, IonTime, Names, Value};
 
 // Types, which stand in the upper half of a descriptor.
 const POSITIVE_INT: u8 = 2;
@@ -74,25 +77,6 @@ pub fn put_typed(out: &mut Buffer, ion_type: u8, bytes: &[u8]) -> Result<(), Out
 {
     put_descriptor(out, ion_type, bytes.len())?;
     out.extend(bytes)
-}
-
-fn descriptor_of_null(kind: Kind) -> u8
-    ensures { result ≡ null_qualifier kind }
-{
-    match kind {
-        Kind::Null => 0x0F,
-        Kind::Bool => 0x1F,
-        Kind::Int => 0x2F,
-        Kind::Decimal => 0x5F,
-        Kind::Timestamp => 0x6F,
-        Kind::Symbol => 0x7F,
-        Kind::String => 0x8F,
-        Kind::Clob => 0x9F,
-        Kind::Blob => 0xAF,
-        Kind::List => 0xBF,
-        Kind::Sexp => 0xCF,
-        Kind::Struct => 0xDF,
-    }
 }
 
 fn put_int(out: &mut Buffer, number: i128) -> Result<(), OutOfMemory>
@@ -180,7 +164,7 @@ fn put_body(out: &mut Buffer, symbols: &Symbols, body: &Body) -> Result<(), OutO
     ensures { OnOk result (out.new ≡ out.old ++ body_bytes symbols.now body.now) }
 {
     match body {
-        Body::Null(kind) => out.push(descriptor_of_null(*kind)),
+        Body::Null(kind) => out.push(qualifier_of_null(*kind)),
         Body::Bool(truth) => out.push(if *truth { 0x11 } else { 0x10 }),
         Body::Int(number) => put_int(out, *number),
         Body::Decimal(number) => put_decimal(out, number),

@@ -5,7 +5,9 @@ ghost use Rattle.hash_model.specs.Serialize.{decimal_bytes, escape, escaped, fra
 ghost use Rattle.hash_model.specs.Timestamps.{timestamp_bytes};
 
 use containers::OutOfMemory;
-use ion_binary::{Buffer, put_decimal_fields, put_magnitude, put_timestamp_fields};
+use ion_binary::{
+    Buffer, put_decimal_fields, put_magnitude, put_timestamp_fields, qualifier_of_null,
+};
 use ion_values::{Decimal, IonTime, Kind};
 use memchr::memchr3;
 use std::alloc::Global;
@@ -74,25 +76,6 @@ pub fn put_symbol(out: &mut Buffer, text: &str) -> Result<(), OutOfMemory>
     ensures { OnOk result (out.new ≡ out.old ++ symbol_bytes text.now) }
 {
     put_scalar(out, 0x70, text.as_bytes())
-}
-
-fn qualifier_of_null(kind: Kind) -> u8
-    ensures { result ≡ null_qualifier kind }
-{
-    match kind {
-        Kind::Null => 0x0F,
-        Kind::Bool => 0x1F,
-        Kind::Int => 0x2F,
-        Kind::Decimal => 0x5F,
-        Kind::Timestamp => 0x6F,
-        Kind::Symbol => 0x7F,
-        Kind::String => 0x8F,
-        Kind::Clob => 0x9F,
-        Kind::Blob => 0xAF,
-        Kind::List => 0xBF,
-        Kind::Sexp => 0xCF,
-        Kind::Struct => 0xDF,
-    }
 }
 
 /// Puts a null.

@@ -1,13 +1,11 @@
 //! The timestamps that begin at milliseconds.
 ghost use Rattle.std.specs.Prelude.{◌≡◌, ◌<◌, ◌↔◌, ◌≤ℤ◌, ◌+ℤ◌, ◌*ℤ◌, pos, neg_ℤ, unsigned_abs, IsOk, IfOk};
 ghost use Rattle.std.specs.Int.{int_div_euclid, int_rem_euclid};
-ghost use Rattle.jiff_core.specs.Calendar.{days_from_civil};
-ghost use Rattle.ion_values.specs.Time.{IsTime};
 ghost use Rattle.ion_time.specs.DayTimes.{time_of_day};
 ghost use Rattle.ion_time.specs.Millis.{BeginsAt, IsWithinYears, is_within_years, nearest};
 
+use crate::days::{date_of, time_of, year_of};
 use ion_values::{IonTime, Precision, TimeParts};
-use jiff_core::civil::Date;
 
 /// A day in milliseconds.
 const DAY: i64 = 86_400_000;
@@ -99,31 +97,7 @@ fn time_on(day: i64, millis: u32) -> IonTime
 {
     let date = date_of(day);
     let year = year_of(date);
-    made(time_of_day(year, date.month, date.day, millis))
-}
-
-fn made(parts: TimeParts) -> IonTime
-    requires { IsTime parts }
-    ensures { result ≡ parts }
-{
-    IonTime::new(parts).unwrap()
-}
-
-/// The date of the day of this number, 0 being 1 January 1970.
-fn date_of(day: i64) -> Date
-    requires first { neg_ℤ (pos 719_162) ≤ℤ day }
-    requires last { day ≤ℤ pos 2_932_896 }
-    ensures value { days_from_civil result.year result.month result.day ≡ day }
-    ensures first { pos 1 ≤ℤ result.year }
-{
-    Date::from_unix_epoch_day(day).unwrap()
-}
-
-fn year_of(date: Date) -> u16
-    requires { pos 1 ≤ℤ date.year }
-    ensures { pos result ≡ date.year }
-{
-    date.year as u16
+    time_of(time_of_day(year, date.month, date.day, millis))
 }
 
 /// The parts of the timestamp on a date in UTC, `millis` milliseconds after its beginning.

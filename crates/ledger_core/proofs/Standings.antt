@@ -1,6 +1,5 @@
 -- What an undamaged journal's blocks tell of its transactions and its state.
-use Rattle.std.proofs.Common.{◌≡◌, ◌∙◌, ℕ, ◌+◌, ◌^◌, ◌<◌, max, Bool, true, false, not, List, [], ◌∷◌, ◌++◌, length, take, get_or, append-nil, refl, sym, ap, subst, arith, Some, None, if◌then◌else◌}
-use Rattle.std.proofs.lemmas.List.{take_more}
+use Rattle.std.proofs.Common.{◌≡◌, ◌∙◌, ℕ, ◌+◌, ◌^◌, ◌<◌, max, Bool, true, false, not, List, [], ◌∷◌, ◌++◌, append-nil, refl, sym, ap, subst, arith, Some, None, if◌then◌else◌}
 use Rattle.std.proofs.lemmas.Bool.{and_parts, ltb-true}
 use Rattle.std.proofs.lemmas.List.Concat.{flat_map-append}
 use Rattle.ql_types.specs.Ids.{transaction_in}
@@ -80,9 +79,3 @@ state-more blocks b = state_from-more _ blocks b
 
 pub journal-more : (blocks : List Block) (b : Block) → journal_bytes (blocks ++ b ∷ []) ≡ journal_bytes blocks ++ line b
 journal-more blocks b = flat_map-append line blocks (b ∷ []) ∙ ap (λ z. journal_bytes blocks ++ z) (append-nil (line b))
-
-pub version-next : (blocks : List Block) (i : ℕ) (b : Block) (version now : State) → i < length blocks → b ≡ get_or blocks i b
-    → version ≡ state (take i blocks) → now ≡ after version b → now ≡ state (take (i + 1) blocks)
-version-next blocks i b version now within is so_far joins =
-    let more : take (i + 1) blocks ≡ take i blocks ++ b ∷ [] = take_more blocks i b within ∙ ap (λ (x : Block). take i blocks ++ x ∷ []) (sym is) in
-    joins ∙ ap (λ (s : State). after s b) so_far ∙ sym (ap state more ∙ state-more (take i blocks) b)

@@ -8,7 +8,7 @@ ghost use Rattle.journal_reader.specs.Loads.{IsLoaded, IsCause};
 ghost use Rattle.ledger_core.specs.Images.{ReloadGives};
 ghost use Rattle.ledger_core.specs.Known.{IsKnown, standing_of};
 
-use crate::tail::{Tail, version_of};
+use crate::tail::Tail;
 use ion_values::OutOfMemory;
 use journal_keeper::Keeper;
 use journal_reader::{Chain, Journal, LoadCause};
@@ -125,7 +125,7 @@ fn loaded_of(alloc: Global, journal: Journal, given: IdMask) -> Result<Loaded, O
     let (blocks, size, marked) = journal.into_parts();
     let mask = mask_of(blocks.as_slice(), given);
     let last = greatest_number(mask, blocks.as_slice());
-    let version = version_of(alloc, blocks.as_slice())?;
+    let version = Versions::of(alloc, blocks.as_slice())?;
     Ok(Loaded {
         mask,
         last,

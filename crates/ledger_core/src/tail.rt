@@ -18,7 +18,6 @@ use outside::JournalStore;
 use pad_tree::Grow;
 use proof_model::{Digest, undamaged_is_chained};
 use ql_types::IdMask;
-use std::alloc::Global;
 use std::marker::Model;
 use std::snapshot::Snapshot;
 use versions::Versions;
@@ -148,16 +147,4 @@ impl<S: JournalStore, C> Tail<S, C> {
         } = keeper;
         (blocks.into_blocks(), store, clock)
     }
-}
-
-/// The version of these blocks.
-pub(crate) fn version_of(alloc: Global, blocks: &[Block]) -> Result<Versions, OutOfMemory>
-    ensures { IfOk result (λ version. version ≡ state blocks.now) }
-{
-    let mut version = Versions::empty(alloc);
-    'admitted: for block in blocks {
-        let next = version.after(block)?;
-        version = next;
-    }
-    Ok(version)
 }

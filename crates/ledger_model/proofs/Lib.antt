@@ -9,3 +9,4 @@ mod FootprintRows
 mod WritingRows
 mod HistoryRows
 mod ReadRows
+mod RepeatedNames

@@ -5,6 +5,7 @@
 mod block;
 mod blocks;
 mod damage;
+mod fields;
 mod outcome;
 mod parts;
 mod script;
@@ -15,6 +16,7 @@ pub use block::{
 };
 pub use blocks::Blocks;
 pub use damage::Damage;
+pub use fields::{repeats, value_named};
 pub use outcome::{Item, Named, Outcome, Outcomes, PlacedOutcome, Refusal};
 pub use parts::{blob_in, fields_in, int_in, list_in, string_in, symbol_in};
 pub use pql_model::{Answer, ParseKind, Row};

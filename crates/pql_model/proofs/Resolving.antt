@@ -1,9 +1,8 @@
 -- What a name means where one source more is seen.
 use Rattle.std.proofs.Common.{◌≡◌, ℕ, zero, suc, ◌+◌, ◌<◌, List, [], ◌∷◌, ◌++◌, length, get_or, map, take, Option, Some, None, refl, ap, ◌∙◌, arith}
 use Rattle.std.proofs.lemmas.List.{length-map, length-take-le, map_more}
-use Rattle.pql_model.specs.declared.scope.Bound.{Bound}
 use Rattle.pql_model.specs.declared.names.Resolved.{Resolved}
-use Rattle.pql_model.specs.Names.{Called, called_in_row, or_else, resolve, resolve_from, resolved_by}
+use Rattle.pql_model.specs.Names.{Called, or_else, resolve, resolve_from, resolved_by}
 
 nothing_before : (r : Option Resolved) → r ≡ or_else r None
 nothing_before (Some r) = refl
@@ -24,14 +23,14 @@ resolve_more place name (x ∷ xs) c =
     ∙ regroup (resolved_by (place + 1 + length xs) name c) (resolve_from (place + 1) name xs) (resolved_by place name x)
     ∙ ap (λ n. or_else (resolved_by n name c) (or_else (resolve_from (place + 1) name xs) (resolved_by place name x))) same
 
-taken_length : (n : ℕ) (scope : List Bound) → n < length scope → length (map called_in_row (take n scope)) ≡ n
-taken_length n scope within = length-map (take n scope) called_in_row ∙ length-take-le n scope (omega (arith, within))
+taken_length : {A : Type 0} (call : A → Called) (n : ℕ) (xs : List A) → n < length xs → length (map call (take n xs)) ≡ n
+taken_length call n xs within = length-map (take n xs) call ∙ length-take-le n xs (omega (arith, within))
 
--- the sources of a row, one after the other
-pub resolve_next : (name : List ℕ) (scope : List Bound) (n : ℕ) (b : Bound) (old : Option Resolved) → n < length scope → b ≡ get_or scope n b
-    → old ≡ resolve name (map called_in_row (take n scope))
-    → or_else (resolved_by n name (called_in_row b)) old ≡ resolve name (map called_in_row (take (n + 1) scope))
-resolve_next name scope n b old within is before =
+-- what is called so, in a row or in a FROM, one after the other
+pub resolve_next : {A : Type 0} (call : A → Called) (name : List ℕ) (xs : List A) (n : ℕ) (x : A) (old : Option Resolved)
+    → n < length xs → x ≡ get_or xs n x → old ≡ resolve name (map call (take n xs))
+    → or_else (resolved_by n name (call x)) old ≡ resolve name (map call (take (n + 1) xs))
+resolve_next call name xs n x old within is before =
     let same : n ≡ 0 + n = omega arith in
-    rw (map_more called_in_row scope n b within, ← is, resolve_more 0 name (map called_in_row (take n scope)) (called_in_row b), taken_length n scope within, ← before)
-    (ap (λ k. or_else (resolved_by k name (called_in_row b)) old) same)
+    rw (map_more call xs n x within, ← is, resolve_more 0 name (map call (take n xs)) (call x), taken_length call n xs within, ← before)
+    (ap (λ k. or_else (resolved_by k name (call x)) old) same)

@@ -9,6 +9,7 @@ mod ids;
 mod laws;
 mod mark;
 mod names;
+mod roots;
 mod scope;
 mod selector;
 mod statement;
@@ -21,7 +22,8 @@ pub use fields::{field_of, has_key, key_in};
 pub use ids::id_text;
 pub use laws::{answers_are_shallow, depth_is_bounded, parsed_is_shallow, tables_are_changed};
 pub use mark::{Mark, Marks, Place, Role};
-pub use names::{Resolved, last_name, resolve, root_at};
+pub use names::{Resolved, last_name, resolve, resolve_source, root_at};
+pub use roots::{Roots, has_root, roots_of};
 pub use scope::{Bindings, Bound, Evaluated, Scope};
 pub use selector::{Selector, Selectors};
 pub use statement::{

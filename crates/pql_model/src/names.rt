@@ -5,6 +5,8 @@ ghost use Rattle.pql_model.specs.Names as names;
 
 use crate::expr::PathStep;
 use crate::scope::Bound;
+use crate::statement::Source;
+use containers::Text;
 
 /// What a name means of the sources of a statement: the source at a place, counted from 0, or the id of its document.
 #[derive(Clone, Copy, Debug, PartialEq, Eq)]
@@ -13,22 +15,28 @@ pub enum Resolved {
     Id(usize),
 }
 
-fn is_id(name: &str, bound: &Bound) -> bool
-    ensures { result ≡ names.is_id name.now bound.now.id_name }
+fn is_id(name: &str, id_name: &Option<Text>) -> bool
+    ensures { result ≡ names.is_id name.now id_name.now }
 {
-    match &bound.id_name {
+    match id_name {
         Some(id) => id.as_str() == name,
         None => false,
     }
 }
 
-fn resolved_by(place: usize, name: &str, bound: &Bound) -> Option<Resolved>
-    ensures { result ≡ names.resolved_by place name.now (names.called_in_row bound.now) }
+/// What a name means of the source at a place, by its variable and, if it has one, its BY name.
+fn resolved_by(
+    place: usize,
+    name: &str,
+    variable: &Text,
+    id_name: &Option<Text>,
+) -> Option<Resolved>
+    ensures { result ≡ names.resolved_by place name.now (record { variable = variable.now; id_name = id_name.now }) }
 {
-    if is_id(name, bound) {
+    if is_id(name, id_name) {
         return Some(Resolved::Id(place));
     }
-    if bound.variable.as_str() == name {
+    if variable.as_str() == name {
         return Some(Resolved::Variable(place));
     }
     None
@@ -43,14 +51,28 @@ fn later(found: Option<Resolved>, before: Option<Resolved>) -> Option<Resolved>
     }
 }
 
-/// What the name means of the sources in a row: of those that are spelt alike the last, a BY name
-/// counting after the variable of its source.
+/// What the name means of the sources in a row. Of those that are spelt alike it means the last, a BY name counting
+/// after the variable of its source.
 pub fn resolve(name: &str, scope: &[Bound]) -> Option<Resolved>
     ensures { result ≡ names.resolve name.now (map names.called_in_row scope.now) }
 {
     let mut last = None;
     'sources: for (place, bound) in scope.iter().enumerate() {
-        last = later(resolved_by(place, name, bound), last);
+        let found = resolved_by(place, name, &bound.variable, &bound.id_name);
+        last = later(found, last);
+    }
+    last
+}
+
+/// What the name means of the sources of a FROM. Of those that are spelt alike it means the last, a BY name counting
+/// after the variable of its source.
+pub fn resolve_source(name: &str, sources: &[Source]) -> Option<Resolved>
+    ensures { result ≡ names.resolve name.now (map names.called sources.now) }
+{
+    let mut last = None;
+    'sources: for (place, source) in sources.iter().enumerate() {
+        let found = resolved_by(place, name, &source.variable, &source.id_name);
+        last = later(found, last);
     }
     last
 }

@@ -1,20 +1,17 @@
 //! Digests and proofs that values spell.
-ghost use Rattle.std.specs.Prelude.{◌≡◌, ◌^◌, [], ◌∷◌, IfOk};
+ghost use Rattle.std.specs.Prelude.{◌≡◌, ◌^◌, IfOk};
 ghost use Rattle.ledger_model.specs.Script.{and_then, each};
 ghost use Rattle.value_codec.specs.ReadParts.{hash_in, named, number_in};
-ghost use Rattle.block_form.specs.ReadBack.{header_of};
 ghost use Rattle.proof_model.specs.ReadProofs as spec;
 
 use crate::{Digest, Proof};
+use block_form::header_with;
 use containers::Sequence;
 use ion_values::{Field, OutOfMemory, Value};
 use ledger_model::Header;
 use pad_tree::Hashes;
-use ql_types::TxId;
 use std::alloc::Global;
-use value_codec::read_parts::{
-    address_in, fields_in, hash_in, id_in, list_in, moment_in, named, small_number_in,
-};
+use value_codec::read_parts::{address_in, fields_in, hash_in, list_in, named, small_number_in};
 
 /// The digest whose value this is, or None where it is no digest's.
 pub fn digest_in(v: &Value) -> Option<Digest>
@@ -26,21 +23,6 @@ pub fn digest_in(v: &Value) -> Option<Digest>
     let digest = hash_in(named(digest, "digest")?)?;
     let tip = address_in(named(tip, "digestTipAddress")?)?;
     Some(Digest { digest, tip })
-}
-
-/// The header of this number of revisions.
-fn front_of(revisions: u32, address: &Field, tx: &Field, time: &Field) -> Option<Header>
-    ensures { result ≡ header_of revisions (address.now ∷ tx.now ∷ time.now ∷ []) }
-{
-    let address = address_in(named(address, "blockAddress")?)?;
-    let tx = id_in(named(tx, "transactionId")?)?;
-    let time = moment_in(named(time, "blockTimestamp")?)?;
-    Some(Header {
-        address,
-        tx: TxId { raw: tx },
-        time,
-        revisions,
-    })
 }
 
 /// The number in a field of this name.
@@ -57,7 +39,7 @@ fn header_of(fields: &[Field]) -> Option<Header>
         return None;
     };
     let revisions = named_number(revisions, "revisionCount")?;
-    front_of(revisions, address, tx, time)
+    header_with(revisions, address, tx, time)
 }
 
 fn header_in(v: &Value) -> Option<Header>

@@ -2,4 +2,3 @@ pub mod Countable
 pub mod Each
 pub mod Grouped
 pub mod Moments
-pub mod Repeats

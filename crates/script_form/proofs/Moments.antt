@@ -1,5 +1,5 @@
 -- The date of a day, and the moments that have a timestamp.
-use Rattle.std.proofs.Common.{◌≡◌, ℕ, zero, suc, ◌+◌, ◌/◌, ◌%◌, ◌<◌, ◌≤◌, Bool, true, false, ◌&&◌, ℤ, pos, negsuc, neg_ℤ, ◌≤ℤ◌, ◌<ℤ◌, ◌-ℤ◌, int_le, int_lt, unsigned_abs, refl, sym, ◌∙◌, ap, subst, inl, inr, arith, w64, to_z, of_z, FitsSigned}
+use Rattle.std.proofs.Common.{◌≡◌, ℕ, zero, suc, ◌+◌, ◌/◌, ◌%◌, ◌<◌, ◌≤◌, Bool, true, false, ◌&&◌, ℤ, pos, negsuc, neg_ℤ, ◌≤ℤ◌, ◌-ℤ◌, int_le, int_lt, unsigned_abs, refl, sym, ◌∙◌, ap, subst, inl, inr, arith, w64, to_z, of_z, FitsSigned}
 use Rattle.std.specs.Int.{w128}
 use Rattle.std.proofs.lemmas.Bool.Decides.{leb_tells}
 use borrow.Author.Differences.{up, down, le-true, le-false, lt-true, lt-false}
@@ -109,23 +109,6 @@ module _ (y m d : ℕ) (civil : IsCivilDate (pos y) m d) (first : 1 ≤ y) (last
 
   pub date_is : (nanos : ℕ) → time_on (days_from_civil (pos y) m d) nanos ≡ time_at y m d nanos
   date_is nanos = rw (year_is, month_is, day_is) refl
-
-before_first_year : (y : ℤ) (m d : ℕ) → IsCivilDate y m d → y <ℤ pos 1 → neg_ℤ (pos 719_162) ≤ℤ days_from_civil y m d → ⊥
-before_first_year y m d civil early late =
-    omega (
-      arith,
-      signed_arith,
-      first_day,
-      days_from_civil-day_count (pos 1) 1 1,
-      days_from_civil-day_count y m d,
-      day_count-lt_year y m d (pos 1) 1 1 civil (omega arith) early,
-    )
-
--- a date from the year 1 on
-pub from_first_year : (y : ℤ) (m d : ℕ) → IsCivilDate y m d → neg_ℤ (pos 719_162) ≤ℤ days_from_civil y m d → pos 1 ≤ℤ y
-from_first_year (pos zero) m d civil late = absurd (before_first_year (pos zero) m d civil (omega (arith, signed_arith)) late)
-from_first_year (pos (suc n)) m d civil late = omega (arith, signed_arith)
-from_first_year (negsuc n) m d civil late = absurd (before_first_year (negsuc n) m d civil (omega (arith, signed_arith)) late)
 
 -- ---- which moments have a timestamp
 

@@ -2,7 +2,6 @@
 ghost use Rattle.std.specs.Prelude.{◌≡◌, [], ◌∷◌, codes, option_map, IfOk, MatchOption};
 ghost use Rattle.ledger_model.specs.Journal.{structure};
 ghost use Rattle.ledger_model.specs.Script.{and_then, each};
-ghost use Rattle.ledger_model.specs.Whole as whole;
 ghost use Rattle.value_codec.specs.ReadParts.{named};
 ghost use Rattle.block_form.specs.ReadBack.{IsReadAs, revision_in};
 ghost use Rattle.stream_out.specs.declared.record.Record.TheVariants as kind;
@@ -10,10 +9,10 @@ ghost use Rattle.stream_out.specs.ReadRecords as spec;
 
 use crate::record::{Details, Listed, Record, RevisionSummary, Summary};
 use crate::stand_ins::stand_in_values;
-use block_form::{from_ion, revision_in};
+use block_form::{from_ion, is_shallow, revision_in};
 use containers::Sequence;
-use ion_values::{Field, Fields, OutOfMemory, Text, Value, copy, depth};
-use ledger_model::{Block, Content, Revision};
+use ion_values::{Field, Fields, OutOfMemory, Text, Value, copy};
+use ledger_model::{Block, Revision};
 use ql_types::{DocId, TableId};
 use std::alloc::Global;
 use value_codec::parts::{list, put, structure};
@@ -192,17 +191,6 @@ fn revision_of(alloc: Global, field: &Field) -> Result<Option<Revision>, OutOfMe
     };
     let revision = revision_in(alloc, value)?;
     Ok(revision)
-}
-
-/// Whether a document nests at most 64 deep.
-fn is_shallow(content: &Content) -> bool
-    ensures { result ≡ whole.is_shallow content.now }
-{
-    match content {
-        Content::Deleted => true,
-        Content::Kept(value) => depth(value) <= 64,
-        Content::Redacted(_) => true,
-    }
 }
 
 fn details_with(

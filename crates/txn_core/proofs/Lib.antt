@@ -10,7 +10,7 @@ pub mod Running
 pub mod Overlaid
 pub mod Planned
 pub mod Selects
-pub mod Resolving
+pub mod Rooted
 pub mod Schemas
 pub mod Touched
 pub mod Walking

@@ -4,7 +4,7 @@ ghost use Rattle.std.specs.Option.{option_copied};
 ghost use Rattle.ledger_model.specs.Follows.{has_index, latest_of, named_by};
 ghost use Rattle.ledger_model.specs.Run.{active_count};
 ghost use Rattle.ledger_model.specs.SchemaChanges.{index_count};
-ghost use Rattle.ledger_model.specs.State.{active_table, after, draft_of, empty};
+ghost use Rattle.ledger_model.specs.State.{active_table, after, draft_of, empty, state};
 ghost use Rattle.ledger_model.specs.Views.{latest};
 ghost use Rattle.versions.specs.ByTable.{revisions_in};
 ghost use Rattle.versions.specs.Held.{drafts_lent, indexed_of, recorded_lent, recorded_of, table_of};
@@ -82,6 +82,18 @@ impl Versions {
             tables,
             documents,
         })
+    }
+
+    /// The version of these blocks.
+    pub fn of(alloc: Global, blocks: &[Block]) -> Result<Versions, OutOfMemory>
+        ensures { IfOk result (λ version. version ≡ state blocks.now) }
+    {
+        let mut version = Versions::empty(alloc);
+        'admitted: for block in blocks {
+            let next = version.after(block)?;
+            version = next;
+        }
+        Ok(version)
     }
 
     /// The same version once more. One more owner of it may be refused.

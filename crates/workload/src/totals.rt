@@ -1,14 +1,12 @@
 //! What a history of a made workload adds up to.
-ghost use Rattle.std.specs.Prelude.{◌≡◌, length, option_map, sum_by, IfOk};
-ghost use Rattle.std.specs.Option.{option_copied};
-ghost use Rattle.ledger_model.specs.ReadScript.{named};
-ghost use Rattle.ledger_model.specs.State.{draft_of, state};
+ghost use Rattle.std.specs.Prelude.{◌≡◌, option_map, sum_by, IfOk};
+ghost use Rattle.ledger_model.specs.State.{draft_of};
 ghost use Rattle.ledger_model.specs.Views.{row_of};
 ghost use Rattle.versions.specs.Held.{drafts_lent, recorded_of};
 ghost use Rattle.workload.specs.Sums.{amount_in, amount_of, made_rows, number_in, row_amount, rows_among, summary, summary_text, totals_of};
 
-use ion_values::{Body, Field, OutOfMemory, Text, Value};
-use ledger_model::{Block, Content, fields_in};
+use ion_values::{Body, OutOfMemory, Text, Value};
+use ledger_model::{Block, Content, fields_in, value_named};
 use ql_types::TableId;
 use std::alloc::Global;
 use versions::{Recorded, Versions, active_table};
@@ -34,23 +32,11 @@ fn number_in(v: &Value) -> Option<u64>
     }
 }
 
-/// The value of the first field of that name.
-fn named<'a>(name: &str, fields: &'a [Field]) -> Option<&'a Value>
-    ensures { option_copied result ≡ named name.now fields.now }
-{
-    'fields: for field in fields {
-        if field.name.as_str() == name {
-            return Some(&field.value);
-        }
-    }
-    None
-}
-
 fn amount_in(v: &Value) -> Option<u64>
     ensures { result ≡ amount_in v.now }
 {
     let fields = fields_in(v)?;
-    number_in(named("amount", fields.as_slice())?)
+    number_in(value_named("amount", fields.as_slice())?)
 }
 
 /// The amount of a document: the number in its first field `amount`, and 0 where that is none of at most 64 bits
@@ -107,23 +93,11 @@ pub fn totals_of(alloc: Global, blocks: u64, version: &Versions) -> Result<Total
     Ok(totals_among(blocks, table, documents.as_slice()))
 }
 
-/// The version of these blocks.
-fn version_of(alloc: Global, blocks: &[Block]) -> Result<Versions, OutOfMemory>
-    ensures { IfOk result (λ version. version ≡ state blocks.now) }
-{
-    let mut version = Versions::empty(alloc);
-    'versions: for block in blocks {
-        let next = version.after(block)?;
-        version = next;
-    }
-    Ok(version)
-}
-
 /// What the history of these blocks adds up to.
 pub fn summary(alloc: Global, blocks: &[Block]) -> Result<Totals, OutOfMemory>
     ensures { IfOk result (λ t. t ≡ summary blocks.now) }
 {
-    let version = version_of(alloc, blocks)?;
+    let version = Versions::of(alloc, blocks)?;
     let totals = totals_of(alloc, blocks.len() as u64, &version)?;
     Ok(totals)
 }

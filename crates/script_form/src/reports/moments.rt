@@ -1,14 +1,13 @@
 //! Moments, as timestamps in UTC.
 ghost use Rattle.std.specs.Prelude.{◌≡◌, ◌++◌, ◌<◌, ◌≤ℤ◌, pos, neg_ℤ, IsTrue, OnOk};
-ghost use Rattle.jiff_core.specs.Calendar.{days_from_civil};
-ghost use Rattle.ion_values.specs.Time.{IsTime, is_in_years};
+ghost use Rattle.ion_values.specs.Time.{is_in_years};
 ghost use Rattle.ledger_model.specs.Moment.{day_number, minutes_of, moment_text, nanos_of_day, time_at, time_on, utc_time};
 ghost use Rattle.ion_model.specs.Timestamp.{timestamp_text};
 
 use super::pieces::{put_body, put_int};
 use containers::{OutOfMemory, Text};
+use ion_time::{date_of, time_of, year_of};
 use ion_values::{Body, IonTime, Precision, TimeParts};
-use jiff_core::civil::Date;
 use std::alloc::Global;
 
 /// A day in billionths of a second.
@@ -81,31 +80,7 @@ fn time_on(day: i64, nanos: u64) -> IonTime
 {
     let date = date_of(day);
     let year = year_of(date);
-    made(time_at(year, date.month, date.day, nanos))
-}
-
-fn year_of(date: Date) -> u16
-    requires { pos 1 ≤ℤ date.year }
-    ensures { pos result ≡ date.year }
-{
-    date.year as u16
-}
-
-/// The date of the day of this number.
-fn date_of(day: i64) -> Date
-    requires first { neg_ℤ (pos 719_162) ≤ℤ day }
-    requires last { day ≤ℤ pos 2_932_896 }
-    ensures value { days_from_civil result.year result.month result.day ≡ day }
-    ensures first { pos 1 ≤ℤ result.year }
-{
-    Date::from_unix_epoch_day(day).unwrap()
-}
-
-fn made(parts: TimeParts) -> IonTime
-    requires { IsTime parts }
-    ensures { result ≡ parts }
-{
-    IonTime::new(parts).unwrap()
+    time_of(time_at(year, date.month, date.day, nanos))
 }
 
 /// The parts of a moment of a date, `nanos` nanoseconds after its beginning.

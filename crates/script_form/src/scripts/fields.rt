@@ -1,17 +1,16 @@
 //! The fields of a transaction.
-ghost use Rattle.std.specs.Prelude.{◌≡◌, IfOk, Err};
-ghost use Rattle.std.specs.Option.{option_copied, ok_or};
+ghost use Rattle.std.specs.Prelude.{◌≡◌, Err};
+ghost use Rattle.std.specs.Option.{ok_or};
 ghost use Rattle.std.specs.List.{list_any};
-ghost use Rattle.ledger_model.specs.ReadScript.{abort_in, abort_said, digest_in, digest_said, is_known, is_unknown, named, repeats, retries_in, retries_of, retries_said, statements_said};
+ghost use Rattle.ledger_model.specs.ReadScript.{abort_in, abort_said, digest_in, digest_said, is_known, is_unknown, named, retries_in, retries_of, retries_said, statements_said};
 ghost use Rattle.script_form.specs.Answers.{GivesKind};
 
 use super::jobs::JobFault;
 use super::statements::statements_in;
-use ion_values::{Field, Fields, OutOfMemory, Value};
-use ledger_model::{Asked, ScriptKind, blob_in, int_in, symbol_in};
+use ion_values::{Field, Fields, Value};
+use ledger_model::{Asked, ScriptKind, blob_in, int_in, symbol_in, value_named};
 use ql_types::Hash32;
 use std::alloc::Global;
-use std::collections::BTreeSet;
 
 fn is_known(name: &str) -> bool
     ensures { result ≡ is_known name.now }
@@ -30,33 +29,6 @@ pub fn has_unknown(fields: &[Field]) -> bool
     ensures { result ≡ list_any is_unknown fields.now }
 {
     fields.iter().any(|field| is_unknown(field))
-}
-
-/// Whether two fields have one name. The fields are gone over once, with the names behind in a set.
-pub fn repeats(alloc: Global, fields: &[Field]) -> Result<bool, OutOfMemory>
-    ensures { IfOk result (λ found. found ≡ repeats fields.now) }
-{
-    let mut names = BTreeSet::new(alloc);
-    let mut left = fields.len();
-    'fields: while left > 0 {
-        left -= 1;
-        if !names.insert(fields[left].name.as_str())? {
-            return Ok(true);
-        }
-    }
-    Ok(false)
-}
-
-/// The value of the first field of that name.
-fn named<'a>(name: &str, fields: &'a [Field]) -> Option<&'a Value>
-    ensures { option_copied result ≡ named name.now fields.now }
-{
-    'fields: for field in fields {
-        if field.name.as_str() == name {
-            return Some(&field.value);
-        }
-    }
-    None
 }
 
 /// The value of the first field of that name, handed over.
@@ -104,7 +76,7 @@ fn retries_in(value: &Value) -> Option<u32>
 pub fn retries_said(fields: &[Field]) -> Result<u32, JobFault>
     ensures { GivesKind result (retries_said fields.now) }
 {
-    let Some(value) = named("retries", fields) else {
+    let Some(value) = value_named("retries", fields) else {
         return Ok(4);
     };
     match retries_in(value) {
@@ -127,7 +99,7 @@ fn digest_in(value: &Value) -> Option<Option<Hash32>>
 pub fn digest_said(fields: &[Field]) -> Result<Option<Hash32>, JobFault>
     ensures { GivesKind result (digest_said fields.now) }
 {
-    let Some(value) = named("digest", fields) else {
+    let Some(value) = value_named("digest", fields) else {
         return Ok(None);
     };
     match digest_in(value) {
@@ -150,7 +122,7 @@ fn abort_in(value: &Value) -> Option<bool>
 pub fn abort_said(fields: &[Field]) -> Result<bool, JobFault>
     ensures { GivesKind result (abort_said fields.now) }
 {
-    let Some(value) = named("end", fields) else {
+    let Some(value) = value_named("end", fields) else {
         return Ok(false);
     };
     match abort_in(value) {

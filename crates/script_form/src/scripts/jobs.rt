@@ -3,9 +3,9 @@ ghost use Rattle.std.specs.Prelude.{◌≡◌};
 ghost use Rattle.ledger_model.specs.ReadScript.{job_of_fields, job_said, read_job};
 ghost use Rattle.script_form.specs.Answers.{GivesKind};
 
-use super::fields::{abort_said, digest_said, has_unknown, repeats, retries_said, statements_said};
+use super::fields::{abort_said, digest_said, has_unknown, retries_said, statements_said};
 use ion_values::{Fields, OutOfMemory, Value};
-use ledger_model::{Job, ScriptKind};
+use ledger_model::{Job, ScriptKind, repeats};
 use std::alloc::Global;
 use value_codec::takes::into_fields;
 

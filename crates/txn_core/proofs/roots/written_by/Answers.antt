@@ -1,4 +1,4 @@
-use Rattle.txn_core.proofs.Resolving.{written_is}
+use Rattle.txn_core.proofs.Rooted.{written_is}
 use Rattle.txn_core.proofs.roots.written_by.Goals as goal
 
 pub returns : goal.returns

@@ -1,8 +1,0 @@
-use Rattle.std.proofs.Common.{◌≡◌, drop}
-use Rattle.std.specs.List.{list_any}
-use Rattle.ledger_model.specs.Writing.{is_at}
-use Rattle.access_rules.proofs.roots.is_changed.Given as goal
-
--- those in front are others
-abbrev pub invariant-roots : goal.invariant-roots
-invariant-roots l = list_any (is_at l.place) (drop l.root-index l.roots) ≡ list_any (is_at l.place) l.roots

@@ -1,7 +1,0 @@
-use Rattle.std.proofs.Common.{◌≡◌, drop}
-use Rattle.ledger_model.specs.ReadScript.{named}
-use Rattle.script_form.proofs.scripts.fields.named.Given as goal
-
--- no field before has the name
-abbrev pub invariant-fields : goal.invariant-fields
-invariant-fields l = named l.name (drop l.field-index l.fields) ≡ named l.name l.fields
