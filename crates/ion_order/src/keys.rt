@@ -23,7 +23,7 @@ fn zeros_at_end(number: u128) -> u32
     zeros
 }
 
-// The number with so many zeros taken off its end.
+// The number with `zeros` zeros taken off its end.
 fn without_zeros(number: i128, zeros: u32) -> i128
     requires { zeros ≤ 38 }
     ensures { result ≡ int_div number (pos (10 ^ zeros)) }

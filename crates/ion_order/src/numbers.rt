@@ -23,7 +23,7 @@ pub fn whole(number: i128) -> Decimal
     }
 }
 
-// The number with so many zeros put at its end, if an i128 holds it.
+// The number with `zeros` zeros put at its end, if an i128 holds it.
 fn with_zeros(number: i128, zeros: u32) -> Option<i128>
     ensures { SomeIff result (FitsSigned w128 (number *ℤ pos (10 ^ zeros))) (number *ℤ pos (10 ^ zeros)) }
 {

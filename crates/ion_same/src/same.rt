@@ -1,9 +1,9 @@
 //! Values compared with the order of their fields.
 ghost use Rattle.std.specs.Prelude.{◌≡◌, map};
-ghost use Rattle.ion_values.specs.Equivalent.{in_order, same_names};
+ghost use Rattle.ion_values.specs.Equivalent.{in_order};
 ghost use Rattle.ion_same.specs.Same as spec;
 
-use ion_values::{Body, Field, Text, Value};
+use ion_values::{Body, Field, Value, same_names};
 
 /// Whether two values are equal, their fields in equal order. It takes no memory.
 #[cycle(same)]
@@ -32,20 +32,6 @@ fn same_body(a: &Body, b: &Body) -> bool
         (Body::Struct(a), Body::Struct(b)) => same_fields(a.as_slice(), b.as_slice()),
         _ => false,
     }
-}
-
-fn same_names(a: &[Text], b: &[Text]) -> bool
-    ensures { result ≡ same_names a.now b.now }
-{
-    if a.len() != b.len() {
-        return false;
-    }
-    for at in 0..a.len() {
-        if a[at].as_str() != b[at].as_str() {
-            return false;
-        }
-    }
-    true
 }
 
 /// Whether two lists of values are equal.

@@ -40,7 +40,8 @@ fn same_body(a: &Body, b: &Body) -> bool
     }
 }
 
-fn same_names(a: &[Text], b: &[Text]) -> bool
+/// Whether the names are equal, in their order.
+pub fn same_names(a: &[Text], b: &[Text]) -> bool
     ensures { result ≡ spec.same_names a.now b.now }
 {
     if a.len() != b.len() {

@@ -17,7 +17,7 @@ pub use containers::{Bytes, OutOfMemory, Text};
 pub use copies::{copy, copy_values};
 pub use decimal::Decimal;
 pub use depths::depth;
-pub use equivalence::equivalent;
+pub use equivalence::{equivalent, same_names};
 pub use fault::{IonFault, IonKind};
 pub use laws::{days_are_numbered, equal_keys_are_one, keys_are_ordered};
 pub use ranges::{is_within, text_is_within, values_are_within};

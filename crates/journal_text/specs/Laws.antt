@@ -10,7 +10,8 @@ use Rattle.ledger_model.specs.Recovered.{has_no_line_feed, IsJournal, IsDamaged}
 
 pub record JournalsTell : Type 0 where
   -- the lines of an undamaged journal, and a rest that is no whole line, are a journal of its blocks
-  pub written : (blocks : List Block) (rest : List ℕ) → Undamaged blocks → AreAsked blocks → has_no_line_feed rest ≡ true →
+  pub written : (blocks : List Block) (rest : List ℕ) →
+      Undamaged blocks → AreAsked blocks → has_no_line_feed rest ≡ true →
       IsJournal (journal_bytes blocks ++ rest) blocks rest
   -- of no other blocks and no other rest
   pub one_journal : (bytes : List ℕ) (a b : List Block) (r s : List ℕ) → IsJournal bytes a r → IsJournal bytes b s →

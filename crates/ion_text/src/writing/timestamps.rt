@@ -46,7 +46,7 @@ fn put_fraction(out: &mut Output, count: u8, nanos: u32) -> Result<(), OutOfMemo
     put_first(out, count, nanos)
 }
 
-// `hh:mm` of so many minutes.
+// `hh:mm` of the minutes.
 fn put_clock(out: &mut Output, minutes: u32) -> Result<(), OutOfMemory>
     ensures { OnOk result (out.new ≡ out.old ++ clock_text minutes) }
 {
