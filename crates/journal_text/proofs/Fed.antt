@@ -138,7 +138,7 @@ stands_all blocks at r end stands = subst (λ (bs : List Block). StandsBehind bs
 
 -- ---- what a reader keeps true
 
-take_none : (xs : List ℕ) → take 0 xs ≡ []
+pub take_none : (xs : List ℕ) → take 0 xs ≡ []
 take_none [] = refl
 take_none (x ∷ xs) = refl
 

@@ -1,4 +1,7 @@
 mod Pieces
+pub mod BlocksCross
+mod LinesCross
+mod ReadyLines
 mod Scalars
 mod Written
 pub mod Lasts

@@ -4,3 +4,4 @@ pub mod Laws
 pub mod Lines
 pub mod Reading
 pub mod Feeding
+pub mod Shares

@@ -6,11 +6,13 @@ ghost use Rattle.ledger_model.specs.Damages.{damage_behind, Undamaged};
 ghost use Rattle.ledger_model.specs.HashesAsked.{AreAsked};
 ghost use Rattle.ledger_model.specs.Journal.{journal_bytes};
 ghost use Rattle.ledger_model.specs.Recovered.{has_no_line_feed, IsLineOf, IsJournal};
+ghost use Rattle.journal_text.specs.Lines.{IsLineRead};
 ghost use Rattle.journal_text.specs.Reading.{IsFault, IsRefused, StandsBehind};
 
 use crate::checks::damage_of;
 use crate::lines::block_of;
 use crate::registry::Registry;
+use block_form::CheckedBlock;
 use ion_values::OutOfMemory;
 use ledger_model::{Block, Blocks, Damage};
 use std::alloc::Global;
@@ -39,7 +41,7 @@ impl From<OutOfMemory> for JournalFault {
 }
 
 /// Where the first line feed stands, if there is one.
-fn first_feed(bytes: &[u8]) -> Option<usize>
+pub(crate) fn first_feed(bytes: &[u8]) -> Option<usize>
     ensures { result ≡ position (λ byte. byte == 10) bytes.now }
 {
     bytes.iter().position(|byte| *byte == b'\n')
@@ -58,7 +60,7 @@ pub(crate) fn first_line(bytes: &[u8]) -> Option<&[u8]>
 }
 
 /// What stands from a place on.
-fn rest_of(bytes: &[u8], at: usize) -> &[u8]
+pub(crate) fn rest_of(bytes: &[u8], at: usize) -> &[u8]
     requires { at ≤ length bytes.now }
     ensures { result.now ≡ drop at bytes.now }
 {
@@ -68,7 +70,7 @@ fn rest_of(bytes: &[u8], at: usize) -> &[u8]
 
 /// The block of this line, if it passes each check after these blocks. The text is the line without its line feed. The
 /// registry is that of the blocks, and takes the new one in; after an error it is of no more use.
-pub(crate) fn next_block(
+fn next_block(
     alloc: Global,
     registry: &mut Registry,
     before: &[Block],
@@ -80,8 +82,30 @@ pub(crate) fn next_block(
     ensures stands { IfOk result (λ b. StandsBehind (before.now ++ b ∷ []) registry.new) }
     ensures fault { IfErr result (λ fault. IsRefused before.now (text.now ++ 10 ∷ []) fault) }
 {
+    let found = block_of(alloc, text)?;
+    let block = checked_block(alloc, registry, before, found)?;
+    Ok(block)
+}
+
+/// The block that a line was read as, if it passes each check after these blocks.
+///
+/// The registry is that of the blocks, and takes the new one in; after an error it is of no more use.
+pub(crate) fn checked_block(
+    alloc: Global,
+    registry: &mut Registry,
+    before: &[Block],
+    found: Option<CheckedBlock>,
+) -> Result<Block, JournalFault>
+    requires stands { StandsBehind before.now registry.old }
+    requires read { (line : List ℕ) × IsLineRead line found }
+    ensures line { IfOk result (λ b. (line : List ℕ) → IsLineRead line found → IsLineOf line b) }
+    ensures undamaged { IfOk result (λ b. damage_behind before.now b ≡ None) }
+    ensures stands { IfOk result (λ b. StandsBehind (before.now ++ b ∷ []) registry.new) }
+    ensures fault { IfErr result (λ fault. (line : List ℕ) → IsLineRead line found
+        → IsRefused before.now line fault) }
+{
     let sequence = before.len() as u64;
-    let Some(checked) = block_of(alloc, text)? else {
+    let Some(checked) = found else {
         return Err(JournalFault::Damaged {
             sequence,
             kind: Damage::NotALine,

@@ -11,6 +11,7 @@ mod laws;
 mod lines;
 mod reader;
 mod registry;
+mod shares;
 
 use block_form::to_ion;
 use ion_text::write;

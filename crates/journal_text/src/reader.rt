@@ -5,11 +5,16 @@ ghost use Rattle.std.specs.Io.BufRead.{take_through};
 ghost use Rattle.ledger_model.specs.Damages.{Undamaged};
 ghost use Rattle.ledger_model.specs.Recovered.{has_no_line_feed, IsJournal};
 ghost use Rattle.journal_text.specs.Feeding.{damage_in, lasting, taken, IsOneMore, SameTaken};
+ghost use Rattle.journal_text.specs.Lines.{IsLineRead};
 ghost use Rattle.journal_text.specs.Reading.{IsFault, IsLineFault, IsRefused, StandsBehind};
 
+mod ready;
+
 use crate::checks::damage_of;
-use crate::journal::{JournalFault, check_asked, first_line, next_block};
+use crate::journal::{JournalFault, check_asked, checked_block, first_line};
+use crate::lines::block_of;
 use crate::registry::Registry;
+use block_form::CheckedBlock;
 use ion_values::OutOfMemory;
 use ledger_model::{Block, Blocks};
 use std::alloc::Global;
@@ -235,9 +240,33 @@ fn take_line(
     ensures same { OnErr result (blocks.new.list ≡ blocks.old.list) }
     ensures fault { IfErr result (λ fault. IsRefused blocks.old.list (text.now ++ 10 ∷ []) fault) }
 {
+    let found = block_of(alloc, text)?;
+    let registry = take_found(alloc, blocks, registry, found)?;
+    Ok(registry)
+}
+
+/// Appends the block that a line was read as, if it passes each check, and returns the registry with it.
+///
+/// The given registry is that of the blocks; if there is none, it is made anew.
+fn take_found(
+    alloc: Global,
+    blocks: &mut Blocks,
+    registry: Option<Registry>,
+    found: Option<CheckedBlock>,
+) -> Result<Registry, JournalFault>
+    requires undamaged { Undamaged blocks.old.list }
+    requires stands { IfSome registry (StandsBehind blocks.old.list) }
+    requires read { (line : List ℕ) × IsLineRead line found }
+    ensures block { OnOk result ((line : List ℕ) → IsLineRead line found
+        → IsOneMore blocks.old.list blocks.new.list line) }
+    ensures stands { IfOk result (StandsBehind blocks.new.list) }
+    ensures same { OnErr result (blocks.new.list ≡ blocks.old.list) }
+    ensures fault { IfErr result (λ fault. (line : List ℕ) → IsLineRead line found
+        → IsRefused blocks.old.list line fault) }
+{
     blocks.make_room()?;
     let mut registry = registry_for(alloc, blocks.as_slice(), registry)?;
-    let block = next_block(alloc, &mut registry, blocks.as_slice(), text)?;
+    let block = checked_block(alloc, &mut registry, blocks.as_slice(), found)?;
     blocks.push(block).unwrap();
     Ok(registry)
 }

@@ -20,7 +20,7 @@ use Rattle.ledger_shared.specs.contracts.shared.Shared.TheInside as SharedInside
 use Rattle.ledger_shared.specs.contracts.ledger.Ledger as Ledger
 use Rattle.ledger_shared.specs.contracts.worker.Worker as Worker
 use Rattle.ledger_shared.specs.contracts.workers.Desk as Desk
-use Rattle.ledger_shared.proofs.BlocksCross.{blocks_send}
+use Rattle.journal_text.proofs.BlocksCross.{blocks_send}
 use Rattle.ledger_shared.proofs.StatesCross.{versions_send}
 
 entry_send : IsSend Entry.the_row

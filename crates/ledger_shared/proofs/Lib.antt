@@ -17,7 +17,6 @@ pub mod Imaging
 pub mod Recovering
 pub mod Tailed
 pub mod Tailing
-pub mod BlocksCross
 pub mod StatesCross
 pub mod DesksCross
 pub mod Whole

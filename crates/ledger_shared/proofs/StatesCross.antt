@@ -17,7 +17,7 @@ use Rattle.versions.specs.contracts.shelf.Shelf as Shelf
 use Rattle.versions.specs.contracts.shelf.Shelf.TheInside as ShelfInside
 use Rattle.versions.specs.contracts.documents.Documents as Documents
 use Rattle.versions.specs.contracts.versions.Versions as Versions
-use Rattle.ledger_shared.proofs.BlocksCross.{revision_send, revision_sync}
+use Rattle.journal_text.proofs.BlocksCross.{revision_send, revision_sync}
 
 pub recorded_send : IsSend Recorded.the_row
 recorded_send = declared_send Recorded.the_type (table.the_send, (revision_send, tt))

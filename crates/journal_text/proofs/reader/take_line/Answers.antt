@@ -1,15 +1,12 @@
-use Rattle.std.proofs.Common.{◌∙◌, ◌++◌, ◌∷◌, [], List, ap, sym, subst}
-use Rattle.std.proofs.lemmas.Result.{IfOk-at_ok}
-use Rattle.ledger_model.specs.declared.block.Block.{Block}
-use Rattle.journal_text.specs.Reading.{StandsBehind}
+use Rattle.std.proofs.Common.{rules, ◌≡◌, ◌++◌, ◌∷◌, [], Result, Err, IfErr, subst, sym}
+use Rattle.journal_text.specs.declared.journal.JournalFault.{JournalFault}
+use Rattle.journal_text.specs.declared.registry.Registry.{Registry}
+use Rattle.journal_text.specs.Reading.{IsRefused}
 use Rattle.journal_text.proofs.reader.take_line.Goals as goal
 
-pub next_block-requires : goal.next_block-requires
-next_block-requires c =
-    subst (λ (bs : List Block). StandsBehind bs c.in_ok-registry.registry) (c.as_slice.ensures ∙ sym c.as_slice-2.ensures) c.in_ok-registry.ensures
-
-pub returns-clause-stands : goal.returns-clause-stands
-returns-clause-stands c =
-    let more = IfOk-at_ok _ c.unwrap.ensures c.push.ensures.pushed in
-    let same = ap (λ (bs : List Block). bs ++ c.in_ok-block.block ∷ []) c.as_slice-2.ensures in
-    subst (λ (bs : List Block). StandsBehind bs c.next_block.new.registry) (same ∙ sym more) c.in_ok-block.ensures.stands
+pub returns-in_err-registry-clause-fault : goal.returns-in_err-registry-clause-fault
+returns-in_err-registry-clause-fault c =
+    let line = c.args.text.now ++ 10 ∷ [] in
+    let is : c.from_residual-in_err-registry.result ≡ Err c.in_err-registry.field-0.0 = search rules in
+    subst (λ (r : Result Registry JournalFault). IfErr r (λ fault. IsRefused c.args.blocks.now.list line fault)) (sym is)
+    (c.in_err-registry.ensures.fault line c.in_ok-found.ensures)
