@@ -2,6 +2,7 @@
 ghost use Rattle.std.specs.Prelude.{◌≡◌, ◌<◌, [], Err, IfOk};
 ghost use Rattle.id_seed.specs.Seed.{mask_of};
 ghost use Rattle.ledger_model.specs.Script.{all_placed};
+ghost use Rattle.ledger_model.specs.State.{state};
 ghost use Rattle.outside.specs.Told.{StoreTold};
 ghost use Rattle.laws_history.specs.Calls.{span};
 ghost use Rattle.ledger_shared.specs.Sessions.{AreNumbered};
@@ -26,7 +27,8 @@ use run_after_setup::{Setup, run_behind_first};
 use std::alloc::Global;
 use std::sync::Wait;
 use std::thread::Threads;
-use workload::{made_first, made_sessions, summary, summary_text};
+use versions::Versions;
+use workload::{made_first, made_sessions, summary_text, totals_of};
 
 /// The transactions of a workload: the one of session 0, which runs first and alone, and the sessions.
 #[derive(Drop)]
@@ -75,17 +77,19 @@ fn run_workload<S: JournalStore + Send, C: Clock + Send, G: Gate + Sync, R: Thre
     }
 }
 
-/// The summary of these blocks if all transactions have outcomes, or why there is none.
+/// The summary of these blocks, which stand for this version, if all transactions have outcomes, or why there is none.
 fn summed_up(
     alloc: Global,
     blocks: &Blocks,
+    version: &Versions,
     value: Result<Outcomes, CommandFault>,
 ) -> Result<Output, CommandFault>
+    requires { version.now ≡ state blocks.now.list }
     ensures { SumsUp blocks.now.list value result }
 {
     match value {
         Ok(_outcomes) => {
-            let totals = summary(alloc, blocks.as_slice())?;
+            let totals = totals_of(alloc, blocks.len() as u64, version)?;
             Ok(Output::of_text(summary_text(alloc, &totals)?))
         }
         Err(stop) => Err(stop),
@@ -113,7 +117,7 @@ fn make_all<S: JournalStore + Send, C: Clock + Send, G: Gate + Sync, R: Threads 
         workers: options.workers,
     };
     let Settled { value, tail } = run_workload(alloc, &crew, workload, tail);
-    let value = summed_up(alloc, tail.blocks(), value);
+    let value = summed_up(alloc, tail.blocks(), tail.version(), value);
     let (_blocks, store, clock) = tail.into_parts();
     Returned {
         value,

@@ -118,6 +118,13 @@ impl<S: JournalStore, C> Tail<S, C> {
         Ok(())
     }
 
+    /// What the blocks stand for. It takes no memory.
+    pub fn version(&self) -> &Versions
+        ensures { result.now ≡ state self.now.standing.blocks }
+    {
+        &self.version
+    }
+
     /// The version of the blocks, for a transaction to run on.
     pub(crate) fn share_version(&self) -> Result<Versions, OutOfMemory>
         ensures { IfOk result (λ version. version ≡ state self.now.standing.blocks) }

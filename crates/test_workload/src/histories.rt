@@ -14,7 +14,8 @@ use ledger_model::{
 use ql_types::{BlockAddress, DocId, Hash, Hash32, Place, StrandId, TableId, TxId};
 use std::alloc::Global;
 use std::marker::Model;
-use workload::{summary, summary_text};
+use versions::Versions;
+use workload::{summary_text, totals_of};
 
 const ZEROS: Hash32 = Hash32 { bytes: [0; 32] };
 
@@ -186,7 +187,8 @@ impl History {
 
     /// The text of what the blocks add up to.
     fn text(&self, alloc: Global) -> Option<Text> {
-        let totals = summary(alloc, self.blocks.as_slice()).ok()?;
+        let version = Versions::of(alloc, self.blocks.as_slice()).ok()?;
+        let totals = totals_of(alloc, self.blocks.len() as u64, &version).ok()?;
         summary_text(alloc, &totals).ok()
     }
 }

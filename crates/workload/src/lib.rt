@@ -8,4 +8,4 @@ mod totals;
 
 pub use jobs::{made_first, made_sessions};
 pub use laws::made_histories_add_up;
-pub use totals::{Totals, summary, summary_text, totals_of};
+pub use totals::{Totals, summary_text, totals_of};

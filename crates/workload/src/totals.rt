@@ -3,10 +3,10 @@ ghost use Rattle.std.specs.Prelude.{◌≡◌, option_map, sum_by, IfOk};
 ghost use Rattle.ledger_model.specs.State.{draft_of};
 ghost use Rattle.ledger_model.specs.Views.{row_of};
 ghost use Rattle.versions.specs.Held.{drafts_lent, recorded_of};
-ghost use Rattle.workload.specs.Sums.{amount_in, amount_of, made_rows, number_in, row_amount, rows_among, summary, summary_text, totals_of};
+ghost use Rattle.workload.specs.Sums.{amount_in, amount_of, made_rows, number_in, row_amount, rows_among, summary_text, totals_of};
 
 use ion_values::{Body, OutOfMemory, Text, Value};
-use ledger_model::{Block, Content, fields_in, value_named};
+use ledger_model::{Content, fields_in, value_named};
 use ql_types::TableId;
 use std::alloc::Global;
 use versions::{Recorded, Versions, active_table};
@@ -91,15 +91,6 @@ pub fn totals_of(alloc: Global, blocks: u64, version: &Versions) -> Result<Total
     };
     let documents = version.newest(alloc)?;
     Ok(totals_among(blocks, table, documents.as_slice()))
-}
-
-/// What the history of these blocks adds up to.
-pub fn summary(alloc: Global, blocks: &[Block]) -> Result<Totals, OutOfMemory>
-    ensures { IfOk result (λ t. t ≡ summary blocks.now) }
-{
-    let version = Versions::of(alloc, blocks)?;
-    let totals = totals_of(alloc, blocks.len() as u64, &version)?;
-    Ok(totals)
 }
 
 /// The text of what a history adds up to, a line of Ion text.
