@@ -13,7 +13,7 @@ ghost use Rattle.journal_reader.specs.Loads.{IsCause, IsLoaded, IsRead};
 
 use crate::cause::LoadCause;
 use crate::chain::Chain;
-use crate::reading::{Stored, read_stored};
+use crate::reading::{Stored, read_stored, read_stored_by};
 use journal_text::JournalFault;
 use ledger_model::Blocks;
 use outside::JournalStore;
@@ -21,6 +21,7 @@ use proof_issue::{NoSuch, digest, prove, prove_grown};
 use proof_model::{Digest, Proof, undamaged_is_chained};
 use std::alloc::Global;
 use std::marker::Model;
+use std::thread::Threads;
 
 /// A journal: the blocks of its whole lines, the length of these lines, and whether more bytes stand after them.
 #[derive(Drop)]
@@ -55,6 +56,24 @@ impl Journal {
         ensures cause { IfErr result (λ cause. IsCause cause (S.told store.old) (S.told store.new)) }
     {
         let stored = read_stored(alloc, store)?;
+        Ok(journal_of(alloc, stored)?)
+    }
+
+    /// Reads the store to its end and returns the journal that it holds, as `read` does. The lines are read by so many
+    /// threads, where they can be made, each line by itself.
+    pub fn read_by<S: JournalStore, R: Threads + Sync>(
+        rt: &R,
+        workers: u32,
+        alloc: Global,
+        store: &mut S,
+    ) -> Result<Journal, LoadCause>
+        ensures journal { IfOk result (λ j. IsLoaded (held (S.told store.old)) j.blocks j.rest) }
+        ensures content { (S.told store.new).content ≡ (S.told store.old).content }
+        ensures later { (S.told store.old).faults ≤ (S.told store.new).faults }
+        ensures fine { OnOk result ((S.told store.new).faults ≡ (S.told store.old).faults) }
+        ensures cause { IfErr result (λ cause. IsCause cause (S.told store.old) (S.told store.new)) }
+    {
+        let stored = read_stored_by(rt, workers, alloc, store)?;
         Ok(journal_of(alloc, stored)?)
     }
 

@@ -9,6 +9,7 @@ use crate::cause::{LoadCause, cause_told};
 use journal_text::JournalReader;
 use outside::JournalStore;
 use std::alloc::Global;
+use std::thread::Threads;
 
 /// What was read of a store, and how many bytes there were.
 #[derive(Drop)]
@@ -73,6 +74,37 @@ pub(crate) fn read_stored<S: JournalStore>(
             return Ok(Stored { reader, size });
         }
         reader.feed_all(&piece[..count])?;
+        size += count as u64;
+    }
+    Ok(Stored { reader, size })
+}
+
+/// Reads the store as `read_stored` does. The lines of a piece are read by so many threads.
+pub(crate) fn read_stored_by<S: JournalStore, R: Threads + Sync>(
+    rt: &R,
+    workers: u32,
+    alloc: Global,
+    store: &mut S,
+) -> Result<Stored, LoadCause>
+    ensures read { IfOk result (λ stored. IfSome (held (S.told store.old)) (λ held. taken stored.reader ≡ held)) }
+    ensures reads { IfOk result (λ stored. stored.reader.damaged ≡ None) }
+    ensures size { IfOk result (λ stored. stored.size ≡ length (taken stored.reader)) }
+    ensures content { (S.told store.new).content ≡ (S.told store.old).content }
+    ensures later { (S.told store.old).faults ≤ (S.told store.new).faults }
+    ensures fine { OnOk result ((S.told store.new).faults ≡ (S.told store.old).faults) }
+    ensures cause { IfErr result (λ cause. IsCause cause (S.told store.old) (S.told store.new)) }
+{
+    let whole = size_of(store)?;
+    let mut reader = JournalReader::new(alloc);
+    let mut size = 0;
+    let mut piece = [0u8; 65536];
+    'shared: while size < whole {
+        let room = (whole - size).min(65536) as usize;
+        let count = read_piece(store, size, &mut piece[..room])?;
+        if count == 0 {
+            return Ok(Stored { reader, size });
+        }
+        reader.feed_shared(rt, workers, &piece[..count])?;
         size += count as u64;
     }
     Ok(Stored { reader, size })

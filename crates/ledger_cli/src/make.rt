@@ -18,7 +18,7 @@ use cli_args::MakeOptions;
 use id_seed::from_seed;
 use ion_values::OutOfMemory;
 use journal_text::written_on_one_line;
-use ledger_core::Tail;
+use ledger_core::{Loaders, Tail};
 use ledger_model::{Blocks, Job, Outcomes, Script};
 use ledger_shared::Crew;
 use outside::{Clock, Gate, JournalStore};
@@ -194,7 +194,11 @@ fn make_by<S: JournalStore + Send, C: Clock + Send, G: Gate + Sync, R: Threads +
         (span (C.answers resources.clock) (C.answers result.clock)) }
 {
     let Resources { store, clock } = resources;
-    match Tail::reload(alloc, store, clock, from_seed(options.seed)) {
+    let loaders = Loaders {
+        rt: host.rt,
+        workers: options.workers,
+    };
+    match Tail::reload_by(&loaders, alloc, store, clock, from_seed(options.seed)) {
         Ok(tail) => make_if_empty(alloc, host, options, workload, tail),
         Err(fault) => unloaded(fault),
     }

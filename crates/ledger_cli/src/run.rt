@@ -18,7 +18,7 @@ use crate::returned::{Host, Resources, Returned};
 use crate::times::{FixedClock, mask_by, moments_have_times};
 use cli_args::RunOptions;
 use journal_text::written_on_one_line;
-use ledger_core::Tail;
+use ledger_core::{Loaders, Tail};
 use ledger_model::{Blocks, Outcomes, Script, Session};
 use ledger_shared::{Crew, run_all};
 use outside::{Clock, Gate, JournalStore};
@@ -145,7 +145,11 @@ fn run_by<S: JournalStore + Send, C: Clock + Send, G: Gate + Sync, R: Threads + 
     ensures goes { GoesOn (clock_told C.answers C.always resources.clock) (clock_told C.answers C.always result.clock) }
 {
     let Resources { store, clock } = resources;
-    match Tail::reload(alloc, store, clock, mask) {
+    let loaders = Loaders {
+        rt: crew.rt,
+        workers: crew.workers,
+    };
+    match Tail::reload_by(&loaders, alloc, store, clock, mask) {
         Ok(tail) => run_on(alloc, crew, script, tail),
         Err(fault) => unloaded(fault),
     }

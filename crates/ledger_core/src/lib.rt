@@ -22,5 +22,5 @@ pub use laws::{
 };
 pub use laws_machine::{commits_stand_once, conflict_comes_exactly, history_stays_legal};
 pub use outcomes::outcome_of;
-pub use reload::LoadFault;
+pub use reload::{LoadFault, Loaders};
 pub use tail::Tail;

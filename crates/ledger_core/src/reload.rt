@@ -16,6 +16,7 @@ use ledger_model::Block;
 use outside::JournalStore;
 use ql_types::{IdMask, id_parts};
 use std::alloc::Global;
+use std::thread::Threads;
 use versions::Versions;
 
 /// Why no journal was loaded, with the store and the clock that were given.
@@ -24,6 +25,13 @@ pub struct LoadFault<S, C> {
     pub cause: LoadCause,
     pub store: S,
     pub clock: C,
+}
+
+/// The runtime, and how many of its threads read the lines of a journal.
+#[derive(Drop)]
+pub struct Loaders<'a, R> {
+    pub rt: &'a R,
+    pub workers: u32,
 }
 
 /// What a tail is made of.
@@ -73,6 +81,42 @@ impl<S: JournalStore, C> Tail<S, C> {
             }),
         }
     }
+
+    /// Reads the store to its end and returns the tail of its journal, as `reload` does. The lines are read by so many
+    /// threads, where they can be made, each line by itself.
+    pub fn reload_by<R: Threads + Sync>(
+        crew: &Loaders<'_, R>,
+        alloc: Global,
+        store: S,
+        clock: C,
+        mask: IdMask,
+    ) -> Result<Tail<S, C>, LoadFault<S, C>>
+        // the tail
+        ensures journal { IfOk result (λ tail. IsLoaded (held (S.told store)) tail.standing.blocks tail.marked) }
+        ensures standing { IfOk result (λ tail. IsStanding tail.standing) }
+        ensures mask { IfOk result (λ tail. tail.standing.mask ≡ mask_of mask.bits tail.standing.blocks) }
+        ensures last { IfOk result (λ tail. tail.standing.last ≡ greatest tail.standing.mask tail.standing.blocks) }
+        // its store and its clock
+        ensures store { IfOk result (λ tail. ((S.told tail.store).content ≡ (S.told store).content)
+            × ((S.told tail.store).faults ≡ (S.told store).faults)) }
+        ensures clock { IfOk result (λ tail. tail.clock ≡ clock) }
+        ensures images { IfOk result (λ tail. ReloadGives S.told (S.told store) tail) }
+        // why there is none, and what is given back
+        ensures cause { IfErr result (λ fault. IsCause fault.cause (S.told store) (S.told fault.store)) }
+        ensures returned { IfErr result (λ fault. ((S.told fault.store).content ≡ (S.told store).content)
+            × ((S.told store).faults ≤ (S.told fault.store).faults)) }
+        ensures same_clock { IfErr result (λ fault. fault.clock ≡ clock) }
+    {
+        let mut store = store;
+        match load_by(crew, alloc, &mut store, mask) {
+            Ok(loaded) => Ok(tail_of(store, clock, loaded)),
+            Err(cause) => Err(LoadFault {
+                cause,
+                store,
+                clock,
+            }),
+        }
+    }
 }
 
 /// The tail of what was loaded from the store.
@@ -113,6 +157,24 @@ fn load<S: JournalStore>(alloc: Global, store: &mut S, mask: IdMask) -> Result<L
     ensures cause { IfErr result (λ cause. IsCause cause (S.told store.old) (S.told store.new)) }
 {
     let journal = Journal::read(alloc, store)?;
+    Ok(loaded_of(alloc, journal, mask)?)
+}
+
+/// What the tail of the store's journal is made of. The lines are read by several threads.
+fn load_by<S: JournalStore, R: Threads + Sync>(
+    crew: &Loaders<'_, R>,
+    alloc: Global,
+    store: &mut S,
+    mask: IdMask,
+) -> Result<Loaded, LoadCause>
+    ensures journal { IfOk result (λ loaded. IsLoaded (held (S.told store.old)) loaded.blocks.list loaded.marked) }
+    ensures facts { IfOk result (λ loaded. IsKnown mask.bits loaded) }
+    ensures content { (S.told store.new).content ≡ (S.told store.old).content }
+    ensures later { (S.told store.old).faults ≤ (S.told store.new).faults }
+    ensures fine { OnOk result ((S.told store.new).faults ≡ (S.told store.old).faults) }
+    ensures cause { IfErr result (λ cause. IsCause cause (S.told store.old) (S.told store.new)) }
+{
+    let journal = Journal::read_by(crew.rt, crew.workers, alloc, store)?;
     Ok(loaded_of(alloc, journal, mask)?)
 }
 
