@@ -1,6 +1,6 @@
 #!/usr/bin/env python3
-"""Times how long journals are loaded, and their digest behind that, beside sha256sum of the same file in the same run, and tells
-the peak memory beside the file's size. README.md says more."""
+"""Times how long journals are loaded, by one thread and by four, and their digest behind that, beside sha256sum of the same file in
+the same run, and tells the peak memory beside the file's size. README.md says more."""
 
 import os
 import subprocess
@@ -14,6 +14,7 @@ sys.path.insert(0, str(TOP / "bench"))
 import proofs
 
 RUNS = {10_000: 5, 100_000: 3}
+WORKERS = [1, 4]
 
 
 def run(command):
@@ -27,11 +28,13 @@ def run(command):
 
 
 def measure(program, journal, runs):
-    """The seconds of a load, of a digest and of sha256sum, each the least of so many runs in turn, and the load's peak memory."""
+    """The seconds of a load, of a digest, of sha256sum, and of an empty script's run by each number of workers, each the least of so
+    many runs in turn; the peak memory of the load and of the last run; and what the load wrote."""
     commands = [[program, journal, "audit"], [program, journal, "digest"], ["sha256sum", journal]]
+    commands += [[program, journal, "run", "--workers", str(workers)] for workers in WORKERS]
     turns = [[run(command) for command in commands] for _ in range(runs)]
     seconds = [min(turn[of][0] for turn in turns) for of in range(len(commands))]
-    return *seconds, min(turn[0][1] for turn in turns), turns[0][0][2]
+    return seconds, [min(turn[of][1] for turn in turns) for of in (0, -1)], turns[0][0][2]
 
 
 def main():
@@ -41,12 +44,13 @@ def main():
             journal = Path(folder) / "journal"
             proofs.make(journal, blocks)
             size = journal.stat().st_size
-            loading, digest, summed, memory, told = measure(program, journal, runs)
+            (loading, digest, summed, *ran), (memory, shared), told = measure(program, journal, runs)
             assert told == b"{blocks:%d,revisions:%d}\n" % (blocks, blocks - 1)
             print(
                 f"{blocks} blocks, {size / 1e6:.1f} MB: loaded in {loading:.3f} s, {size / loading / 1e6:.1f} MB/s; sha256sum "
                 f"{summed:.3f} s, {size / summed / 1e6:.1f} MB/s; peak memory {memory / 1e6:.1f} MB, {memory / size:.2f} times "
-                f"the file; digest {1000 * (digest - loading):.1f} ms beyond the load",
+                f"the file; digest {1000 * (digest - loading):.1f} ms beyond the load; a run of an empty script by {WORKERS[0]} and "
+                f"{WORKERS[-1]} workers {ran[0]:.3f} and {ran[-1]:.3f} s, {ran[0] / ran[-1]:.2f} times as fast, {shared / size:.2f} times the file",
                 flush=True,
             )
     return 0
