@@ -5,9 +5,9 @@ ghost use Rattle.stream_out.specs.declared.record.Record.TheVariants as kind;
 ghost use Rattle.stream_out.specs.Named.{NamesStand};
 ghost use Rattle.stream_out.specs.Streams as spec;
 
-use crate::copies::{copy_info, copy_revision};
 use crate::names::Names;
 use crate::record::{Details, Listed, Record, Records, RevisionSummary, Summary};
+use block_copies::{copy_info, copy_revision};
 use containers::Sequence;
 use ion_values::OutOfMemory;
 use ledger_model::{Block, Blocks, Revision};

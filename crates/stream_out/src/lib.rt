@@ -2,7 +2,6 @@
 //! reordered.
 #![tactic(auto)]
 
-mod copies;
 mod journal;
 mod names;
 mod read_records;

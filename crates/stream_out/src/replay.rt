@@ -7,9 +7,9 @@ ghost use Rattle.stream_out.specs.declared.record.Record as model;
 ghost use Rattle.stream_out.specs.declared.record.Record.TheVariants as kind;
 ghost use Rattle.stream_out.specs.Replays as spec;
 
-use crate::copies::{copy_info, copy_revision};
 use crate::record::{Details, Record, RevisionSummary, Summary};
 use crate::same::{same_details, same_hash, same_summary};
+use block_copies::{copy_info, copy_revision};
 use containers::Sequence;
 use ion_values::OutOfMemory;
 use ledger_model::{Block, Blocks, Revision, Revisions};

@@ -5,8 +5,8 @@ ghost use Rattle.ion_values.specs.Time.{IsTime};
 ghost use Rattle.ledger_model.specs.Journal.{revision_value};
 ghost use Rattle.stream_out.specs.Records as spec;
 
-use crate::copies::copy_info;
 use crate::record::{RevisionSummary, Summary};
+use block_copies::copy_info;
 use block_form::revision_value;
 use containers::Sequence;
 use ion_values::{IonTime, OutOfMemory, Precision, TimeParts, Values};

@@ -29,7 +29,8 @@ fn copy_all_said(alloc: Global, said: &[Said]) -> Result<SaidList, OutOfMemory>
     Ok(Sequence::from_vec(new))
 }
 
-fn copy_told(alloc: Global, told: &Told) -> Result<Told, OutOfMemory>
+/// A copy of what a transaction said, or of its hash.
+pub fn copy_told(alloc: Global, told: &Told) -> Result<Told, OutOfMemory>
     ensures { IfOk result (λ new. new ≡ told.now) }
 {
     match told {
@@ -66,7 +67,8 @@ fn copy_change(alloc: Global, change: &Schema) -> Result<Schema, OutOfMemory>
     }
 }
 
-fn copy_schema(alloc: Global, schema: &[Schema]) -> Result<SchemaList, OutOfMemory>
+/// A copy of changes to the schema.
+pub fn copy_schema(alloc: Global, schema: &[Schema]) -> Result<SchemaList, OutOfMemory>
     ensures { IfOk result (λ new. new ≡ schema.now) }
 {
     let mut new = Vec::with_capacity(alloc, schema.len())?;
@@ -77,7 +79,7 @@ fn copy_schema(alloc: Global, schema: &[Schema]) -> Result<SchemaList, OutOfMemo
 }
 
 /// A copy of what a transaction said and did.
-pub(crate) fn copy_info(alloc: Global, info: &Info) -> Result<Info, OutOfMemory>
+pub fn copy_info(alloc: Global, info: &Info) -> Result<Info, OutOfMemory>
     ensures { IfOk result (λ new. new ≡ info.now) }
 {
     let said = copy_told(alloc, &info.said)?;
@@ -91,7 +93,8 @@ pub(crate) fn copy_info(alloc: Global, info: &Info) -> Result<Info, OutOfMemory>
     })
 }
 
-fn copy_content(alloc: Global, content: &Content) -> Result<Content, OutOfMemory>
+/// A copy of a revision's content.
+pub fn copy_content(alloc: Global, content: &Content) -> Result<Content, OutOfMemory>
     ensures { IfOk result (λ new. new ≡ content.now) }
 {
     match content {
@@ -102,7 +105,7 @@ fn copy_content(alloc: Global, content: &Content) -> Result<Content, OutOfMemory
 }
 
 /// A copy of a revision.
-pub(crate) fn copy_revision(alloc: Global, revision: &Revision) -> Result<Revision, OutOfMemory>
+pub fn copy_revision(alloc: Global, revision: &Revision) -> Result<Revision, OutOfMemory>
     ensures { IfOk result (λ new. new ≡ revision.now) }
 {
     let content = copy_content(alloc, &revision.content)?;
