@@ -117,3 +117,26 @@ next_piece {A} f xs i x within is =
 -- none is left
 pub no_piece : {A : Type 0} (f : A → List ℕ) (xs : List A) (i : ℕ) → length xs ≤ i → flat_map f (drop i xs) ≡ []
 no_piece {A} f xs i past = ap (λ (ys : List A). flat_map f ys) (drop_all i xs past)
+
+module _ {A : Type 0} (f : A → List ℕ) (xs : List A) (i : ℕ) where
+  -- the next of the pieces was written
+  pub one_more : (x : A) (a b c : SinkTold) (u : Unit {0}) → i < length xs → x ≡ get_or xs i x
+      → IsBegun a b (flat_map f (drop i xs)) (flat_map f xs) → IsWritten (Ok u) (span b c) (f x)
+      → IsBegun a c (flat_map f (drop (i + 1) xs)) (flat_map f xs)
+  one_more x a b c u within is so w =
+      further a b c (f x) (flat_map f (drop (i + 1) xs)) (flat_map f xs) u
+      (begun_as a b (flat_map f (drop i xs)) (f x ++ flat_map f (drop (i + 1) xs)) (flat_map f xs) (next_piece f xs i x within is) so) w
+
+  -- the next of them broke off
+  pub one_broke : (x : A) (a b c : SinkTold) (e : OutFault) (r : Result (Unit {0}) OutFault) → i < length xs → x ≡ get_or xs i x
+      → r ≡ Err e → IsBegun a b (flat_map f (drop i xs)) (flat_map f xs) → IsWritten (Err e) (span b c) (f x)
+      → IsWritten r (span a c) (flat_map f xs)
+  one_broke x a b c e r within is out so w =
+      broke a b c (f x) (flat_map f (drop (i + 1) xs)) (flat_map f xs) e r out
+      (begun_as a b (flat_map f (drop i xs)) (f x ++ flat_map f (drop (i + 1) xs)) (flat_map f xs) (next_piece f xs i x within is) so) w
+
+  -- all of them were written
+  pub all_written : (a b : SinkTold) → length xs ≤ i → IsBegun a b (flat_map f (drop i xs)) (flat_map f xs)
+      → IsWritten (Ok tt) (span a b) (flat_map f xs)
+  all_written a b past so =
+      ended a b (flat_map f xs) (begun_as a b (flat_map f (drop i xs)) [] (flat_map f xs) (no_piece f xs i past) so)

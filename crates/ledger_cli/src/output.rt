@@ -9,7 +9,7 @@ ghost use Rattle.ledger_cli.specs.Ends.{count_line};
 ghost use Rattle.ledger_cli.specs.Outputs.{IsWritten};
 
 use crate::stream::Stream;
-use crate::writing::{write_blocks, write_piece};
+use crate::writing::{write_lines, write_piece};
 use containers::{Bytes, Sequence};
 use ion_text::write;
 use ion_values::{OutOfMemory, Text, Value};
@@ -98,7 +98,7 @@ impl Output {
         match held {
             Held::Whole(bytes) => write_piece(sink, bytes.as_slice()),
             Held::Records(stream) => stream.write(alloc, sink),
-            Held::Blocks(replay) => write_blocks(alloc, sink, replay.blocks().as_slice()),
+            Held::Blocks(replay) => write_lines(alloc, sink, replay.blocks().as_slice()),
         }
     }
 }

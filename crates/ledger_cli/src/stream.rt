@@ -12,7 +12,7 @@ ghost use Rattle.ledger_cli.specs.Streaming.{IsShown, IsStream, StreamsFrom, Tel
 use crate::command_fault::CommandFault;
 use crate::output::Output;
 use crate::returned::{Resources, Returned};
-use crate::writing::{write_record, write_records};
+use crate::writing::{write_line, write_lines};
 use containers::Sequence;
 use ion_values::OutOfMemory;
 use journal_reader::Journal;
@@ -81,9 +81,9 @@ impl Stream {
         ensures { IsWritten result (span (Si.told sink.old) (Si.told sink.new)) self }
     {
         let Stream { shown, names, part } = self;
-        write_record(alloc, sink, &Record::Created)?;
+        write_line(alloc, sink, &Record::Created)?;
         write_part(alloc, sink, &shown, names, part)?;
-        write_record(alloc, sink, &Record::Completed)
+        write_line(alloc, sink, &Record::Completed)
     }
 }
 
@@ -135,7 +135,7 @@ fn write_records_of<Si: Sink>(
 {
     let mut records = Sequence::new(alloc);
     match push_block(alloc, &mut records, names, block) {
-        Ok(()) => write_records(alloc, sink, records.as_slice()),
+        Ok(()) => write_lines(alloc, sink, records.as_slice()),
         Err(_) => Err(OutFault::OutOfMemory),
     }
 }
