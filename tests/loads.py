@@ -3,9 +3,10 @@
 damage. The journals have more lines than one piece that is read, lines that end at the ends of pieces, and one that is longer than
 two pieces. Ends with status 1 where something isn't as it should be.
 
-    tests/loads.py [PROGRAM]
+    tests/loads.py [PROGRAM [PIECE]]
 
-The program is crates/ledger/out/ledger, where `rt ci` leaves it, or another path.
+The program is crates/ledger/out/ledger, where `rt ci` leaves it, or another path. PIECE is the number of bytes of a piece, where the
+program was built with another than that of `read_stored_by` (a slow build with small pieces can be tried so).
 """
 import subprocess
 import sys
@@ -15,9 +16,11 @@ from pathlib import Path
 from running import PROGRAM, check
 
 WORKERS = [1, 2, 3, 8, 64]
-PIECE = 65536
+PIECE = int(sys.argv[2]) if len(sys.argv) > 2 else 65536
 RUN = ["run", "--plain-ids", "--at", "2020-01-01T00:00:00.000Z", "--workers"]
 LARGE = b"[{statements:[{text:\"INSERT INTO made ?\",params:[{a:\"%s\"}]}]}]" % (b"x" * (2 * PIECE + 100))
+# how many small documents are put in for each of two parts of a journal: a block of one has some thousand bytes
+DOCUMENTS = PIECE // 500 + 10
 
 
 def run(program, words, script=b""):
@@ -27,13 +30,13 @@ def run(program, words, script=b""):
 
 
 def made(program, folder):
-    """The lines of a journal of some 800 blocks, one of them of more than two pieces."""
+    """The lines of a journal of several pieces, one of them of more than two pieces."""
     journal = folder / "made"
-    check(run(program, [journal, "make", "--seed", "1", "--sessions", "3", "--transactions", "60"])[0] == 0, "a workload is made")
-    status, report = run(program, [journal, *RUN, "1"], LARGE)
-    check(status == 0 and b"committed" in report, f"a large document is committed: {report[:300]!r}")
-    status, report = run(program, [journal, *RUN, "2"], b"".join(b'[{statements:["INSERT INTO made {\'amount\':%d}"]}]' % n for n in range(600)))
-    check(status == 0, "more documents are committed")
+    insert = b"[{statements:[\"INSERT INTO made {'amount':%d}\"]}]"
+    check(run(program, [journal, "make", "--seed", "1", "--sessions", "2", "--transactions", "3"])[0] == 0, "a workload is made")
+    for script in [b"".join(insert % n for n in range(DOCUMENTS)), LARGE, b"".join(insert % -n for n in range(DOCUMENTS))]:
+        status, report = run(program, [journal, *RUN, "2"], script)
+        check(status == 0 and b"committed" in report, f"documents are committed: {report[:300]!r}")
     return journal.read_bytes().splitlines(keepends=True)
 
 
@@ -63,8 +66,9 @@ def journals(lines):
         swapped = list(lines)
         swapped[first], swapped[second] = swapped[second], swapped[first]
         yield f"lines {first} and {second} swapped", b"".join(swapped)
-    yield "line feeds alone", b"\n" * 300000
-    yield "two damaged lines", b"".join(changed(line, 20) if n in (40, 900) else line for n, line in enumerate(lines))
+    yield "line feeds alone", b"\n" * (2 * PIECE)
+    twice = (len(lines) // 4, len(lines) // 4 * 3)
+    yield "two damaged lines", b"".join(changed(line, 20) if n in twice else line for n, line in enumerate(lines))
 
 
 def compare(program, folder, name, held):
@@ -92,7 +96,7 @@ def main():
     with tempfile.TemporaryDirectory() as folder:
         folder = Path(folder)
         lines = made(program, folder)
-        check(sum(map(len, lines)) > 10 * PIECE, "the journal has many pieces")
+        check(sum(map(len, lines)) > 6 * PIECE, "the journal has several pieces")
         for name, held in journals(lines):
             found.append(compare(program, folder, name, held))
     print(f"{len(found)} journals by {len(WORKERS)} numbers of workers: {found.count(3)} damaged, each by all with the same damage")
