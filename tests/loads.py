@@ -6,7 +6,7 @@ two pieces. Ends with status 1 where something isn't as it should be.
     tests/loads.py [PROGRAM [PIECE]]
 
 The program is crates/ledger/out/ledger, where `rt ci` leaves it, or another path. PIECE is the number of bytes of a piece, where the
-program was built with another than that of `read_stored_by` (a slow build with small pieces can be tried so).
+program was built with another than that of `read_stored_by` in journal_reader (a slow build with small pieces can be tried so).
 """
 import subprocess
 import sys
@@ -18,7 +18,10 @@ from running import PROGRAM, check
 WORKERS = [1, 2, 3, 8, 64]
 PIECE = int(sys.argv[2]) if len(sys.argv) > 2 else 65536
 RUN = ["run", "--plain-ids", "--at", "2020-01-01T00:00:00.000Z", "--workers"]
-LARGE = b"[{statements:[{text:\"INSERT INTO made ?\",params:[{a:\"%s\"}]}]}]" % (b"x" * (2 * PIECE + 100))
+# a transaction whose line is longer than two pieces, of documents that are within the bounds of one
+SIZE = min(100_000, 2 * PIECE + 100)
+PUT = b'{text:"INSERT INTO made ?",params:[{a:"%s"}]}' % (b"x" * SIZE)
+LARGE = b"[{statements:[%s]}]" % b",".join([PUT] * (2 * PIECE // SIZE + 1))
 # how many small documents are put in for each of two parts of a journal: a block of one has some thousand bytes
 DOCUMENTS = PIECE // 500 + 10
 
