@@ -34,6 +34,7 @@ OTHER_SECONDS = {
     "docs.py": 240,
     "forged_bundles.py": 240,
     "journal_page.py": 240,
+    "loads.py": 240,
     "ledgerctl.py": 240,
     "nesting.py": 240,
     "random_rounds.py": 240,
