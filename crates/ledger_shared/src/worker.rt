@@ -24,15 +24,16 @@ use session_driver::Link;
 use std::alloc::Global;
 use std::marker::Model;
 use std::sync::Wait;
-use txn_core::{ExecuteFault, Ran, Txn};
+use txn_core::{ExecuteFault, Ran, Statements, Txn};
 
-/// A worker: its ledger and its gate, and the pass with which it runs its transactions.
+/// A worker: its ledger and its gate, the pass with which it runs its transactions, and the statements that it has read.
 #[derive(Drop)]
 pub struct Worker<'a, S: JournalStore, C: Clock, G: Gate> {
     ledger: &'a Ledger<S, C>,
     gate: &'a G,
     alloc: Global,
     pass: Pass<S, C>,
+    statements: Statements,
 }
 
 impl<'a, S: JournalStore, C: Clock, G: Gate> Model for Worker<'a, S, C, G> {
@@ -73,6 +74,7 @@ impl<'a, S: JournalStore, C: Clock, G: Gate> Worker<'a, S, C, G> {
             gate,
             alloc,
             pass,
+            statements: Statements::new(alloc),
         }
     }
 
@@ -91,6 +93,7 @@ impl<'a, S: JournalStore, C: Clock, G: Gate> Worker<'a, S, C, G> {
             gate: self.gate,
             alloc: self.alloc,
             pass,
+            statements: Statements::new(self.alloc),
         })
     }
 
@@ -111,6 +114,7 @@ impl<'a, S: JournalStore, C: Clock, G: Gate> Worker<'a, S, C, G> {
             gate: _,
             alloc: _,
             pass,
+            statements: _,
         } = self;
         pass
     }
@@ -139,7 +143,7 @@ trait Steps {
     /// Runs all statements of a transaction that has run none, and calls the gate before each. `OutOfMemory` comes also
     /// where the transaction makes more than 2^24 - 1 tables and documents, or has more than 2^32 - 1 statements.
     fn run_gated<R: Wait + Sync>(
-        &self,
+        &mut self,
         rt: &R,
         place: Place,
         txn: Txn,
@@ -147,6 +151,7 @@ trait Steps {
     ) -> Result<Ran, OutOfMemory>
         requires fresh { txn.done ≡ start }
         requires goes_on { txn.ended ≡ false }
+        ensures same { self.new ≡ self.old }
         ensures ran { IfOk result (λ r. ran_of r ≡ run txn.begun txn.base asked.now) }
         ensures of { IfOk result (λ r. IsRunOf txn r) };
 
@@ -224,7 +229,7 @@ impl<'a, S: JournalStore, C: Clock, G: Gate> Steps for Worker<'a, S, C, G> {
     }
 
     fn run_gated<R: Wait + Sync>(
-        &self,
+        &mut self,
         rt: &R,
         place: Place,
         txn: Txn,
@@ -238,7 +243,9 @@ impl<'a, S: JournalStore, C: Clock, G: Gate> Steps for Worker<'a, S, C, G> {
             }
             statement += 1;
             self.gate.at(rt, place, Step::BeforeExecute);
-            match txn.perform(self.alloc, request.text.as_str(), request.params.as_slice()) {
+            let text = request.text.as_str();
+            let params = request.params.as_slice();
+            match txn.perform(self.alloc, &mut self.statements, text, params) {
                 Ok(()) => {}
                 Err(ExecuteFault::Refused(cause)) => return Ok(Ran::Refused { statement, cause }),
                 Err(ExecuteFault::OutOfMemory) => return Err(OutOfMemory),

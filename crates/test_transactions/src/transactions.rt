@@ -10,7 +10,7 @@ use ql_types::{IdMask, Place};
 use script_form::put_cause;
 use std::alloc::Global;
 use std::marker::Model;
-use txn_core::{Drawn, Finished, Txn, start_txn};
+use txn_core::{Drawn, Finished, Statements, Txn, start_txn};
 
 const DRAWN: Drawn = Drawn {
     mask: IdMask { bits: 0 },
@@ -108,7 +108,8 @@ impl Open {
 
     /// Whether the statement is done, which leaves its answer with the transaction alone.
     pub(crate) fn perform(&mut self, alloc: Global, text: &str) -> bool {
-        self.txn.perform(alloc, text, &[]).is_ok()
+        let mut statements = Statements::new(alloc);
+        self.txn.perform(alloc, &mut statements, text, &[]).is_ok()
     }
 
     pub(crate) fn is_ended(&self) -> bool {

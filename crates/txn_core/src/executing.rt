@@ -10,7 +10,7 @@ use crate::effect::Effect;
 use crate::limits::first_deep;
 use crate::reading::{Over, Reading};
 use crate::redaction_arguments::Arguments;
-use crate::statements::{miscounted, read_statement};
+use crate::statements::{Statements, miscounted, read_statement};
 use crate::stopped::ExecuteFault;
 use crate::transaction::Txn;
 use ion_values::{Value, Values, copy_values};
@@ -65,17 +65,19 @@ impl Txn {
     }
 
     /// Does one statement as `execute` does, and leaves its answer with the transaction alone. Where it isn't done, the
-    /// transaction is as before; a refusal doesn't end it.
+    /// transaction is as before; a refusal doesn't end it. The statement is found among those that are kept, or read
+    /// and kept.
     #[tactic(auto, using(crate::proofs::Effects::added_steps, crate::proofs::Effects::stops))]
     pub fn perform(
         &mut self,
         alloc: Global,
+        statements: &mut Statements,
         text: &str,
         params: &[Value],
     ) -> Result<(), ExecuteFault>
         ensures { Performed self.old (asked text.now params.now) result self.new }
     {
-        let effect = match self.effect(alloc, text, params) {
+        let effect = match self.effect_kept(alloc, statements, text, params) {
             Ok(effect) => effect,
             Err(stopped) => return Err(stopped),
         };
@@ -90,6 +92,26 @@ impl Txn {
         let statement = read_statement(alloc, text)?;
         let effect = self.effect_of(alloc, &statement, params);
         drop(statement);
+        effect
+    }
+
+    /// What the statement of this text does with these parameters. It is found among those that are kept, or read and
+    /// kept.
+    fn effect_kept(
+        &self,
+        alloc: Global,
+        statements: &mut Statements,
+        text: &str,
+        params: &[Value],
+    ) -> Result<Effect, ExecuteFault>
+        ensures { Does result (asked_effect self.now (asked text.now params.now)) }
+    {
+        if let Some(statement) = statements.find(text) {
+            return self.effect_of(alloc, statement, params);
+        }
+        let statement = read_statement(alloc, text)?;
+        let effect = self.effect_of(alloc, &statement, params);
+        statements.keep(alloc, text, statement);
         effect
     }
 

@@ -33,6 +33,7 @@ mod values;
 mod views;
 
 pub use runs::Ran;
+pub use statements::Statements;
 pub use stopped::ExecuteFault;
 pub use table_views::TableViews;
 pub use transaction::{Drawn, Finished, Txn, start_txn};
