@@ -22,6 +22,7 @@ use Rattle.ledger_shared.specs.contracts.worker.Worker as Worker
 use Rattle.ledger_shared.specs.contracts.workers.Desk as Desk
 use Rattle.journal_text.proofs.BlocksCross.{blocks_send}
 use Rattle.ledger_shared.proofs.StatesCross.{versions_send}
+use Rattle.ledger_shared.proofs.StatementsCross.{statements_send}
 
 entry_send : IsSend Entry.the_row
 entry_send = search (sendable, crosses) depth 14
@@ -51,7 +52,7 @@ module _ (S C : RattleType) (g : store.Ghosts S.Denot) (h : clock.Ghosts C.Denot
   module _ (G : RattleType) (y : IsSync G) (κ : NamedLft) where
     worker_send : IsSend (Worker.the_row κ S C G g h)
     worker_send =
-        let s = shared_send in let l = ledger_sync in
+        let s = shared_send in let l = ledger_sync in let r = statements_send in
         search (sendable, crosses, seat.the_send) depth 14
 
     pub desk_send : IsSend (Desk.the_row κ S C G g h)

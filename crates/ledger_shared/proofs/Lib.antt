@@ -18,6 +18,7 @@ pub mod Recovering
 pub mod Tailed
 pub mod Tailing
 pub mod StatesCross
+pub mod StatementsCross
 pub mod DesksCross
 pub mod Whole
 pub mod Moved
