@@ -11,6 +11,7 @@ mod plays;
 mod steps;
 mod turns;
 mod view;
+mod waiters;
 
 pub use counted::Counted;
 pub use law::Pass;

@@ -11,6 +11,7 @@ use crate::counted::Counted;
 use crate::law::{Board, Pass, Top};
 use crate::plays::{Add, Close, Give, Keep, Look, Noted, Part, Sit, Take, Tie};
 use crate::turns::Unmade;
+use crate::waiters::Waiters;
 use atomic_table::{Refused, Table};
 use std::alloc::{AllocFailed, Global};
 use std::mem;
@@ -91,7 +92,12 @@ fn receive<T: Counted>(top: &Top<T>, pass: &mut Pass<T>) -> T
 }
 
 // Waits for the turn, and takes it with the state.
-pub(crate) fn seize<T: Counted, R: Wait>(rt: &R, top: &Top<T>, pass: &mut Pass<T>) -> T
+pub(crate) fn seize<T: Counted, R: Wait>(
+    rt: &R,
+    top: &Top<T>,
+    waiters: &Waiters,
+    pass: &mut Pass<T>,
+) -> T
     requires sized { IsSized top.now.table_id }
     requires pass { IsSeat T.is_right top.now.table_id (T.opening top.now.key.value) pass.old.me.0.kept
         Away [] pass.old }
@@ -106,7 +112,7 @@ pub(crate) fn seize<T: Counted, R: Wait>(rt: &R, top: &Top<T>, pass: &mut Pass<T
         if top.compare_exchange::<Take>(pass, 1, 0, 1) == 0 {
             return receive(top, pass);
         }
-        top.park(rt, 1, 1);
+        waiters.sleep(rt, top);
     }
     unreachable!()
 }
@@ -126,8 +132,8 @@ pub(crate) fn note<T: Counted, N: Noted<T::Entry>>(top: &Top<T>, pass: &mut Pass
     top.fetch_add::<Add<N>>(pass, 0, 1);
 }
 
-// Gives the turn back with the state, and wakes one that waits.
-pub(crate) fn hand_back<T: Counted>(top: &Top<T>, pass: &mut Pass<T>, state: T)
+// Gives the turn back with the state, and wakes one that waits, if there is one.
+pub(crate) fn hand_back<T: Counted>(top: &Top<T>, waiters: &Waiters, pass: &mut Pass<T>, state: T)
     requires sized { IsSized top.now.table_id }
     requires pass { IsSeat T.is_right top.now.table_id (T.opening top.now.key.value) pass.old.me.0.kept Held
         ((0, None) ∷ []) pass.old }
@@ -139,7 +145,7 @@ pub(crate) fn hand_back<T: Counted>(top: &Top<T>, pass: &mut Pass<T>, state: T)
     let empty = top.exchange(pass, 0, Some(state));
     let None = empty else { unreachable!() };
     top.store::<Give>(pass, 1, 0);
-    top.wake_one(1);
+    waiters.wake_one(top);
 }
 
 // Leaves the state in the slot, and keeps the turn for good.
@@ -177,7 +183,13 @@ pub(crate) fn level<T: Counted>(top: &Top<T>, a: &mut Pass<T>, b: &mut Pass<T>)
 }
 
 // Takes the turn with a pass and gives it back, and joins the pass into the last one.
-fn visit<T: Counted, R: Wait>(rt: &R, top: &Top<T>, last: &mut Pass<T>, mut pass: Pass<T>)
+fn visit<T: Counted, R: Wait>(
+    rt: &R,
+    top: &Top<T>,
+    waiters: &Waiters,
+    last: &mut Pass<T>,
+    mut pass: Pass<T>,
+)
     requires sized { IsSized top.now.table_id }
     requires pass { Rests T.is_right top.now.table_id (T.opening top.now.key.value) pass }
     requires last { IsSeat T.is_right top.now.table_id (T.opening top.now.key.value) last.old.me.0.kept
@@ -187,8 +199,8 @@ fn visit<T: Counted, R: Wait>(rt: &R, top: &Top<T>, last: &mut Pass<T>, mut pass
     ensures same { known last.new ≡ known last.old }
     ensures kept { (k : Known T.Entry) × Grows (known pass) k × (last.new.me.0.kept ≡ k ∷ last.old.me.0.kept) }
 {
-    let state = seize(rt, top, &mut pass);
-    hand_back(top, &mut pass, state);
+    let state = seize(rt, top, waiters, &mut pass);
+    hand_back(top, waiters, &mut pass, state);
     top.join_seat::<Keep>(last, pass);
 }
 
@@ -196,6 +208,7 @@ fn visit<T: Counted, R: Wait>(rt: &R, top: &Top<T>, last: &mut Pass<T>, mut pass
 pub(crate) fn gather<T: Counted, R: Wait>(
     rt: &R,
     top: &Top<T>,
+    waiters: &Waiters,
     last: &mut Pass<T>,
     mut passes: Vec<Pass<T>>,
 )
@@ -208,7 +221,7 @@ pub(crate) fn gather<T: Counted, R: Wait>(
     ensures kept { AllGrow (map known passes.items) last.new.me.0.kept }
 {
     'passes: while let Some(pass) = passes.pop() {
-        visit(rt, top, last, pass);
+        visit(rt, top, waiters, last, pass);
     }
 }
 

@@ -9,6 +9,7 @@ use crate::counted::Counted;
 use crate::law::{Board, Pass};
 use crate::plays::Next;
 use crate::steps::{gather, hand_back, level, note, open_table, seize, shut, take_out};
+use crate::waiters::Waiters;
 use containers::OutOfMemory;
 use std::alloc::Global;
 use std::marker::Brand;
@@ -25,6 +26,7 @@ pub struct Unmade<T> {
 #[derive(Drop)]
 pub struct Turns<T: Counted> {
     table: Board<T>,
+    waiters: Waiters,
     ghost sized: { IsSized table.shared.table_id },
 }
 
@@ -44,7 +46,8 @@ impl<T: Counted> Turns<T> {
         state.known();
         let about = Snapshot::of(&state);
         let (table, pass) = open_table(alloc, state, &about)?;
-        Ok((Turns { table }, pass))
+        let waiters = Waiters::new();
+        Ok((Turns { table, waiters }, pass))
     }
 
     /// Takes the turn, with the state. It may wait.
@@ -59,7 +62,7 @@ impl<T: Counted> Turns<T> {
         ensures longer { IsPrefix (seen pass.old) (seen pass.new) }
         ensures uses { UsesStand T.opens T.uses (seen pass.new) (own pass.new) }
     {
-        seize(rt, &self.table.shared, pass)
+        seize(rt, &self.table.shared, &self.waiters, pass)
     }
 
     /// Adds the state's last entry to the history. The pass holds the turn.
@@ -87,7 +90,7 @@ impl<T: Counted> Turns<T> {
             (T.opening self.now.table.shared.key.value) pass.new }
         ensures known { known pass.new ≡ known pass.old }
     {
-        hand_back(&self.table.shared, pass, state);
+        hand_back(&self.table.shared, &self.waiters, pass, state);
     }
 
     /// A further pass, which has seen as much and owns nothing.
@@ -133,10 +136,10 @@ impl<T: Counted> Turns<T> {
         ensures seen { Each (λ p. IsPrefix (seen p) (T.entries result)) passes.items }
         ensures once { AreWhole (map known passes.items) → OwnedOnce (T.entries result) (map known passes.items) }
     {
-        let Turns { table } = self;
+        let Turns { table, waiters } = self;
         let mut last = passes.pop().unwrap();
-        gather(rt, &table.shared, &mut last, passes);
-        let state = seize(rt, &table.shared, &mut last);
+        gather(rt, &table.shared, &waiters, &mut last, passes);
+        let state = seize(rt, &table.shared, &waiters, &mut last);
         shut(&table.shared, &mut last, state);
         take_out(table, last)
     }
