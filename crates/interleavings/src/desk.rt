@@ -1,7 +1,7 @@
 //! The tail of a journal in memory, and the transactions that are open on it, by name.
 ghost use Rattle.std.specs.Prelude.{◌≡◌, ◌++◌, ◌<◌, [], ◌∷◌, length, IfOk, OnOk, MatchOption};
 ghost use Rattle.std.specs.List.{AllByRecursion};
-ghost use Rattle.ledger_core.specs.Committing.{IsOpenOn, digest_of, tx_of};
+ghost use Rattle.ledger_core.specs.Committing.{IsOpenOn, tx_of};
 ghost use Rattle.interleavings.specs.Lines as line;
 ghost use Rattle.interleavings.specs.Desks.{Aborts, Answers, AreOpen, Begins, Commits, Executes, IsAnother, IsNowhere, IsServed, StandsAt, commit_line, execute_line, has_name, named, opened, sent, without};
 ghost use Rattle.interleavings.specs.Runs.{IsFresh};
@@ -12,11 +12,10 @@ use crate::lines::{
     put_footprint, put_ids_spent, put_journal_full, put_nothing, put_refused, put_store_fault,
 };
 use ion_values::{OutOfMemory, Text, Value};
-use ledger_core::{BeginFault, CommitFault, Receipt, Tail};
-use ledger_model::{Answer, Refusal, Said};
+use ledger_core::{BeginFault, CommitFault, Receipt, Tail, own_digest};
+use ledger_model::{Answer, Refusal};
 use outside::{MemoryStore, SetClock};
-use ql_types::{Hash32, IdMask, Place, TxId};
-use session_driver::{fold_statement, start_digest};
+use ql_types::{Hash32, IdMask, Place};
 use std::alloc::Global;
 use txn_core::Txn;
 
@@ -79,17 +78,6 @@ fn take_named(list: &mut Vec<OpenTxn>, name: &Text) -> Option<Txn>
     let at = place_of(list.as_slice(), name)?;
     let taken = list.remove(at);
     Some(taken.txn)
-}
-
-/// The digest of the transaction of this id with these statements.
-fn own_digest(alloc: Global, tx: TxId, said: &[Said]) -> Result<Hash32, OutOfMemory>
-    ensures { IfOk result (λ digest. digest ≡ digest_of tx said.now) }
-{
-    let mut digest = start_digest(alloc, tx)?;
-    'said: for said in said {
-        digest = fold_statement(alloc, digest, said.text.as_str(), said.params.as_slice())?;
-    }
-    Ok(digest)
 }
 
 /// The digest that a commit sends: the one that is given, or the transaction's own.

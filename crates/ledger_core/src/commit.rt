@@ -217,7 +217,7 @@ impl<S: JournalStore, C> Tail<S, C> {
 }
 
 /// The digest of the transaction of this id with these statements.
-fn own_digest(alloc: Global, tx: TxId, said: &[Said]) -> Result<Hash32, OutOfMemory>
+pub fn own_digest(alloc: Global, tx: TxId, said: &[Said]) -> Result<Hash32, OutOfMemory>
     ensures { IfOk result (λ digest. digest ≡ digest_of tx said.now) }
 {
     let mut digest = start_digest(alloc, tx)?;

@@ -13,7 +13,7 @@ mod tail;
 
 pub use appending::Receipt;
 pub use begin::BeginFault;
-pub use commit::{CommitFault, Uncommitted};
+pub use commit::{CommitFault, Uncommitted, own_digest};
 pub use journal_keeper::SettleFault;
 pub use journal_reader::LoadCause;
 pub use laws::{
