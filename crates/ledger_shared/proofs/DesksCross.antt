@@ -18,6 +18,7 @@ use Rattle.ledger_shared.specs.contracts.entry.Entries as Entries
 use Rattle.ledger_shared.specs.contracts.shared.Shared as Shared
 use Rattle.ledger_shared.specs.contracts.shared.Shared.TheInside as SharedInside
 use Rattle.ledger_shared.specs.contracts.ledger.Ledger as Ledger
+use Rattle.ledger_shared.specs.contracts.runner.Runner as Runner
 use Rattle.ledger_shared.specs.contracts.worker.Worker as Worker
 use Rattle.ledger_shared.specs.contracts.workers.Desk as Desk
 use Rattle.journal_text.proofs.BlocksCross.{blocks_send}
@@ -50,9 +51,12 @@ module _ (S C : RattleType) (g : store.Ghosts S.Denot) (h : clock.Ghosts C.Denot
   ledger_sync = declared_sync (Ledger.the_type S C g h) (turns.the_sync _ _ _ _ shared_send, tt)
 
   module _ (G : RattleType) (y : IsSync G) (κ : NamedLft) where
+    runner_send : IsSend (Runner.the_row κ G)
+    runner_send = let r = statements_send in search (sendable, crosses) depth 14
+
     worker_send : IsSend (Worker.the_row κ S C G g h)
     worker_send =
-        let s = shared_send in let l = ledger_sync in let r = statements_send in
+        let s = shared_send in let l = ledger_sync in let r = runner_send in
         search (sendable, crosses, seat.the_send) depth 14
 
     pub desk_send : IsSend (Desk.the_row κ S C G g h)

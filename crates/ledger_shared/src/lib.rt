@@ -10,6 +10,7 @@ mod ledger;
 mod merging;
 mod room;
 mod run;
+mod runner;
 mod session;
 mod shared;
 mod worker;

@@ -1,10 +1,9 @@
 //! A worker of the ledger: an attempt at a job's transaction with its pass.
 ghost use Rattle.std.specs.Prelude.{◌≡◌, false, None, IfOk, OnErr, OnOk};
 ghost use Rattle.txn_core.specs.Opened.{Opened};
-ghost use Rattle.ledger_model.specs.Run.{run, start};
+ghost use Rattle.ledger_model.specs.Run.{start};
 ghost use Rattle.ledger_model.specs.declared.script.Job.{Job};
 ghost use Rattle.ql_types.specs.declared.Place.{Place};
-ghost use Rattle.txn_core.specs.Runs.{IsRunOf, ran_of};
 ghost use Rattle.turn_lock.specs.History.{after_split, split_off};
 ghost use Rattle.turn_lock.specs.Seats.{Rests, known};
 ghost use Rattle.ledger_shared.specs.Behind.{IsRightFor, opening_of};
@@ -15,25 +14,24 @@ ghost use Rattle.ledger_shared.specs.Workers.{Ends, IsDone, TellsDenial, Tries};
 
 use crate::denials::denied;
 use crate::ledger::{Ledger, Pass};
+use crate::runner::Runner;
 use ion_values::OutOfMemory;
 use ledger_core::{BeginFault, outcome_of};
-use ledger_model::{Denial, Job, Outcome, Request};
+use ledger_model::{Denial, Job, Outcome};
 use outside::{Clock, Gate, JournalStore, Step};
 use ql_types::Place;
 use session_driver::Link;
 use std::alloc::Global;
 use std::marker::Model;
 use std::sync::Wait;
-use txn_core::{ExecuteFault, Ran, Statements, Txn};
+use txn_core::{Ran, Txn};
 
-/// A worker: its ledger and its gate, the pass with which it runs its transactions, and the statements that it has read.
+/// A worker: its ledger, the pass with which it runs its transactions, and what runs their statements.
 #[derive(Drop)]
 pub struct Worker<'a, S: JournalStore, C: Clock, G: Gate> {
     ledger: &'a Ledger<S, C>,
-    gate: &'a G,
-    alloc: Global,
     pass: Pass<S, C>,
-    statements: Statements,
+    runner: Runner<'a, G>,
 }
 
 impl<'a, S: JournalStore, C: Clock, G: Gate> Model for Worker<'a, S, C, G> {
@@ -71,10 +69,8 @@ impl<'a, S: JournalStore, C: Clock, G: Gate> Worker<'a, S, C, G> {
     {
         Worker {
             ledger,
-            gate,
-            alloc,
             pass,
-            statements: Statements::new(alloc),
+            runner: Runner::new(alloc, gate),
         }
     }
 
@@ -90,10 +86,8 @@ impl<'a, S: JournalStore, C: Clock, G: Gate> Worker<'a, S, C, G> {
         let pass = self.ledger.split(&mut self.pass)?;
         Ok(Worker {
             ledger: self.ledger,
-            gate: self.gate,
-            alloc: self.alloc,
             pass,
-            statements: Statements::new(self.alloc),
+            runner: Runner::new(self.runner.alloc, self.runner.gate),
         })
     }
 
@@ -101,7 +95,7 @@ impl<'a, S: JournalStore, C: Clock, G: Gate> Worker<'a, S, C, G> {
     fn deny(&self, denial: &Denial) -> Outcome
         ensures { TellsDenial denial.now result }
     {
-        denied(self.alloc, denial)
+        denied(self.runner.alloc, denial)
     }
 
     /// The pass.
@@ -111,10 +105,8 @@ impl<'a, S: JournalStore, C: Clock, G: Gate> Worker<'a, S, C, G> {
     {
         let Worker {
             ledger: _,
-            gate: _,
-            alloc: _,
             pass,
-            statements: _,
+            runner: _,
         } = self;
         pass
     }
@@ -140,21 +132,6 @@ trait Steps {
         requires at { txn.place ≡ place }
         requires admitted { job.now.denied ≡ None };
 
-    /// Runs all statements of a transaction that has run none, and calls the gate before each. `OutOfMemory` comes also
-    /// where the transaction makes more than 2^24 - 1 tables and documents, or has more than 2^32 - 1 statements.
-    fn run_gated<R: Wait + Sync>(
-        &mut self,
-        rt: &R,
-        place: Place,
-        txn: Txn,
-        asked: &[Request],
-    ) -> Result<Ran, OutOfMemory>
-        requires fresh { txn.done ≡ start }
-        requires goes_on { txn.ended ≡ false }
-        ensures same { self.new ≡ self.old }
-        ensures ran { IfOk result (λ r. ran_of r ≡ run txn.begun txn.base asked.now) }
-        ensures of { IfOk result (λ r. IsRunOf txn r) };
-
     /// Commits the job's transaction, whose statements are all done.
     fn finish<R: Wait + Sync>(&mut self, rt: &R, job: &Job, place: Place, txn: Txn) -> Outcome
         requires done { may_finish self.old job.now place txn };
@@ -173,8 +150,11 @@ impl<'a, S: JournalStore, C: Clock, G: Gate> Steps for Worker<'a, S, C, G> {
         requires admitted { job.now.denied ≡ None }
         ensures { Tries S.told self.old job.now place result self.new }
     {
-        self.gate.at(rt, place, Step::BeforeBegin);
-        match self.ledger.begin(rt, self.alloc, &mut self.pass, place) {
+        self.runner.gate.at(rt, place, Step::BeforeBegin);
+        match self
+            .ledger
+            .begin(rt, self.runner.alloc, &mut self.pass, place)
+        {
             Ok(txn) => self.run(rt, job, place, txn),
             Err(BeginFault::IdsSpent { last }) => Outcome::IdsSpent { last },
             Err(BeginFault::OutOfMemory) => Outcome::OutOfMemory,
@@ -193,7 +173,10 @@ impl<'a, S: JournalStore, C: Clock, G: Gate> Steps for Worker<'a, S, C, G> {
     {
         let tx = txn.tx();
         let since = txn.since();
-        match self.run_gated(rt, place, txn, job.statements.as_slice()) {
+        match self
+            .runner
+            .run_gated(rt, place, txn, job.statements.as_slice())
+        {
             Ok(Ran::Done(txn)) => {
                 if job.abort {
                     Outcome::Aborted { tx, since }
@@ -221,37 +204,11 @@ impl<'a, S: JournalStore, C: Clock, G: Gate> Steps for Worker<'a, S, C, G> {
     {
         let tx = txn.tx();
         let since = txn.since();
-        self.gate.at(rt, place, Step::BeforeCommit);
+        self.runner.gate.at(rt, place, Step::BeforeCommit);
         let result = self
             .ledger
-            .commit_with(rt, self.alloc, &mut self.pass, txn, job.digest);
+            .commit_with(rt, self.runner.alloc, &mut self.pass, txn, job.digest);
         outcome_of(tx, since, result)
-    }
-
-    fn run_gated<R: Wait + Sync>(
-        &mut self,
-        rt: &R,
-        place: Place,
-        txn: Txn,
-        asked: &[Request],
-    ) -> Result<Ran, OutOfMemory> {
-        let mut txn = txn;
-        let mut statement: u32 = 0;
-        'statements: for request in asked {
-            if statement == u32::MAX {
-                return Err(OutOfMemory);
-            }
-            statement += 1;
-            self.gate.at(rt, place, Step::BeforeExecute);
-            let text = request.text.as_str();
-            let params = request.params.as_slice();
-            match txn.perform(self.alloc, &mut self.statements, text, params) {
-                Ok(()) => {}
-                Err(ExecuteFault::Refused(cause)) => return Ok(Ran::Refused { statement, cause }),
-                Err(ExecuteFault::OutOfMemory) => return Err(OutOfMemory),
-            }
-        }
-        Ok(Ran::Done(txn))
     }
 }
 
