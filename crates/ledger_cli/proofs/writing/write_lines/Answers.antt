@@ -1,4 +1,4 @@
-use Rattle.std.proofs.Common.{◌≡◌, ◌+◌, Err, arith, rules}
+use Rattle.std.proofs.Common.{◌≡◌, Err, arith, rules}
 use Rattle.std.specs.List.{flat_map}
 use Rattle.cli_model.specs.Outputs.{value_line}
 use Rattle.ledger_cli.proofs.Written.{all_written, begun, one_broke, one_more}
