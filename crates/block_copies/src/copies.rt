@@ -1,9 +1,11 @@
-//! Copies of the parts of blocks.
+//! Copies of the parts of blocks, whole or with another part.
 ghost use Rattle.std.specs.Prelude.{◌≡◌, IfOk};
 
 use containers::Sequence;
 use ion_values::{OutOfMemory, copy, copy_values};
-use ledger_model::{Answer, Content, Info, Revision, Said, SaidList, Schema, SchemaList, Told};
+use ledger_model::{
+    Answer, Block, Content, Info, Revision, Revisions, Said, SaidList, Schema, SchemaList, Told,
+};
 use std::alloc::Global;
 
 fn copy_said(alloc: Global, said: &Said) -> Result<Said, OutOfMemory>
@@ -67,8 +69,7 @@ fn copy_change(alloc: Global, change: &Schema) -> Result<Schema, OutOfMemory>
     }
 }
 
-/// A copy of changes to the schema.
-pub fn copy_schema(alloc: Global, schema: &[Schema]) -> Result<SchemaList, OutOfMemory>
+fn copy_schema(alloc: Global, schema: &[Schema]) -> Result<SchemaList, OutOfMemory>
     ensures { IfOk result (λ new. new ≡ schema.now) }
 {
     let mut new = Vec::with_capacity(alloc, schema.len())?;
@@ -78,11 +79,10 @@ pub fn copy_schema(alloc: Global, schema: &[Schema]) -> Result<SchemaList, OutOf
     Ok(Sequence::from_vec(new))
 }
 
-/// A copy of what a transaction said and did.
-pub fn copy_info(alloc: Global, info: &Info) -> Result<Info, OutOfMemory>
-    ensures { IfOk result (λ new. new ≡ info.now) }
+/// A copy of what a transaction said and did, with something else said.
+pub fn info_with(alloc: Global, info: &Info, said: Told) -> Result<Info, OutOfMemory>
+    ensures { IfOk result (λ new. new ≡ record info.now { said = said }) }
 {
-    let said = copy_told(alloc, &info.said)?;
     let schema = copy_schema(alloc, info.schema.as_slice())?;
     let tables = Sequence::from_slice(alloc, info.tables.as_slice())?;
     Ok(Info {
@@ -91,6 +91,14 @@ pub fn copy_info(alloc: Global, info: &Info) -> Result<Info, OutOfMemory>
         schema,
         tables,
     })
+}
+
+/// A copy of what a transaction said and did.
+pub fn copy_info(alloc: Global, info: &Info) -> Result<Info, OutOfMemory>
+    ensures { IfOk result (λ new. new ≡ info.now) }
+{
+    let said = copy_told(alloc, &info.said)?;
+    info_with(alloc, info, said)
 }
 
 /// A copy of a revision's content.
@@ -104,15 +112,37 @@ pub fn copy_content(alloc: Global, content: &Content) -> Result<Content, OutOfMe
     }
 }
 
+/// The revision with another content.
+pub fn revision_with(revision: &Revision, content: Content) -> Revision
+    ensures { result ≡ record revision.now { content = content } }
+{
+    Revision {
+        address: revision.address,
+        hash: revision.hash,
+        content,
+        metadata: revision.metadata,
+    }
+}
+
 /// A copy of a revision.
 pub fn copy_revision(alloc: Global, revision: &Revision) -> Result<Revision, OutOfMemory>
     ensures { IfOk result (λ new. new ≡ revision.now) }
 {
     let content = copy_content(alloc, &revision.content)?;
-    Ok(Revision {
-        address: revision.address,
-        hash: revision.hash,
-        content,
-        metadata: revision.metadata,
-    })
+    Ok(revision_with(revision, content))
+}
+
+/// The block with other info and other revisions.
+pub fn block_with(block: &Block, info: Info, revisions: Revisions) -> Block
+    ensures { result ≡ record block.now { info = info; revisions = revisions } }
+{
+    Block {
+        header: block.header,
+        hash: block.hash,
+        entries: block.entries,
+        previous: block.previous,
+        list: block.list,
+        info,
+        revisions,
+    }
 }

@@ -1,6 +1,8 @@
-//! Copies of the parts of blocks.
+//! Copies of the parts of blocks, whole or with another part.
 #![tactic(auto)]
 
 mod copies;
 
-pub use copies::{copy_content, copy_info, copy_revision, copy_schema, copy_told};
+pub use copies::{
+    block_with, copy_content, copy_info, copy_revision, copy_told, info_with, revision_with,
+};

@@ -9,6 +9,7 @@ ghost use Rattle.redact_tool.specs.Redacting.{AreRedactions};
 
 use crate::compacting::{shown_info, shown_revisions};
 use crate::redactions::{Redactions, front};
+use block_copies::block_with;
 use ion_values::OutOfMemory;
 use ledger_model::{Block, Blocks};
 use std::alloc::Global;
@@ -28,15 +29,7 @@ pub fn compacted_block(
     let info = shown_info(alloc, hides, &block.info)?;
     let tables = block.info.tables.as_slice();
     let revisions = shown_revisions(alloc, redactions, tables, block.revisions.as_slice())?;
-    Ok(Block {
-        header: block.header,
-        hash: block.hash,
-        entries: block.entries,
-        previous: block.previous,
-        list: block.list,
-        info,
-        revisions,
-    })
+    Ok(block_with(block, info, revisions))
 }
 
 /// The journal without the bytes of what its blocks redact.

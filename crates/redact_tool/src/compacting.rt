@@ -6,7 +6,7 @@ ghost use Rattle.ledger_model.specs.State.{hashed};
 ghost use Rattle.redact_tool.specs.Redacting.{AreRedactions};
 
 use crate::redactions::Redactions;
-use block_copies::{copy_content, copy_schema, copy_told};
+use block_copies::{copy_content, copy_told, info_with, revision_with};
 use block_form::told_hash;
 use containers::Sequence;
 use ion_hash::hash;
@@ -41,19 +41,7 @@ pub fn shown_revision(
     } else {
         copy_content(alloc, &revision.content)?
     };
-    Ok(with_content(content, revision))
-}
-
-/// The revision with another content.
-fn with_content(content: Content, revision: &Revision) -> Revision
-    ensures { result ≡ record revision.now { content = content } }
-{
-    Revision {
-        address: revision.address,
-        hash: revision.hash,
-        content,
-        metadata: revision.metadata,
-    }
+    Ok(revision_with(revision, content))
 }
 
 /// Revisions of documents of these tables, as many as there are of both.
@@ -91,12 +79,5 @@ pub(crate) fn shown_info(alloc: Global, hides: bool, info: &Info) -> Result<Info
     ensures { IfOk result (λ i. i ≡ record info.now { said = spec.shown_told hides info.now.said }) }
 {
     let said = shown_told(alloc, hides, &info.said)?;
-    let schema = copy_schema(alloc, info.schema.as_slice())?;
-    let tables = Sequence::from_slice(alloc, info.tables.as_slice())?;
-    Ok(Info {
-        place: info.place,
-        said,
-        schema,
-        tables,
-    })
+    info_with(alloc, info, said)
 }

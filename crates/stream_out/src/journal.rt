@@ -7,7 +7,7 @@ ghost use Rattle.stream_out.specs.Streams as spec;
 
 use crate::names::Names;
 use crate::record::{Details, Listed, Record, Records, RevisionSummary, Summary};
-use block_copies::{copy_info, copy_revision};
+use block_copies::{block_with, copy_info, copy_revision};
 use containers::Sequence;
 use ion_values::OutOfMemory;
 use ledger_model::{Block, Blocks, Revision};
@@ -33,15 +33,7 @@ fn summary_of(alloc: Global, block: &Block) -> Result<Summary, OutOfMemory>
 {
     let listed = listed_of(alloc, block.revisions.as_slice())?;
     let info = copy_info(alloc, &block.info)?;
-    let block = Block {
-        header: block.header,
-        hash: block.hash,
-        entries: block.entries,
-        previous: block.previous,
-        list: block.list,
-        info,
-        revisions: Sequence::new(alloc),
-    };
+    let block = block_with(block, info, Sequence::new(alloc));
     Ok(Summary { block, listed })
 }
 

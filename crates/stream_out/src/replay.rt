@@ -9,7 +9,7 @@ ghost use Rattle.stream_out.specs.Replays as spec;
 
 use crate::record::{Details, Record, RevisionSummary, Summary};
 use crate::same::{same_details, same_hash, same_summary};
-use block_copies::{copy_info, copy_revision};
+use block_copies::{block_with, copy_info, copy_revision};
 use containers::Sequence;
 use ion_values::OutOfMemory;
 use ledger_model::{Block, Blocks, Revision, Revisions};
@@ -132,15 +132,7 @@ impl Replay {
             return Ok(None);
         };
         let info = copy_info(alloc, &summary.block.info)?;
-        Ok(Some(Block {
-            header: summary.block.header,
-            hash: summary.block.hash,
-            entries: summary.block.entries,
-            previous: summary.block.previous,
-            list: summary.block.list,
-            info,
-            revisions,
-        }))
+        Ok(Some(block_with(&summary.block, info, revisions)))
     }
 
     /// Rebuilds each block that can stand next.

@@ -6,7 +6,7 @@ ghost use Rattle.ledger_model.specs.Journal.{revision_value};
 ghost use Rattle.stream_out.specs.Records as spec;
 
 use crate::record::{RevisionSummary, Summary};
-use block_copies::copy_info;
+use block_copies::{block_with, copy_info};
 use block_form::revision_value;
 use containers::Sequence;
 use ion_values::{IonTime, OutOfMemory, Precision, TimeParts, Values};
@@ -89,13 +89,5 @@ pub(crate) fn stood_in(alloc: Global, summary: &Summary) -> Result<Block, OutOfM
 {
     let info = copy_info(alloc, &summary.block.info)?;
     let revisions = stand_ins(alloc, summary.listed.as_slice())?;
-    Ok(Block {
-        header: summary.block.header,
-        hash: summary.block.hash,
-        entries: summary.block.entries,
-        previous: summary.block.previous,
-        list: summary.block.list,
-        info,
-        revisions,
-    })
+    Ok(block_with(&summary.block, info, revisions))
 }

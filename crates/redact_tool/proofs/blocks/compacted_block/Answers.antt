@@ -12,5 +12,6 @@ returns c = λ blocks later h e.
     let revisions = c.in_ok-revisions.ensures blocks h
     ∙ ap (λ (ts : List TableId). spec.shown_revisions blocks ts c.as_slice.result.now) c.as_slice-tables.ensures
     ∙ ap (λ (rs : List Revision). spec.shown_revisions blocks b.info.tables rs) c.as_slice.ensures in
-    ap (λ (i : Info). record b { info = i; revisions = c.in_ok-revisions.revisions }) info
+    c.block_with.ensures
+    ∙ ap (λ (i : Info). record b { info = i; revisions = c.in_ok-revisions.revisions }) info
     ∙ ap (λ (rs : List Revision). record (spec.compacted_block blocks b later) { revisions = rs }) revisions

@@ -1,4 +1,4 @@
-use Rattle.std.proofs.Common.{◌∙◌, ap, sym}
+use Rattle.std.proofs.Common.{◌∙◌, Some, ap, sym}
 use Rattle.std.specs.Option.{option_copied}
 use Rattle.stream_out.proofs.Kept.{block_kept, no_revisions_kept, no_summary_kept}
 use Rattle.stream_out.proofs.replay.Replay.block_of.Goals as goal
@@ -14,5 +14,6 @@ returns-in_default-2 c =
 
 pub returns : goal.returns
 returns c =
-    block_kept c.args.self.now c.args.sequence c.in-Some.summary.now c.as_slice.result.now _ c.in-Some-2.revisions c.in_ok-info.info
+    ap Some c.block_with.ensures
+    ∙ block_kept c.args.self.now c.args.sequence c.in-Some.summary.now c.as_slice.result.now _ c.in-Some-2.revisions c.in_ok-info.info
     (sym c.get.ensures.value ∙ ap option_copied c.in-Some.is) c.as_slice.ensures c.in_ok-revisions.ensures c.in-Some-2.is c.in_ok-info.ensures
