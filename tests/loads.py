@@ -6,7 +6,7 @@ two pieces. Ends with status 1 where something isn't as it should be.
     tests/loads.py [PROGRAM [PIECE]]
 
 The program is crates/ledger/out/ledger, where `rt ci` leaves it, or another path. PIECE is the number of bytes of a piece, where the
-program was built with another than that of `read_stored_by` in journal_reader (a slow build with small pieces can be tried so).
+program was built with another than that of `wide_piece` in journal_reader (a slow build with small pieces can be tried so).
 """
 import subprocess
 import sys
@@ -16,7 +16,7 @@ from pathlib import Path
 from running import PROGRAM, check
 
 WORKERS = [1, 2, 3, 8, 64]
-PIECE = int(sys.argv[2]) if len(sys.argv) > 2 else 65536
+PIECE = int(sys.argv[2]) if len(sys.argv) > 2 else 1048576
 RUN = ["run", "--plain-ids", "--at", "2020-01-01T00:00:00.000Z", "--workers"]
 # a transaction whose line is longer than two pieces, of documents that are within the bounds of one
 SIZE = min(100_000, 2 * PIECE + 100)

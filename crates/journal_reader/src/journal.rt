@@ -13,7 +13,7 @@ ghost use Rattle.journal_reader.specs.Loads.{IsCause, IsLoaded, IsRead};
 
 use crate::cause::LoadCause;
 use crate::chain::Chain;
-use crate::reading::{Stored, read_stored, read_stored_by};
+use crate::reading::{Stored, read_stored, read_stored_by, wide_piece};
 use journal_text::JournalFault;
 use ledger_model::Blocks;
 use outside::JournalStore;
@@ -73,7 +73,8 @@ impl Journal {
         ensures fine { OnOk result ((S.told store.new).faults ≡ (S.told store.old).faults) }
         ensures cause { IfErr result (λ cause. IsCause cause (S.told store.old) (S.told store.new)) }
     {
-        let stored = read_stored_by(rt, workers, alloc, store)?;
+        let mut piece = wide_piece(alloc)?;
+        let stored = read_stored_by(rt, workers, alloc, store, piece.as_mut_slice())?;
         Ok(journal_of(alloc, stored)?)
     }
 

@@ -6,6 +6,7 @@ ghost use Rattle.journal_text.specs.Feeding.{taken};
 ghost use Rattle.journal_reader.specs.Loads.{IsCause};
 
 use crate::cause::{LoadCause, cause_told};
+use ion_values::OutOfMemory;
 use journal_text::JournalReader;
 use outside::JournalStore;
 use std::alloc::Global;
@@ -79,13 +80,24 @@ pub(crate) fn read_stored<S: JournalStore>(
     Ok(Stored { reader, size })
 }
 
-/// Reads the store as `read_stored` does. The lines of a piece are read by so many threads.
+/// Room for a piece of which several threads read the lines: a mebibyte, since threads are made for each piece.
+pub(crate) fn wide_piece(alloc: Global) -> Result<Vec<u8>, OutOfMemory>
+    ensures { IfOk result (λ piece. length piece.items ≡ 1048576) }
+{
+    let piece = Vec::from_elem(alloc, 0u8, 1_048_576)?;
+    Ok(piece)
+}
+
+/// Reads the store as `read_stored` does, in pieces that have room in the given one. The lines of a piece are read by so
+/// many threads.
 pub(crate) fn read_stored_by<S: JournalStore, R: Threads + Sync>(
     rt: &R,
     workers: u32,
     alloc: Global,
     store: &mut S,
+    piece: &mut [u8],
 ) -> Result<Stored, LoadCause>
+    requires { 0 < length piece.old }
     ensures read { IfOk result (λ stored. IfSome (held (S.told store.old)) (λ held. taken stored.reader ≡ held)) }
     ensures reads { IfOk result (λ stored. stored.reader.damaged ≡ None) }
     ensures size { IfOk result (λ stored. stored.size ≡ length (taken stored.reader)) }
@@ -97,9 +109,8 @@ pub(crate) fn read_stored_by<S: JournalStore, R: Threads + Sync>(
     let whole = size_of(store)?;
     let mut reader = JournalReader::new(alloc);
     let mut size = 0;
-    let mut piece = [0u8; 65536];
     'shared: while size < whole {
-        let room = (whole - size).min(65536) as usize;
+        let room = (whole - size).min(piece.len() as u64) as usize;
         let count = read_piece(store, size, &mut piece[..room])?;
         if count == 0 {
             return Ok(Stored { reader, size });

@@ -12,6 +12,7 @@ shared-init g c = record {
   within = search rules;
   reads = search rules;
   content = search rules;
+  wide = search rules;
   fine = search rules;
 }
 
@@ -34,6 +35,7 @@ shared-preserved g c =
       within = search rules;
       reads = search rules;
       content = search rules;
+      wide = search rules;
       fine = search rules;
     }
 

@@ -1,4 +1,4 @@
-use Rattle.std.proofs.Common.{◌≡◌, ◌-◌, ◌≤◌, None, length, take}
+use Rattle.std.proofs.Common.{◌≡◌, ◌-◌, ◌≤◌, ◌<◌, None, length, take}
 use Rattle.std.specs.Prelude.{IfSome}
 use Rattle.outside.specs.Told.{held}
 use Rattle.journal_text.specs.Feeding.{taken}
@@ -12,6 +12,7 @@ invariant-shared g l = record {
   within : l.size ≤ l.whole;
   reads : l.reader.damaged ≡ None;
   content : (g.S.JournalStore.told l.store).content ≡ (g.S.JournalStore.told l.fn.store).content;
+  wide : 0 < length l.piece;
   fine : (g.S.JournalStore.told l.store).faults ≡ (g.S.JournalStore.told l.fn.store).faults;
 }
 
