@@ -28,10 +28,13 @@ impl<'a, G: Gate> Runner<'a, G> {
             statements: Statements::new(alloc),
         }
     }
+}
 
+/// Running the statements of a transaction, at a runtime that threads share.
+pub(crate) trait Runs {
     /// Runs all statements of a transaction that has run none, and calls the gate before each. `OutOfMemory` comes also
     /// where the transaction makes more than 2^24 - 1 tables and documents, or has more than 2^32 - 1 statements.
-    pub(crate) fn run_gated<R: Wait + Sync>(
+    fn run_gated<R: Wait + Sync>(
         &mut self,
         rt: &R,
         place: Place,
@@ -41,8 +44,17 @@ impl<'a, G: Gate> Runner<'a, G> {
         requires fresh { txn.done ≡ start }
         requires goes_on { txn.ended ≡ false }
         ensures ran { IfOk result (λ r. ran_of r ≡ run txn.begun txn.base asked.now) }
-        ensures of { IfOk result (λ r. IsRunOf txn r) }
-    {
+        ensures of { IfOk result (λ r. IsRunOf txn r) };
+}
+
+impl<'a, G: Gate> Runs for Runner<'a, G> {
+    fn run_gated<R: Wait + Sync>(
+        &mut self,
+        rt: &R,
+        place: Place,
+        txn: Txn,
+        asked: &[Request],
+    ) -> Result<Ran, OutOfMemory> {
         let mut txn = txn;
         let mut statement: u32 = 0;
         'statements: for request in asked {

@@ -14,7 +14,7 @@ ghost use Rattle.ledger_shared.specs.Workers.{Ends, IsDone, TellsDenial, Tries};
 
 use crate::denials::denied;
 use crate::ledger::{Ledger, Pass};
-use crate::runner::Runner;
+use crate::runner::{Runner, Runs};
 use ion_values::OutOfMemory;
 use ledger_core::{BeginFault, outcome_of};
 use ledger_model::{Denial, Job, Outcome};

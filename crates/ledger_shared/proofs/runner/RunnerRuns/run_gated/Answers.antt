@@ -4,7 +4,7 @@ use Rattle.ledger_model.specs.Run.{run, run_from}
 use Rattle.txn_core.specs.declared.stopped.ExecuteFault.TheVariants.{Refused}
 use Rattle.txn_core.specs.Opened.{IsStopped, Steps, asked, step_of}
 use Rattle.txn_core.proofs.Running.{run-on, run-refused, run-done}
-use Rattle.ledger_shared.proofs.runner.Runner.run_gated.Goals as goal
+use Rattle.ledger_shared.proofs.runner.RunnerRuns.run_gated.Goals as goal
 
 pub statements-init : goal.statements-init
 statements-init g c = record {

@@ -1,7 +1,7 @@
 use Rattle.std.proofs.Common.{◌≡◌, ◌+◌, drop}
 use Rattle.ledger_model.specs.Run.{run}
 use Rattle.txn_core.proofs.Running.{run_on, with_done}
-use Rattle.ledger_shared.proofs.runner.Runner.run_gated.Given as goal
+use Rattle.ledger_shared.proofs.runner.RunnerRuns.run_gated.Given as goal
 
 -- what is left gives what the whole gives
 abbrev pub invariant-statements : goal.invariant-statements
