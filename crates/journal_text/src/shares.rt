@@ -82,7 +82,7 @@ fn read_lines(
     Ok(lines)
 }
 
-/// The lines of a share of so many bytes, read, the last one first. The share is counted from the end of the piece.
+/// The lines of a share of `size` bytes, read, the last one first. The share is counted from the end of the piece.
 /// The first line of all begins at the given place or behind it.
 fn share_of(alloc: Global, piece: &[u8], first: usize, size: usize, number: usize) -> Share
     ensures { IfOk result (λ lines. AreReadIn piece.now lines.items) }
