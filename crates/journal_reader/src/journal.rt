@@ -59,8 +59,8 @@ impl Journal {
         Ok(journal_of(alloc, stored)?)
     }
 
-    /// Reads the store to its end and returns the journal that it holds, as `read` does. The lines are read by so many
-    /// threads, where they can be made, each line by itself.
+    /// Reads the store to its end and returns the journal that it holds, as `read` does. Each line is read by itself,
+    /// by as many threads as `workers` says where they can be made.
     pub fn read_by<S: JournalStore, R: Threads + Sync>(
         rt: &R,
         workers: u32,

@@ -7,7 +7,7 @@ use Rattle.journal_text.specs.Feeding.{ReadSoFar, taken}
 use Rattle.journal_text.specs.Lines.{IsLineRead}
 use Rattle.journal_text.specs.Reading.{IsLineFault}
 
--- the text with so many bytes stands at this place of the piece, with the first line feed behind it, and was read
+-- the text of `len` bytes stands at this place of the piece, with the first line feed behind it, and was read
 pub record IsReadIn (piece : List ℕ) (l : ReadLine) : Type 0 where
   pub text : List ℕ
   pub long : length text ≡ l.len

@@ -95,9 +95,9 @@ fn share_of(alloc: Global, piece: &[u8], first: usize, size: usize, number: usiz
     Ok(lines)
 }
 
-/// The lines of the piece in shares, the last share first, each read by a thread of its own where one can be made.
+/// The lines of the piece in shares, the last share first.
 ///
-/// No line is read that begins before the given place. Some lines may be left out.
+/// Each share is read by a thread of its own where one can be made. No line is read that begins before the given place. Some lines may be left out.
 pub(crate) fn read_shares<R: Threads + Sync>(
     rt: &R,
     alloc: Global,

@@ -82,8 +82,8 @@ impl<S: JournalStore, C> Tail<S, C> {
         }
     }
 
-    /// Reads the store to its end and returns the tail of its journal, as `reload` does. The lines are read by so many
-    /// threads, where they can be made, each line by itself.
+    /// Reads the store to its end and returns the tail of its journal, as `reload` does. Each line is read
+    /// by itself, by as many threads as `crew` says where they can be made.
     pub fn reload_by<R: Threads + Sync>(
         crew: &Loaders<'_, R>,
         alloc: Global,

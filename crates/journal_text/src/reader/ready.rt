@@ -13,7 +13,7 @@ use block_form::CheckedBlock;
 use std::thread::Threads;
 
 impl JournalReader {
-    /// Takes all bytes of the piece, as `feed_all` does. Its lines are read by so many threads, where they can be made,
+    /// Takes all bytes of the piece, as `feed_all` does. Its lines are read by `workers` threads, where they can be made,
     /// each line by itself, and then taken one after another.
     pub fn feed_shared<R: Threads + Sync>(
         &mut self,
@@ -49,8 +49,7 @@ impl JournalReader {
         self.feed_all(rest_of(piece, at))
     }
 
-    /// Takes bytes of the piece up to the end of the last of these lines, and returns how many of its bytes were taken
-    /// in all. Its first `at` bytes were taken before.
+    /// Takes these lines, and returns how many bytes of the piece were taken in all. Its first `at` bytes were taken before.
     fn take_lines(
         &mut self,
         piece: &[u8],
@@ -71,7 +70,7 @@ impl JournalReader {
         Ok(to)
     }
 
-    /// Takes bytes of the piece up to the end of this line, and returns how many of its bytes were taken in all.
+    /// Takes this line, and returns how many bytes of the piece were taken in all.
     ///
     /// Its first `at` bytes were taken before. A line that began before them, or doesn't begin where it was read, isn't
     /// taken.
