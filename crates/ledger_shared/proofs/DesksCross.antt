@@ -20,6 +20,7 @@ use Rattle.ledger_shared.specs.contracts.shared.Shared.TheInside as SharedInside
 use Rattle.ledger_shared.specs.contracts.ledger.Ledger as Ledger
 use Rattle.ledger_shared.specs.contracts.runner.Runner as Runner
 use Rattle.ledger_shared.specs.contracts.worker.Worker as Worker
+use Rattle.ledger_shared.specs.contracts.worker.Worker.TheInside as WorkerInside
 use Rattle.ledger_shared.specs.contracts.workers.Desk as Desk
 use Rattle.journal_text.proofs.BlocksCross.{blocks_send}
 use Rattle.ledger_shared.proofs.StatesCross.{versions_send}
@@ -52,12 +53,14 @@ module _ (S C : RattleType) (g : store.Ghosts S.Denot) (h : clock.Ghosts C.Denot
 
   module _ (G : RattleType) (y : IsSync G) (κ : NamedLft) where
     runner_send : IsSend (Runner.the_row κ G)
-    runner_send = let r = statements_send in search (sendable, crosses) depth 14
+    runner_send = declared_send (Runner.the_type κ G)
+        (search (sendable, crosses) depth 8, (search (sendable, crosses) depth 8, (statements_send, tt)))
 
     worker_send : IsSend (Worker.the_row κ S C G g h)
     worker_send =
-        let s = shared_send in let l = ledger_sync in let r = runner_send in
-        search (sendable, crosses, seat.the_send) depth 14
+        let s = shared_send in let l = ledger_sync in
+        view_send _ _ _ _ _ (declared_send (WorkerInside.the_type κ S C G g h)
+        (search (sendable, crosses) depth 10, (search (sendable, crosses, seat.the_send) depth 14, (runner_send, tt))))
 
     pub desk_send : IsSend (Desk.the_row κ S C G g h)
     desk_send =

@@ -1,6 +1,6 @@
 -- So may the statements that a worker has read.
 use denote.Param.Send.{IsSend, sendable}
-use denote.Param.SendFields.{declared_send}
+use denote.Param.SendFields.{declared_send, variants_send}
 use Rattle.std.proofs.Crossing.{crosses}
 use Rattle.pql_model.proofs.expr.Expr.TheLaws.TheKnot as expressions
 use Rattle.pql_model.specs.contracts.expr.Expr as Expr
@@ -52,10 +52,10 @@ change_send = let e = expr_send in let p = path_send in let s = setting_send in 
 statement_send : IsSend Statement.the_row
 statement_send =
     let e = expr_send in let s = select_send in let f = from_send in let c = change_send in
-    search (sendable, text.the_send) depth 20
+    search (sendable, text.the_send, variants_send) depth 60
 
 read_send : IsSend ReadStatement.the_row
-read_send = let s = statement_send in search (sendable, text.the_send) depth 10
+read_send = declared_send ReadStatement.the_type (text.the_send, (statement_send, tt))
 
 pub statements_send : IsSend Statements.the_row
 statements_send = let r = read_send in search (sendable, crosses) depth 10
