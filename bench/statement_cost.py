@@ -17,7 +17,8 @@ from reads import RUN
 
 DOCUMENTS, GROUP, A_TRANSACTION = 2_000, 500, 40
 FEW, MANY = 40, 120
-BLOCKS = [500, 4_000]
+# lists of blocks double at 512 and 4,096, which no commit between falls on
+BLOCKS, FEWER, MORE = [520, 4_000], 10, 90
 MOST = {"a select by id": 28_000, "a select by a key": 28_000, "a document counted by an index": 1_500, "a document counted by a pass": 1_500}
 
 
@@ -74,7 +75,7 @@ def selects(program, folder, journal):
 def updates(program, folder):
     """How many times the instructions of 100 UPDATEs of one document in one transaction those of 1,000 are."""
     journal = folder / "one"
-    run([program, journal, *RUN, "1"], session('{statements:["CREATE TABLE t","INSERT INTO t {n:0}"]}'))
+    run([program, journal, *RUN, "1"], session('{statements:["CREATE TABLE t"]}', "{statements:[\"INSERT INTO t {'n':0}\"]}"))
 
     def updating(count):
         return instructions(program, folder, journal, session(statements("UPDATE t SET n = ?", [str(n) for n in range(count)])))
@@ -87,13 +88,13 @@ def commits(program, folder):
     """Instructions of a commit of one small document behind so many blocks."""
     for blocks in BLOCKS:
         journal = folder / f"behind-{blocks}"
-        inserts = [f'{{statements:[{{text:"INSERT INTO t ?",params:[{{number:{n},owner:"p{n % 97}"}}]}}]}}' for n in range(blocks + MANY)]
+        inserts = [f'{{statements:[{{text:"INSERT INTO t ?",params:[{{number:{n},owner:"p{n % 97}"}}]}}]}}' for n in range(blocks + MORE)]
         run([program, journal, *RUN, "1"], session('{statements:["CREATE TABLE t"]}', *inserts[: blocks - 1]))
 
         def committing(count, journal=journal, blocks=blocks, inserts=inserts):
             return instructions(program, folder, journal, session(*inserts[blocks : blocks + count]))
 
-        yield blocks, each(committing, FEW, MANY)
+        yield blocks, each(committing, FEWER, MORE)
 
 
 def main():
