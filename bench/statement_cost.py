@@ -17,9 +17,10 @@ from reads import RUN
 
 DOCUMENTS, GROUP, A_TRANSACTION = 2_000, 500, 40
 FEW, MANY = 40, 120
-# lists of blocks double at 512 and 4,096, which no commit between falls on
+# none of the commits that are counted is the one at which a list of 512 or 4,096 blocks is copied to a longer one
 BLOCKS, FEWER, MORE = [520, 4_000], 10, 90
-MOST = {"a select by id": 28_000, "a select by a key": 28_000, "a document counted by an index": 1_500, "a document counted by a pass": 1_500}
+MOST = {"a select by id": 28_000, "a document counted by an index": 1_500, "a document counted by a pass": 1_500}
+MOST_UPDATES, MOST_BEHIND = 12, 1.1
 
 
 def statements(statement, params):
@@ -107,14 +108,15 @@ def main():
         journal = folder / "journal"
         run([program, journal, *RUN, "1"], documents())
         for name, count in selects(program, folder, journal):
-            print(f"{name}: {count:,.0f} instructions, wanted at most {MOST[name]:,}", flush=True)
-            holds = holds and count <= MOST[name]
+            print(f"{name}: {count:,.0f} instructions" + (f", wanted at most {MOST[name]:,}" if name in MOST else ""), flush=True)
+            holds = holds and count <= MOST.get(name, count)
         times = updates(program, folder)
-        print(f"1,000 UPDATEs in one transaction: {times:.1f} times the instructions of 100, wanted at most 12", flush=True)
+        print(f"1,000 UPDATEs in one transaction: {times:.1f} times the instructions of 100, wanted at most {MOST_UPDATES}", flush=True)
         found = dict(commits(program, folder))
         for blocks, count in found.items():
             print(f"a commit behind {blocks:,} blocks: {count:,.0f} instructions, {count / found[BLOCKS[0]]:.2f} of those behind {BLOCKS[0]:,}")
-    return 0 if holds and times <= 12 else 1
+        holds = holds and times <= MOST_UPDATES and found[BLOCKS[-1]] <= MOST_BEHIND * found[BLOCKS[0]]
+    return 0 if holds else 1
 
 
 if __name__ == "__main__":
