@@ -19,7 +19,7 @@ use Rattle.ledger_model.specs.Whole.{IsWhole, hashes_fit, header_fits, info_fits
 use Rattle.ledger_model.specs.Script.{each}
 use Rattle.value_codec.specs.ReadParts.{hash_in}
 use Rattle.block_form.specs.declared.part_hashes.PartHashes.{PartHashes}
-use Rattle.block_form.specs.Hashed.{hash_for, hash_told, info_hash_in, metadata_hash, metadata_hash_in, part_hashes, part_hashes_in, TellParts}
+use Rattle.block_form.specs.Hashed.{hash_for, info_hash_in, metadata_hash, metadata_hash_in, part_hashes, part_hashes_in, TellParts}
 use Rattle.value_codec.proofs.Inverse.{left, right}
 use Rattle.value_codec.proofs.SmallParts.{fields-puts, hash-puts, list-puts}
 
@@ -47,11 +47,6 @@ each_put read value made puts (x ∷ xs) =
     rw (this, more) refl
 
 -- ---- what a block said and did
-
--- the hash by the field is that by what is told
-pub told_same : (t : Told) → hash_told t (told_field t) ≡ told_hash t
-told_same (told.Said said) = refl
-told_same (told.Hashed hash) = refl
 
 told_for : (t : Told) → told_fits t ≡ true → hash_for (told_field t) ≡ Some (told_hash t)
 told_for (told.Said said) fits = refl

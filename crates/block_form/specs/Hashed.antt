@@ -7,17 +7,19 @@ use Rattle.ion_values.specs.declared.value.Value.{Value}
 use Rattle.ion_values.specs.declared.value.Field.{Field}
 use Rattle.ql_types.specs.declared.Hash32.{Hash32}
 use Rattle.ledger_model.specs.declared.block.Revision.{Revision}
+use Rattle.ledger_model.specs.declared.block.Said.{Said}
 use Rattle.ledger_model.specs.declared.block.Told.{Told}
 use Rattle.ledger_model.specs.declared.block.Told.TheVariants as told
 use Rattle.ledger_model.specs.declared.block.Block.{Block}
 use Rattle.ledger_model.specs.Values.{list_in, fields_in}
 use Rattle.ledger_model.specs.Script.{and_then, each}
-use Rattle.ledger_model.specs.Journal.{metadata_value, block_value}
-use Rattle.ledger_model.specs.Seals.{info_hash}
+use Rattle.ledger_model.specs.Journal.{metadata_value, told_field, block_value}
+use Rattle.ledger_model.specs.Seals.{info_hash, told_hash}
 use Rattle.ledger_model.specs.Whole.{IsWhole}
 use Rattle.ledger_model.specs.Damages as damages
 use Rattle.block_form.specs.declared.part_hashes.PartHashes.{PartHashes}
 use Rattle.block_form.specs.declared.checked.CheckedBlock.{CheckedBlock}
+use Rattle.block_form.specs.declared.told.HashedField.{HashedField}
 use Rattle.value_codec.specs.ReadParts.{hash_in}
 use Rattle.block_form.specs.ReadBack.{IsReadAs}
 
@@ -29,14 +31,18 @@ metadata_hash r = hash_of (metadata_value r.metadata)
 abbrev pub part_hashes : Block → PartHashes
 part_hashes b = record { said = info_hash b.info b.revisions; metadata = map metadata_hash b.revisions }
 
--- by the fields of what the block said and did, of which the second has the statements or their hash
-abbrev pub hash_told : Told → Field → List ℕ
-hash_told (told.Said said) f = field_hash f
-hash_told (told.Hashed hash) f = hash.bytes
+-- the field of what it tells of its statements, with its hash or the one that stands in its place
+abbrev pub hashed_told : Told → HashedField
+hashed_told t = record { field = told_field t; hash = told_hash t }
 
-abbrev pub hashes_told : Told → List Field → List (List ℕ)
-hashes_told t (place ∷ said ∷ more) = field_hash place ∷ hash_told t said ∷ map field_hash more
-hashes_told t fields = map field_hash fields
+-- of these statements
+abbrev pub hashed_said : List Said → HashedField
+hashed_said said = hashed_told (told.Said said)
+
+-- of the fields of what the block said and did, of which the second has this hash
+abbrev pub hashes_with : List ℕ → List Field → List (List ℕ)
+hashes_with hash (place ∷ said ∷ more) = field_hash place ∷ hash ∷ map field_hash more
+hashes_with hash fields = map field_hash fields
 
 -- ---- of the block whose value this is
 

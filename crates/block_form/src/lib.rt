@@ -10,6 +10,7 @@ mod read_revisions;
 mod revisions;
 mod said;
 mod seals;
+mod told;
 mod values;
 
 pub use checked::{CheckedBlock, checked_from_ion};
@@ -17,9 +18,9 @@ pub use read_blocks::{from_ion, header_with, is_shallow, values_tell_blocks};
 pub use read_info::place_in;
 pub use read_revisions::revision_in;
 pub use revisions::{metadata_value, revision_value};
-pub use said::told_hash;
 pub use seals::{
-    Valued, header_hash, info_form, revision_hash, seal, seal_revision, seal_with_value,
+    Telling, Valued, header_hash, info_form, revision_hash, seal, seal_revision, seal_with_value,
     strand_hash,
 };
+pub use told::{HashedField, hash_said, told_hash};
 pub use values::{header_value, to_ion};

@@ -1,17 +1,14 @@
 //! What a transaction said and did, as a value.
-ghost use Rattle.std.specs.Prelude.{◌≡◌, ◌++◌, [], ◌∷◌, map, IfOk, OnOk};
+ghost use Rattle.std.specs.Prelude.{◌≡◌, map, IfOk};
 ghost use Rattle.ledger_model.specs.Journal.{list, place_value, said_value, told_field, change_value, redact_value, schema_value, document_value, document_values, info_fields, info_value};
-ghost use Rattle.ledger_model.specs.Seals.{told_hash};
 
+use crate::told::told_field;
 use containers::Sequence;
-use ion_hash::field_hash;
-use ion_values::{Fields, OutOfMemory, Text, Value, Values, copy_values};
-use ledger_model::{Info, Revision, Said, Schema, Told};
-use ql_types::{BlockAddress, DocId, Hash32, Place, TableId};
+use ion_values::{Field, Fields, OutOfMemory, Text, Value, Values, copy_values};
+use ledger_model::{Info, Revision, Said, Schema};
+use ql_types::{BlockAddress, DocId, Place, TableId};
 use std::alloc::Global;
-use value_codec::parts::{
-    address_value, hash_value, id_value, list, number, put, string, structure,
-};
+use value_codec::parts::{address_value, id_value, list, number, put, string, structure};
 
 fn place_value(alloc: Global, place: &Place) -> Result<Value, OutOfMemory>
     ensures { IfOk result (λ v. v ≡ place_value place.now) }
@@ -58,7 +55,7 @@ fn said_value(alloc: Global, said: &Said) -> Result<Value, OutOfMemory>
     Ok(structure(alloc, fields))
 }
 
-fn said_values(alloc: Global, said: &[Said]) -> Result<Values, OutOfMemory>
+pub(crate) fn said_values(alloc: Global, said: &[Said]) -> Result<Values, OutOfMemory>
     ensures { IfOk result (λ values. values ≡ map said_value said.now) }
 {
     let mut values = Sequence::new(alloc);
@@ -66,36 +63,6 @@ fn said_values(alloc: Global, said: &[Said]) -> Result<Values, OutOfMemory>
         values.push(said_value(alloc, one)?)?;
     }
     Ok(values)
-}
-
-/// Puts the statements, or their hash where it stands for them.
-fn put_told(alloc: Global, fields: &mut Fields, told: &Told) -> Result<(), OutOfMemory>
-    ensures { OnOk result (fields.new ≡ fields.old ++ told_field told.now ∷ []) }
-{
-    match told {
-        Told::Said(said) => {
-            let said = said_values(alloc, said.as_slice())?;
-            put(alloc, fields, "statements", list(alloc, said))
-        }
-        Told::Hashed(hash) => put(alloc, fields, "statementsHash", hash_value(alloc, hash)?),
-    }
-}
-
-/// The hash of the statements' field, or the one that stands in its place.
-pub fn told_hash(alloc: Global, told: &Told) -> Result<Hash32, OutOfMemory>
-    ensures { IfOk result (λ h. h.bytes ≡ told_hash told.now) }
-{
-    if let Told::Hashed(hash) = told {
-        return Ok(*hash);
-    }
-    let mut fields = Sequence::new(alloc);
-    put_told(alloc, &mut fields, told)?;
-    match fields.get(0) {
-        Some(field) => Ok(Hash32 {
-            bytes: field_hash(alloc, field)?,
-        }),
-        None => unreachable!(),
-    }
 }
 
 /// A change of this kind, to a table by this name.
@@ -189,12 +156,14 @@ fn document_values(
     Ok(values)
 }
 
-/// The fields of what a transaction said and did.
-pub fn info_fields(
+/// The fields of what a transaction said and did. `told` is the field of its statements.
+pub(crate) fn info_fields(
     alloc: Global,
     info: &Info,
+    told: Field,
     revisions: &[Revision],
 ) -> Result<Fields, OutOfMemory>
+    requires { told ≡ told_field info.now.said }
     ensures { IfOk result (λ fields. fields ≡ info_fields info.now revisions.now) }
 {
     let schema = schema_values(alloc, info.schema.as_slice())?;
@@ -206,7 +175,7 @@ pub fn info_fields(
         "place",
         place_value(alloc, &info.place)?,
     )?;
-    put_told(alloc, &mut fields, &info.said)?;
+    fields.push(told)?;
     put(alloc, &mut fields, "schema", list(alloc, schema))?;
     put(alloc, &mut fields, "documents", list(alloc, documents))?;
     Ok(fields)
@@ -216,6 +185,7 @@ pub fn info_fields(
 pub fn info_value(alloc: Global, info: &Info, revisions: &[Revision]) -> Result<Value, OutOfMemory>
     ensures { IfOk result (λ v. v ≡ info_value info.now revisions.now) }
 {
-    let fields = info_fields(alloc, info, revisions)?;
+    let told = told_field(alloc, &info.said)?;
+    let fields = info_fields(alloc, info, told, revisions)?;
     Ok(structure(alloc, fields))
 }

@@ -7,11 +7,12 @@ ghost use Rattle.block_form.specs.Hashed as spec;
 
 use crate::revisions::{metadata_value, revision_with};
 use crate::said::info_fields;
+use crate::told::{HashedField, hash_told};
 use crate::values::{header_value, value_with};
 use containers::{Bytes, Sequence};
 use ion_hash::{field_hash, hash, struct_form, struct_hash};
-use ion_values::{Field, OutOfMemory, Value, Values};
-use ledger_model::{Block, Content, Header, Info, Metadata, Revision, Revisions, Told};
+use ion_values::{Field, Fields, OutOfMemory, Value, Values};
+use ledger_model::{Block, Content, Header, Info, Metadata, Revision, Revisions};
 use pad_tree::root;
 use pair_hash::dot_full;
 use ql_types::{BlockAddress, Hash, Hash32, StrandId};
@@ -89,60 +90,67 @@ pub fn header_hash(alloc: Global, header: &Header) -> Result<Hash32, OutOfMemory
     hash(alloc, &header_value(alloc, header)?)
 }
 
-/// The hash of the statements' field, or the one that stands in its place.
-fn hash_told(alloc: Global, told: &Told, field: &Field) -> Result<[u8; 32], OutOfMemory>
-    ensures { IfOk result (λ hash. hash ≡ spec.hash_told told.now field.now) }
-{
-    match told {
-        Told::Said(_) => field_hash(alloc, field),
-        Told::Hashed(hash) => Ok(hash.bytes),
-    }
-}
-
-/// The hashes of the four fields of what a transaction said and did.
-fn hashes_of_told(
+/// The hashes of the four fields of what a transaction said and did, of which that of the statements is given.
+fn hashes_with(
     alloc: Global,
-    told: &Told,
+    told: [u8; 32],
     fields: &[Field],
 ) -> Result<Vec<[u8; 32]>, OutOfMemory>
     requires { length fields.now ≡ 4 }
-    ensures { IfOk result (λ hashes. hashes.items ≡ spec.hashes_told told.now fields.now) }
+    ensures { IfOk result (λ hashes. hashes.items ≡ spec.hashes_with told fields.now) }
 {
-    let [place, said, schema, documents] = fields else {
+    let [place, _told, schema, documents] = fields else {
         unreachable!();
     };
     let mut hashes = Vec::with_capacity(alloc, 4)?;
     hashes.push(field_hash(alloc, place)?)?;
-    hashes.push(hash_told(alloc, told, said)?)?;
+    hashes.push(told)?;
     hashes.push(field_hash(alloc, schema)?)?;
     hashes.push(field_hash(alloc, documents)?)?;
     Ok(hashes)
 }
 
+/// The fields of what a transaction said and did, and their hashes. `told` is the field of its statements.
+fn fields_and_hashes(
+    alloc: Global,
+    info: &Info,
+    told: HashedField,
+    revisions: &[Revision],
+) -> Result<(Fields, Vec<[u8; 32]>), OutOfMemory>
+    requires { told ≡ spec.hashed_told info.now.said }
+    ensures fields { IfOk result (λ made. made.0 ≡ info_fields info.now revisions.now) }
+    ensures hashes { IfOk result (λ made. made.1.items ≡ info_hashes info.now revisions.now) }
+{
+    let HashedField { field, hash } = told;
+    let fields = info_fields(alloc, info, field, revisions)?;
+    let hashes = hashes_with(alloc, hash, fields.as_slice())?;
+    Ok((fields, hashes))
+}
+
 /// The bytes whose hash is that of what a transaction did. They are those of a struct's fields' hashes, in which the
 /// hash of the statements may stand for them.
-#[tactic(auto, using(crate::proofs::Hashing::told_same))]
 pub fn info_form(alloc: Global, info: &Info, revisions: &[Revision]) -> Result<Bytes, OutOfMemory>
     ensures { IfOk result (λ form. form ≡ struct_bytes (info_hashes info.now revisions.now)) }
 {
-    let fields = info_fields(alloc, info, revisions)?;
-    let hashes = hashes_of_told(alloc, &info.said, fields.as_slice())?;
+    let told = hash_told(alloc, &info.said)?;
+    let (_fields, hashes) = fields_and_hashes(alloc, info, told, revisions)?;
     let form = struct_form(alloc, hashes)?;
     Ok(form)
 }
 
-/// What a transaction said and did, as a value and its hash.
-#[tactic(auto, unfolding(ledger_model::specs::Seals::info_hash), using(crate::proofs::Hashing::told_same))]
+/// What a transaction said and did, as a value and its hash. `told` is the field of its statements.
+#[tactic(auto, unfolding(ledger_model::specs::Seals::info_hash))]
 fn info_and_hash(
     alloc: Global,
     info: &Info,
+    told: HashedField,
     revisions: &[Revision],
 ) -> Result<(Value, Hash32), OutOfMemory>
+    requires { told ≡ spec.hashed_told info.now.said }
     ensures value { IfOk result (λ made. made.0 ≡ info_value info.now revisions.now) }
     ensures hash { IfOk result (λ made. made.1 ≡ info_hash info.now revisions.now) }
 {
-    let fields = info_fields(alloc, info, revisions)?;
-    let hashes = hashes_of_told(alloc, &info.said, fields.as_slice())?;
+    let (fields, hashes) = fields_and_hashes(alloc, info, told, revisions)?;
     let hash = struct_hash(alloc, hashes)?;
     Ok((structure(alloc, fields), hash))
 }
@@ -180,7 +188,8 @@ pub fn seal(
     ensures { IfOk result (λ block. block ≡ sealed previous header info revisions) }
 {
     let head = header_value(alloc, &header)?;
-    let (_told, said) = info_and_hash(alloc, &info, revisions.as_slice())?;
+    let told = hash_told(alloc, &info.said)?;
+    let (_told, said) = info_and_hash(alloc, &info, told, revisions.as_slice())?;
     let list = hash_list(alloc, said, revisions.as_slice(), &head)?;
     Ok(sealed(previous, header, info, revisions, &list))
 }
@@ -192,22 +201,31 @@ pub struct Valued {
     pub values: Values,
 }
 
+/// What a transaction said and did, with the field of its statements.
+#[derive(Drop)]
+pub struct Telling {
+    pub info: Info,
+    pub told: HashedField,
+}
+
 /// The block that `seal` makes of these parts, and its value, from which its line in the journal is written. What is
 /// built to be hashed becomes a part of the value.
 pub fn seal_with_value(
     alloc: Global,
     previous: Hash32,
     header: Header,
-    info: Info,
+    telling: Telling,
     valued: Valued,
 ) -> Result<(Block, Value), OutOfMemory>
-    requires { valued.values ≡ map revision_value valued.revisions }
-    ensures block { IfOk result (λ made. made.0 ≡ sealed previous header info valued.revisions) }
+    requires told { telling.told ≡ spec.hashed_told telling.info.said }
+    requires values { valued.values ≡ map revision_value valued.revisions }
+    ensures block { IfOk result (λ made. made.0 ≡ sealed previous header telling.info valued.revisions) }
     ensures value { IfOk result (λ made. made.1 ≡ block_value made.0) }
 {
+    let Telling { info, told } = telling;
     let Valued { revisions, values } = valued;
     let head = header_value(alloc, &header)?;
-    let (told, said) = info_and_hash(alloc, &info, revisions.as_slice())?;
+    let (told, said) = info_and_hash(alloc, &info, told, revisions.as_slice())?;
     let list = hash_list(alloc, said, revisions.as_slice(), &head)?;
     let block = sealed(previous, header, info, revisions, &list);
     let value = value_with(alloc, &block, head, told, values)?;

@@ -6,7 +6,7 @@ ghost use Rattle.ledger_model.specs.Legal.{last_hash};
 ghost use Rattle.ledger_model.specs.Making.{revision_of, time_behind};
 ghost use Rattle.ledger_core.specs.NextBlock.{next_block};
 
-use block_form::{Valued, seal_revision, seal_with_value, strand_hash};
+use block_form::{Telling, Valued, hash_said, seal_revision, seal_with_value, strand_hash};
 use containers::Sequence;
 use ion_values::{IonTime, OutOfMemory, Text, Value};
 use journal_text::line_of_value;
@@ -59,13 +59,15 @@ pub(crate) fn into_block(
     let tables = tables_of(alloc, drafts.as_slice())?;
     let valued = revisions_of(alloc, &header, drafts)?;
     let previous = last_hash(alloc, mask, before)?;
+    let told = hash_said(alloc, said.as_slice())?;
     let info = Info {
         place,
         said: Told::Said(said),
         schema,
         tables,
     };
-    let (block, value) = seal_with_value(alloc, previous, header, info, valued)?;
+    let telling = Telling { info, told };
+    let (block, value) = seal_with_value(alloc, previous, header, telling, valued)?;
     let text = line_of_value(alloc, &value)?;
     Ok(Made { block, text })
 }
