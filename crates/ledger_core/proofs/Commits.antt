@@ -4,7 +4,6 @@ use Rattle.std.specs.Prelude.{IsTrue, ℤ, Some, None, Result, Ok, Err, option_m
 use Rattle.ion_values.specs.declared.time.TimeParts.{TimeParts}
 use Rattle.ion_values.specs.Time.{is_time}
 use Rattle.ql_types.specs.declared.Hash32.{Hash32}
-use Rattle.ql_types.specs.declared.Place.{Place}
 use Rattle.ledger_model.specs.declared.block.Block.{Block}
 use Rattle.ledger_model.specs.Whole.{place_fits}
 use Rattle.laws_validity.specs.Makes.{IsWithinAll}
@@ -38,13 +37,13 @@ pub record IsReady (s : Standing) (t : Opened) (sent : Option Hash32) : Type 0 w
   pub ranges : IsWithinAll t.done
   pub checks : PassesChecks s t sent
 
-pub ready : (s : Standing) (t : Opened) (sent : Option Hash32) (place : Place) → IsStanding s → IsOpenOn s t → s.mask < 2 ^ 128
-    → place ≡ t.place → IsTrue (place_fits place) → IsWithinAll t.done → PassesChecks s t sent → IsReady s t sent
-ready s t sent place stands opened mask same placed ranges checks = record {
+pub ready : (s : Standing) (t : Opened) (sent : Option Hash32) → IsStanding s → IsOpenOn s t → s.mask < 2 ^ 128
+    → IsTrue (place_fits t.place) → IsWithinAll t.done → PassesChecks s t sent → IsReady s t sent
+ready s t sent stands opened mask placed ranges checks = record {
   stands = stands;
   opened = opened;
   mask = mask;
-  placed = subst (λ (x : Place). IsTrue (place_fits x)) same placed;
+  placed = placed;
   ranges = ranges;
   checks = checks;
 }

@@ -1,21 +1,20 @@
 //! Appending a transaction's block.
-ghost use Rattle.std.specs.Prelude.{◌≡◌, IfOk, IsTrue};
-ghost use Rattle.ledger_model.specs.Whole.{place_fits};
+ghost use Rattle.std.specs.Prelude.{◌≡◌, IfOk};
 ghost use Rattle.laws_history.specs.Standings.{IsStanding};
 ghost use Rattle.ledger_core.specs.Leaving.{AppendLeaves};
 ghost use Rattle.ledger_core.specs.NextBlock.{next_block, receipt_of};
 ghost use Rattle.ledger_core.specs.Tails.{joined};
 
+use crate::prepared::Prepared;
 use crate::sealing::into_block;
 use crate::tail::Tail;
 use ion_values::{IonTime, OutOfMemory};
 use journal_keeper::SettleFault;
 use ledger_model::Block;
 use outside::JournalStore;
-use ql_types::{Hash32, Place};
+use ql_types::Hash32;
 use std::alloc::Global;
 use std::snapshot::Snapshot;
-use txn_core::Txn;
 
 /// The most blocks that a journal has.
 pub(crate) const MOST_BLOCKS: u64 = (1 << 32) - 1;
@@ -55,7 +54,7 @@ impl<S: JournalStore, C> Tail<S, C> {
     pub(crate) fn append_next(
         &mut self,
         alloc: Global,
-        txn: Txn,
+        txn: Prepared,
         time: IonTime,
     ) -> Result<Receipt, Unkept>
         requires { IsStanding (joined self.old.standing (next_block txn self.old.standing.blocks time)) }
@@ -78,12 +77,4 @@ fn receipt_of(block: &Block) -> Receipt
         hash: block.hash,
         time: block.header.time,
     }
-}
-
-/// That a place is within its range. It does nothing.
-#[tactic(auto, using(crate::proofs::Bounds::place_within))]
-pub(crate) fn is_within(place: Place)
-    ensures { IsTrue (place_fits place) }
-{
-    let _ = (place.session, place.transaction);
 }

@@ -8,7 +8,8 @@ ghost use Rattle.ledger_core.specs.Images.{CommitKeeps, came_with};
 ghost use Rattle.ledger_core.specs.Leaving.{Asked, CommitLeaves};
 ghost use Rattle.ledger_core.specs.Tails.{Leaves};
 
-use crate::appending::{MOST_BLOCKS, Receipt, Unkept, is_within};
+use crate::appending::{MOST_BLOCKS, Receipt, Unkept};
+use crate::prepared::Prepared;
 use crate::tail::Tail;
 use ion_time::clamped;
 use ion_values::{IonTime, OutOfMemory};
@@ -93,14 +94,14 @@ impl<S: JournalStore, C: Clock> Tail<S, C> {
         ensures still { (other : Opened) → IsOpenOn self.old.standing other
             → (other.begun.number ≡ txn.begun.number → ⊥) → IsOpenOn self.new.standing other }
     {
-        self.commit_with(alloc, txn, Some(digest))
+        self.commit_with(alloc, Prepared::unmade(txn), Some(digest))
     }
 
     /// Commits an open transaction as the next block, with the digest that is sent, if one is.
     pub(crate) fn commit_with(
         &mut self,
         alloc: Global,
-        txn: Txn,
+        txn: Prepared,
         sent: Option<Hash32>,
     ) -> Result<Receipt, CommitFault>
         requires { IsOpenOn self.old.standing txn }
@@ -117,7 +118,7 @@ impl<S: JournalStore, C: Clock> Tail<S, C> {
     pub fn try_commit(
         &mut self,
         alloc: Global,
-        txn: Txn,
+        txn: Prepared,
         sent: Option<Hash32>,
     ) -> Result<Receipt, Uncommitted>
         requires { IsOpenOn self.old.standing txn }
@@ -134,7 +135,6 @@ impl<S: JournalStore, C: Clock> Tail<S, C> {
         }
         self.is_tail();
         let time = self.time();
-        is_within(txn.place());
         txn.is_within();
         match self.append_next(alloc, txn, time) {
             Ok(receipt) => Ok(receipt),
@@ -159,7 +159,12 @@ impl<S: JournalStore, C: Clock> Tail<S, C> {
 impl<S: JournalStore, C> Tail<S, C> {
     /// Checks an open transaction before memory and the store are asked for its block.
     #[tactic(auto, using(crate::proofs::Bounds::bound))]
-    fn checked(&self, alloc: Global, txn: &Txn, sent: Option<Hash32>) -> Result<(), CommitFault>
+    fn checked(
+        &self,
+        alloc: Global,
+        txn: &Prepared,
+        sent: Option<Hash32>,
+    ) -> Result<(), CommitFault>
         requires { txn.now.since ≤ length self.now.standing.blocks }
         ensures { Checked self.now.standing txn.now sent result }
     {
@@ -179,7 +184,7 @@ impl<S: JournalStore, C> Tail<S, C> {
     fn check_digest(
         &self,
         alloc: Global,
-        txn: &Txn,
+        txn: &Prepared,
         sent: Option<Hash32>,
     ) -> Result<(), CommitFault>
         requires { txn.now.ended ≡ false }
@@ -199,7 +204,7 @@ impl<S: JournalStore, C> Tail<S, C> {
     fn check_conflict(
         &self,
         alloc: Global,
-        txn: &Txn,
+        txn: &Prepared,
         sent: Option<Hash32>,
     ) -> Result<(), CommitFault>
         requires goes_on { txn.now.ended ≡ false }

@@ -6,6 +6,7 @@ mod begin;
 mod commit;
 mod laws;
 mod outcomes;
+mod prepared;
 mod reload;
 mod sealing;
 mod settle;
@@ -22,5 +23,6 @@ pub use laws::{
 };
 pub use laws_machine::{commits_stand_once, conflict_comes_exactly, history_stays_legal};
 pub use outcomes::outcome_of;
+pub use prepared::{Prepared, prepare};
 pub use reload::{LoadFault, Loaders};
 pub use tail::Tail;

@@ -6,14 +6,15 @@ ghost use Rattle.ledger_model.specs.Legal.{last_hash};
 ghost use Rattle.ledger_model.specs.Making.{revision_of, time_behind};
 ghost use Rattle.ledger_core.specs.NextBlock.{next_block};
 
-use block_form::{Telling, Valued, hash_said, seal_revision, seal_with_value, strand_hash};
+use crate::prepared::Prepared;
+use block_form::{Telling, Valued, seal_revision, seal_with_value, strand_hash};
 use containers::Sequence;
 use ion_values::{IonTime, OutOfMemory, Text, Value};
 use journal_text::line_of_value;
 use ledger_model::{Block, Draft, Drafts, Header, Info, Metadata, Revision, TableIds, Told};
 use ql_types::{BlockAddress, Hash32, IdMask, StrandId, TxId, id_raw};
 use std::alloc::Global;
-use txn_core::{Finished, Txn};
+use txn_core::Finished;
 
 /// A block that is made, with its line in the journal.
 #[derive(Drop)]
@@ -25,13 +26,14 @@ pub(crate) struct Made {
 /// The transaction as the next block after these: made at this time, or at that of the last block if that is later.
 pub(crate) fn into_block(
     alloc: Global,
-    txn: Txn,
+    txn: Prepared,
     time: IonTime,
     before: &[Block],
 ) -> Result<Made, OutOfMemory>
     ensures block { IfOk result (λ made. made.block ≡ next_block txn before.now time) }
     ensures text { IfOk result (λ made. made.text ≡ line made.block) }
 {
+    let (finished, told) = txn.finish(alloc)?;
     let Finished {
         mask,
         number,
@@ -39,7 +41,7 @@ pub(crate) fn into_block(
         said,
         schema,
         drafts,
-    } = txn.finish(alloc)?;
+    } = finished;
     // More revisions than a u32 counts find no memory.
     let Ok(count) = u32::try_from(drafts.len()) else {
         return Err(OutOfMemory);
@@ -59,7 +61,6 @@ pub(crate) fn into_block(
     let tables = tables_of(alloc, drafts.as_slice())?;
     let valued = revisions_of(alloc, &header, drafts)?;
     let previous = last_hash(alloc, mask, before)?;
-    let told = hash_said(alloc, said.as_slice())?;
     let info = Info {
         place,
         said: Told::Said(said),

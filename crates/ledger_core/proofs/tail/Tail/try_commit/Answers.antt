@@ -15,8 +15,8 @@ returns-in-Err-clause-commits g c =
 pub append_next-requires : goal.append_next-requires
 append_next-requires g c =
     let r : IsReady c.args.self.now.standing c.args.txn c.args.sent =
-    ready c.args.self.now.standing c.args.txn c.args.sent c.place.result c.is_tail.ensures.stands c.requires c.is_tail.ensures.mask
-    c.place.ensures c.is_within.ensures c.is_within-2.ensures c.in-Ok.ensures in
+    ready c.args.self.now.standing c.args.txn c.args.sent c.is_tail.ensures.stands c.requires c.is_tail.ensures.mask
+    c.is_within.ensures.place c.is_within.ensures.kept c.in-Ok.ensures in
     put_stands g.S.JournalStore.told g.C.Clock.answers g.C.Clock.always c.args.self.now c.time-time.new.self c.time-time.new.self _ c.args.txn c.args.sent c.time-time.result r
     c.time-time.ensures.same c.time-time.ensures.answer
 
@@ -27,8 +27,8 @@ returns-in-Err-append_next-clause-commits g c =
     let always = g.C.Clock.always in
     let failed = c.in-Err-append_next.ensures.leaves in
     let r : IsReady c.args.self.now.standing c.args.txn c.args.sent =
-    ready c.args.self.now.standing c.args.txn c.args.sent c.place.result c.is_tail.ensures.stands c.requires c.is_tail.ensures.mask
-    c.place.ensures c.is_within.ensures c.is_within-2.ensures c.in-Ok.ensures in
+    ready c.args.self.now.standing c.args.txn c.args.sent c.is_tail.ensures.stands c.requires c.is_tail.ensures.mask
+    c.is_within.ensures.place c.is_within.ensures.kept c.in-Ok.ensures in
     subst (λ (f : CommitFault). CommitLeaves told answers always c.args.self.now c.append_next.new.self c.args.txn c.args.sent (Err f)) (sym c.from.ensures)
     (unkept_leaves told answers always c.args.self.now c.time-time.new.self c.append_next.new.self _ c.args.txn c.args.sent c.time-time.result r
     c.time-time.ensures.same c.time-time.ensures.answer failed.clock c.time-time.ensures.always c.in-Err-append_next.field-0 failed)
@@ -37,8 +37,8 @@ pub returns-in-Err-append_next-clause-tried : goal.returns-in-Err-append_next-cl
 returns-in-Err-append_next-clause-tried g c =
     let told = IsAnswer (g.C.Clock.answers c.args.self.now.clock) (g.C.Clock.answers c.append_next.new.self.clock) (g.C.Clock.always c.args.self.now.clock) in
     let r : IsReady c.args.self.now.standing c.args.txn c.args.sent =
-    ready c.args.self.now.standing c.args.txn c.args.sent c.place.result c.is_tail.ensures.stands c.requires c.is_tail.ensures.mask
-    c.place.ensures c.is_within.ensures c.is_within-2.ensures c.in-Ok.ensures in
+    ready c.args.self.now.standing c.args.txn c.args.sent c.is_tail.ensures.stands c.requires c.is_tail.ensures.mask
+    c.is_within.ensures.place c.is_within.ensures.kept c.in-Ok.ensures in
     subst (λ (f : CommitFault). IsTried c.args.self.now.standing c.args.txn c.args.sent told f (option_map (λ b. b.value) c.in-Err-append_next.field-0.tried)) (sym c.from.ensures)
     (put_tried g.S.JournalStore.told g.C.Clock.answers g.C.Clock.always c.args.self.now c.time-time.new.self c.append_next.new.self _ c.args.txn c.args.sent
     c.time-time.result r c.time-time.ensures.same c.time-time.ensures.answer c.in-Err-append_next.ensures.leaves.clock c.in-Err-append_next.field-0.fault
@@ -47,8 +47,8 @@ returns-in-Err-append_next-clause-tried g c =
 pub returns-in-Err-append_next-clause-left : goal.returns-in-Err-append_next-clause-left
 returns-in-Err-append_next-clause-left g c =
     let r : IsReady c.args.self.now.standing c.args.txn c.args.sent =
-    ready c.args.self.now.standing c.args.txn c.args.sent c.place.result c.is_tail.ensures.stands c.requires c.is_tail.ensures.mask
-    c.place.ensures c.is_within.ensures c.is_within-2.ensures c.in-Ok.ensures in
+    ready c.args.self.now.standing c.args.txn c.args.sent c.is_tail.ensures.stands c.requires c.is_tail.ensures.mask
+    c.is_within.ensures.place c.is_within.ensures.kept c.in-Ok.ensures in
     put_left g.S.JournalStore.told g.C.Clock.answers g.C.Clock.always c.args.self.now c.time-time.new.self c.append_next.new.self _ c.args.txn c.args.sent
     c.time-time.result r c.time-time.ensures.same (option_map (λ b. b.value) c.in-Err-append_next.field-0.tried) c.in-Err-append_next.ensures.leaves.left
 
@@ -56,8 +56,8 @@ pub returns-in-Ok-append_next-clause-commits : goal.returns-in-Ok-append_next-cl
 returns-in-Ok-append_next-clause-commits g c =
     let kept = c.in-Ok-append_next.ensures.leaves in
     let r : IsReady c.args.self.now.standing c.args.txn c.args.sent =
-    ready c.args.self.now.standing c.args.txn c.args.sent c.place.result c.is_tail.ensures.stands c.requires c.is_tail.ensures.mask
-    c.place.ensures c.is_within.ensures c.is_within-2.ensures c.in-Ok.ensures in
+    ready c.args.self.now.standing c.args.txn c.args.sent c.is_tail.ensures.stands c.requires c.is_tail.ensures.mask
+    c.is_within.ensures.place c.is_within.ensures.kept c.in-Ok.ensures in
     sealed_leaves g.S.JournalStore.told g.C.Clock.answers g.C.Clock.always c.args.self.now c.time-time.new.self c.append_next.new.self _ c.args.txn c.args.sent
     c.time-time.result r c.time-time.ensures.same c.time-time.ensures.answer kept.clock c.time-time.ensures.always c.in-Ok-append_next.receipt c.in-Ok-append_next.ensures.receipt kept
 
@@ -67,8 +67,8 @@ returns-in-Err-clause-images g c = refused_images Receipt g.S.JournalStore.told 
 pub returns-in-Err-append_next-clause-images : goal.returns-in-Err-append_next-clause-images
 returns-in-Err-append_next-clause-images g c =
     let r : IsReady c.args.self.now.standing c.args.txn c.args.sent =
-    ready c.args.self.now.standing c.args.txn c.args.sent c.place.result c.is_tail.ensures.stands c.requires c.is_tail.ensures.mask
-    c.place.ensures c.is_within.ensures c.is_within-2.ensures c.in-Ok.ensures in
+    ready c.args.self.now.standing c.args.txn c.args.sent c.is_tail.ensures.stands c.requires c.is_tail.ensures.mask
+    c.is_within.ensures.place c.is_within.ensures.kept c.in-Ok.ensures in
     put_unkept g.S.JournalStore.told g.C.Clock.answers g.C.Clock.always c.args.self.now c.time-time.new.self c.append_next.new.self _ c.args.txn c.args.sent
     c.time-time.result r c.time-time.ensures.same c.in-Err-append_next.field-0 c.from.result (option_map (λ b. b.value) c.in-Err-append_next.field-0.tried)
     c.in-Err-append_next.ensures.leaves.images
@@ -76,7 +76,7 @@ returns-in-Err-append_next-clause-images g c =
 pub returns-in-Ok-append_next-clause-images : goal.returns-in-Ok-append_next-clause-images
 returns-in-Ok-append_next-clause-images g c =
     let r : IsReady c.args.self.now.standing c.args.txn c.args.sent =
-    ready c.args.self.now.standing c.args.txn c.args.sent c.place.result c.is_tail.ensures.stands c.requires c.is_tail.ensures.mask
-    c.place.ensures c.is_within.ensures c.is_within-2.ensures c.in-Ok.ensures in
+    ready c.args.self.now.standing c.args.txn c.args.sent c.is_tail.ensures.stands c.requires c.is_tail.ensures.mask
+    c.is_within.ensures.place c.is_within.ensures.kept c.in-Ok.ensures in
     put_kept g.S.JournalStore.told g.C.Clock.answers g.C.Clock.always c.args.self.now c.time-time.new.self c.append_next.new.self _ c.args.txn c.args.sent
     c.time-time.result r c.time-time.ensures.same CommitFault c.in-Ok-append_next.receipt None None c.in-Ok-append_next.ensures.leaves.images
