@@ -18,7 +18,7 @@ ghost use Rattle.ledger_shared.specs.Told.{all_told};
 use crate::entry::Entries;
 use crate::shared::Shared;
 use ion_values::OutOfMemory;
-use ledger_core::{BeginFault, CommitFault, Receipt, Tail};
+use ledger_core::{BeginFault, CommitFault, Receipt, Tail, prepare};
 use outside::{Clock, JournalStore};
 use ql_types::{Hash32, Place};
 use std::alloc::Global;
@@ -111,7 +111,7 @@ impl<S: JournalStore, C: Clock> Ledger<S, C> {
         self.commit_with(rt, alloc, pass, txn, Some(digest))
     }
 
-    /// Commits with the digest that is sent, if one is.
+    /// Commits with the digest that is sent, if one is. What hangs on no earlier block is made before the turn is taken.
     pub(crate) fn commit_with<R: Wait>(
         &self,
         rt: &R,
@@ -129,9 +129,10 @@ impl<S: JournalStore, C: Clock> Ledger<S, C> {
         ensures kept { IfOk result (λ receipt. KeepsBlock S.told C.answers C.always (opened_of self.now)
             receipt (seen pass.new)) }
     {
+        let prepared = prepare(alloc, txn);
         let mut shared = self.turns.take(rt, pass);
         let before = shared.count();
-        let result = shared.commit(alloc, txn, sent);
+        let result = shared.commit(alloc, prepared, sent);
         shared.is_home();
         self.put_back(pass, shared, before);
         result

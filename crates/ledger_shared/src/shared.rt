@@ -8,7 +8,7 @@ ghost use Rattle.ledger_shared.specs.Calls.{Begins, Commits, Extends, IsOpen, re
 ghost use Rattle.ledger_shared.specs.Told.{all_told, told};
 
 use crate::entry::{Entries, Entry};
-use ledger_core::{BeginFault, CommitFault, Receipt, Tail, Uncommitted};
+use ledger_core::{BeginFault, CommitFault, Prepared, Receipt, Tail, Uncommitted};
 use ledger_model::{Block, Blocks};
 use outside::{Clock, JournalStore};
 use ql_types::{Hash32, Place, TxId};
@@ -139,7 +139,7 @@ impl<S: JournalStore, C: Clock> Shared<S, C> {
     pub(crate) fn commit(
         &mut self,
         alloc: Global,
-        txn: Txn,
+        txn: Prepared,
         sent: Option<Hash32>,
     ) -> Result<Receipt, CommitFault>
         requires { IsOpen (opening_of S.told self.old.opened) self.old.entries txn }
