@@ -1,5 +1,6 @@
 pub mod Bounds
 mod Ends
+mod Filled
 mod Leaves
 mod Lines
 mod Read

@@ -1,5 +1,5 @@
 //! The bytes of a store, read by pieces.
-ghost use Rattle.std.specs.Prelude.{◌≡◌, ◌<◌, ◌≤◌, None, length, IfOk, OnOk, IfErr, IfSome};
+ghost use Rattle.std.specs.Prelude.{◌≡◌, ◌+◌, ◌<◌, ◌≤◌, None, length, IfOk, OnOk, IfErr, IfSome};
 ghost use Rattle.outside.specs.Store.{ReadsAt};
 ghost use Rattle.outside.specs.Told.{held};
 ghost use Rattle.journal_text.specs.Feeding.{taken};
@@ -88,8 +88,32 @@ pub(crate) fn wide_piece(alloc: Global) -> Result<Vec<u8>, OutOfMemory>
     Ok(piece)
 }
 
-/// Reads the store as `read_stored` does, in pieces that have room in the given one. The lines of a piece are read by so
-/// many threads.
+/// The number of bytes that were read into the piece, from an offset of the store on. A piece is filled by several
+/// calls, if the store has enough bytes, since a store may give fewer than there is room for.
+fn fill_piece<S: JournalStore>(store: &mut S, at: u64, piece: &mut [u8]) -> Result<usize, LoadCause>
+    requires room { 0 < length piece.old }
+    requires fits { at + length piece.old ≤ 18446744073709551615 }
+    ensures bytes { IfOk result (λ count. IfSome (S.told store.old).content (λ content.
+        ReadsAt content.bytes at piece.new count)) }
+    ensures within { IfOk result (λ count. count ≤ length piece.new) }
+    ensures content { (S.told store.new).content ≡ (S.told store.old).content }
+    ensures fine { OnOk result ((S.told store.new).faults ≡ (S.told store.old).faults) }
+    ensures later { (S.told store.old).faults ≤ (S.told store.new).faults }
+    ensures cause { IfErr result (λ cause. IsCause cause (S.told store.old) (S.told store.new)) }
+{
+    let mut filled = 0;
+    'reads: while filled < piece.len() {
+        let count = read_piece(store, at + filled as u64, &mut piece[filled..])?;
+        if count == 0 {
+            return Ok(filled);
+        }
+        filled += count;
+    }
+    Ok(filled)
+}
+
+/// Reads the store as `read_stored` does, in pieces that fill the given one. The lines of a piece are read by `workers`
+/// threads.
 pub(crate) fn read_stored_by<S: JournalStore, R: Threads + Sync>(
     rt: &R,
     workers: u32,
@@ -111,7 +135,7 @@ pub(crate) fn read_stored_by<S: JournalStore, R: Threads + Sync>(
     let mut size = 0;
     'shared: while size < whole {
         let room = (whole - size).min(piece.len() as u64) as usize;
-        let count = read_piece(store, size, &mut piece[..room])?;
+        let count = fill_piece(store, size, &mut piece[..room])?;
         if count == 0 {
             return Ok(Stored { reader, size });
         }

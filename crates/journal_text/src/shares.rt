@@ -97,7 +97,8 @@ fn share_of(alloc: Global, piece: &[u8], first: usize, size: usize, number: usiz
 
 /// The lines of the piece in shares, the last share first.
 ///
-/// Each share is read by a thread of its own where one can be made. No line is read that begins before the given place. Some lines may be left out.
+/// Each share is read by a thread of its own, if one can be made. No line is read that begins before the given place.
+/// Some lines may be left out.
 pub(crate) fn read_shares<R: Threads + Sync>(
     rt: &R,
     alloc: Global,

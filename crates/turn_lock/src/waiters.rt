@@ -20,8 +20,8 @@ impl Waiters {
         }
     }
 
-    // No wake is lost. A thread counts itself before `park` looks at the word, and whoever gives the turn back frees the
-    // word before it reads the count; all these steps stand in one order. If it reads 0, the thread looks after the
+    // No wake is lost. A thread counts itself before `park` looks at the word, and whoever gives the turn back frees
+    // the word before it reads the count; all these steps stand in one order. If it reads 0, the thread looks after the
     // word was freed: it finds 0 and doesn't sleep, or the 1 of a later holder, who reads the count after it was
     // raised. Else a sleeper is woken, and one that hasn't slept yet looks at the word once more.
 

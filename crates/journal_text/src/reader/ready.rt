@@ -13,7 +13,7 @@ use block_form::CheckedBlock;
 use std::thread::Threads;
 
 impl JournalReader {
-    /// Takes all bytes of the piece, as `feed_all` does. Its lines are read by `workers` threads, where they can be made,
+    /// Takes all bytes of the piece, as `feed_all` does. Its lines are read by `workers` threads, if they can be made,
     /// each line by itself, and then taken one after another.
     pub fn feed_shared<R: Threads + Sync>(
         &mut self,
@@ -49,7 +49,9 @@ impl JournalReader {
         self.feed_all(rest_of(piece, at))
     }
 
-    /// Takes these lines, and returns how many bytes of the piece were taken in all. Its first `at` bytes were taken before.
+    /// Takes these lines, and returns how many bytes of the piece were taken in all.
+    ///
+    /// Its first `at` bytes were taken before.
     fn take_lines(
         &mut self,
         piece: &[u8],

@@ -20,7 +20,7 @@ pub shared-preserved : goal.shared-preserved
 shared-preserved g c =
     let was = c.shared.invariant in
     let all = taken c.shared.reader in
-    let out = c.read_piece.new.piece in
+    let out = c.fill_piece.new.piece in
     let count = c.in_ok-count.count in
     let inside = c.in_ok-count.ensures.within in
     let grown : taken c.feed_shared.new.self ≡ all ++ take count out =
@@ -44,11 +44,11 @@ returns-in_err-feed_shared-clause-cause g c =
     let told = g.S.JournalStore.told in
     let was = c.shared.invariant in
     let all = taken c.shared.reader in
-    let out = c.read_piece.new.piece in
+    let out = c.fill_piece.new.piece in
     let count = c.in_ok-count.count in
     let fault = c.in_err-feed_shared.field-0.0 in
-    let same : (told c.read_piece.new.store).faults ≡ (told c.args.store.now).faults = c.in_ok-count.ensures.fine ∙ was.fine in
-    let why : IsCause (cause_of fault) (told c.args.store.now) (told c.read_piece.new.store) =
+    let same : (told c.fill_piece.new.store).faults ≡ (told c.args.store.now).faults = c.in_ok-count.ensures.fine ∙ was.fine in
+    let why : IsCause (cause_of fault) (told c.args.store.now) (told c.fill_piece.new.store) =
     fed-cause _ _ all _ _ fault
     (front-next (held (told c.args.store.now)) (told c.shared.store).content all out _ _ _ count
     (ap bytes_of was.content) was.size was.within was.front c.in_ok-count.ensures.bytes (ap (λ xs. all ++ xs) (take-inside count out _ c.in_ok-count.ensures.within)))
