@@ -1,4 +1,4 @@
-use Rattle.std.proofs.Common.{subst, sym}
+use Rattle.std.proofs.Common.{Some, subst, sym}
 use Rattle.txn_core.specs.Opened.{Opened}
 use Rattle.ledger_core.specs.Committing.{IsOpenOn}
 use Rattle.ledger_core.specs.Leaving.{CommitLeaves}
@@ -10,7 +10,7 @@ commit_with-requires g c = subst (λ (t : Opened). IsOpenOn c.args.self.now.stan
 
 pub returns-clause-commits : goal.returns-clause-commits
 returns-clause-commits g c =
-    subst (λ (t : Opened). CommitLeaves g.S.JournalStore.told g.C.Clock.answers g.C.Clock.always c.args.self.now c.commit_with.new.self t _ c.commit_with.result)
+    subst (λ (t : Opened). CommitLeaves g.S.JournalStore.told g.C.Clock.answers g.C.Clock.always c.args.self.now c.commit_with.new.self t (Some c.args.digest) c.commit_with.result)
     c.unmade.ensures c.commit_with.ensures
 
 pub returns-clause-still : goal.returns-clause-still
@@ -19,6 +19,6 @@ returns-clause-still g c =
     let answers = g.C.Clock.answers in
     let always = g.C.Clock.always in
     let leaves =
-    subst (λ (t : Opened). CommitLeaves told answers always c.args.self.now c.commit_with.new.self t _ c.commit_with.result) c.unmade.ensures c.commit_with.ensures in
+    subst (λ (t : Opened). CommitLeaves told answers always c.args.self.now c.commit_with.new.self t (Some c.args.digest) c.commit_with.result) c.unmade.ensures c.commit_with.ensures in
     λ other o differ.
     still_open c.args.self.now.standing c.commit_with.new.self.standing c.args.txn other _ _ c.requires.mask differ o c.commit_with.result leaves.ends
