@@ -1,18 +1,20 @@
 -- Some of the documents, by their ids.
-use Rattle.std.proofs.Common.{◌≡◌, ℕ, suc, ◌+◌, ◌<◌, ◌==◌, Bool, true, false, List, [], ◌∷◌, ◌++◌, length, take, get_or, map, Option, Some, None, Bor, refl, sym, ◌∙◌, ap, arith}
-use Rattle.std.specs.Prelude.{◌||◌, option_map, slice_get, if◌then◌else◌}
+use Rattle.std.proofs.Common.{◌≡◌, ℕ, suc, ◌+◌, ◌<◌, ◌≤◌, ◌==◌, Bool, true, false, List, [], ◌∷◌, ◌++◌, length, take, get_or, map, Option, Some, None, Bor, refl, sym, ◌∙◌, ap, subst, arith}
+use Rattle.std.specs.Prelude.{◌||◌, option_and_then, option_map, slice_get, if◌then◌else◌}
 use Rattle.std.specs.List.{cons_option, filter}
 use Rattle.std.specs.Map.{keys_of}
 use Rattle.std.specs.declared.cmp.Ordering.{Ordering}
 use Rattle.std.specs.Ordering.{match_ordering}
-use Rattle.std.proofs.lemmas.Bool.{eqb-true}
+use Rattle.std.proofs.lemmas.Bool.{eqb-true, ltb-true}
 use Rattle.std.proofs.lemmas.Cmp.{nat_cmp_total, tied_itself}
-use Rattle.std.proofs.lemmas.List.{append-nil, append_assoc, take_more}
+use Rattle.std.proofs.lemmas.List.{append-nil, take_more}
+use Rattle.std.proofs.lemmas.List.Elements.{filter_map-append}
 use Rattle.std.proofs.lemmas.List.Folds.{list_any-append}
 use Rattle.ql_types.specs.declared.DocId.{DocId}
 use Rattle.ledger_model.specs.State.{draft_of}
 use Rattle.ledger_model.specs.declared.block.Draft.{Draft}
 use Rattle.ledger_model.specs.Views.{latest}
+use Rattle.pmap.specs.Pairs.{Each}
 use Rattle.index_post.specs.Positions.{with_position}
 use Rattle.index_post.proofs.Sets.{keys_inserted}
 use Rattle.versions.specs.declared.recorded.Recorded.{Recorded}
@@ -20,7 +22,7 @@ use Rattle.versions.specs.Held.{drafts_lent, recorded_of}
 use Rattle.versions.specs.Filing.{places_from}
 use Rattle.versions.specs.Lookups.{AreApart, document_in, is_among, is_one_of, those_among}
 use Rattle.versions.specs.Newest.{id_of, newest}
-use Rattle.versions.specs.Places.{ids_of, place_in, put_place, with_place}
+use Rattle.versions.specs.Places.{ids_of, is_behind, last_with, place_in, put_place, with_place}
 use Rattle.versions.proofs.Filing.{ahead, past_put}
 use Rattle.versions.proofs.Members.{found}
 use Rattle.versions.proofs.Newest.{lent_drafts, lent_values, newest-latest}
@@ -108,15 +110,21 @@ put-keys : (o : Option ℕ) (set : List (ℕ × ℕ)) → keys_of (put_place o s
 put-keys None set = refl
 put-keys (Some at) set = keys_inserted at set
 
-pub place_next : (ds : List Recorded) (ids : List DocId) (at : ℕ) (id : DocId) (place : Option ℕ) (set new : List (ℕ × ℕ)) → AreApart ds
-    → at < length ids → id ≡ get_or ids at id → place ≡ place_in (ids_of ds) id.raw → new ≡ put_place place set
-    → keys_of set ≡ places_from (is_one_of (take at ids)) 0 ds → keys_of new ≡ places_from (is_one_of (take (at + 1) ids)) 0 ds
-place_next ds ids at id place set new apart within this place_is is so_far =
+-- the places of one id more
+pub place_next : (ds : List Recorded) (ids : List DocId) (at : ℕ) (id : DocId) (place : Option ℕ) → AreApart ds
+    → at < length ids → id ≡ get_or ids at id → place ≡ place_in (ids_of ds) id.raw
+    → with_place place (places_from (is_one_of (take at ids)) 0 ds) ≡ places_from (is_one_of (take (at + 1) ids)) 0 ds
+place_next ds ids at id place apart within this place_is =
     let more : take (at + 1) ids ≡ take at ids ++ id ∷ [] = take_more ids at id within ∙ ap (λ (x : DocId). take at ids ++ x ∷ []) (sym this) in
-    ap keys_of is ∙ put-keys place set ∙ ap (with_place place) so_far
-    ∙ ap (λ (o : Option ℕ). with_place o (places_from (is_one_of (take at ids)) 0 ds)) (place_is ∙ counted (place_in (ids_of ds) id.raw))
+    ap (λ (o : Option ℕ). with_place o (places_from (is_one_of (take at ids)) 0 ds)) (place_is ∙ counted (place_in (ids_of ds) id.raw))
     ∙ place-more (take at ids) id ds 0 apart
     ∙ ap (λ (some : List DocId). places_from (is_one_of some) 0 ds) (sym more)
+
+pub place_put : (ds : List Recorded) (ids : List DocId) (at : ℕ) (id : DocId) (place : Option ℕ) (set new : List (ℕ × ℕ)) → AreApart ds
+    → at < length ids → id ≡ get_or ids at id → place ≡ place_in (ids_of ds) id.raw → new ≡ put_place place set
+    → keys_of set ≡ places_from (is_one_of (take at ids)) 0 ds → keys_of new ≡ places_from (is_one_of (take (at + 1) ids)) 0 ds
+place_put ds ids at id place set new apart within this place_is is so_far =
+    ap keys_of is ∙ put-keys place set ∙ ap (with_place place) so_far ∙ place_next ds ids at id place apart within this place_is
 
 none-asked : (ds : List Recorded) (n : ℕ) → [] ≡ places_from (is_one_of []) n ds
 none-asked [] n = refl
@@ -127,22 +135,71 @@ places_start ds set none = ap keys_of none ∙ none-asked ds 0
 
 -- ---- documents that are read one after another
 
-cons-first : (o : Option Recorded) (ds : List Recorded) → cons_option o ds ≡ cons_option o [] ++ ds
-cons-first None ds = refl
-cons-first (Some d) ds = refl
+pub some_more : (ds : List Recorded) (places : List ℕ) (at : ℕ) (o : Option Recorded) (some more : List Recorded) → o ≡ slice_get ds at
+    → more ≡ some ++ cons_option o [] → some ≡ found ds places → more ≡ found ds (places ++ at ∷ [])
+some_more ds places at o some more there next so_far =
+    next ∙ ap (λ (xs : List Recorded). xs ++ cons_option o []) so_far
+    ∙ ap (λ (own : Option Recorded). found ds places ++ cons_option own []) there
+    ∙ sym (filter_map-append (λ k. slice_get ds k) places (at ∷ []))
 
-pub some_next : (ds : List Recorded) (places rest : List ℕ) (at : ℕ) (o : Option Recorded) (some more all : List Recorded) → places ≡ at ∷ rest
-    → o ≡ slice_get ds at → more ≡ some ++ cons_option o [] → some ++ found ds places ≡ all → more ++ found ds rest ≡ all
-some_next ds places rest at o some more all is there next so_far =
-    let first : found ds places ≡ cons_option o [] ++ found ds rest =
-    ap (found ds) is ∙ ap (λ (own : Option Recorded). cons_option own (found ds rest)) (sym there) ∙ cons-first o (found ds rest) in
-    ap (λ (xs : List Recorded). xs ++ found ds rest) next
-    ∙ append_assoc some (cons_option o []) (found ds rest)
-    ∙ ap (λ (xs : List Recorded). some ++ xs) (sym first)
-    ∙ so_far
+-- ---- ids that stand in the order of their documents
 
-pub some_end : (ds : List Recorded) (places : List ℕ) (some all : List Recorded) → places ≡ [] → some ++ found ds places ≡ all → some ≡ all
-some_end ds places some all none so_far = sym (append-nil some) ∙ ap (λ (ps : List ℕ). some ++ found ds ps) (sym none) ∙ so_far
+-- the places are none, or none is behind the last one
+abbrev pub IsLast : Option ℕ → List ℕ → Type 0
+IsLast None places = places ≡ []
+IsLast (Some last) places = Each (λ n. n ≤ last) places
+
+behind-all : (n : ℕ) (places : List ℕ) → Each (λ m. m < n) places → with_position n places ≡ places ++ n ∷ []
+behind-all n [] all = refl
+behind-all n (m ∷ places) all = past_put true n m places all.0 ∙ ap (λ (ps : List ℕ). m ∷ ps) (behind-all n places all.1)
+
+all-before : (last n : ℕ) (places : List ℕ) → last < n → Each (λ m. m ≤ last) places → Each (λ m. m < n) places
+all-before last n [] less all = all
+all-before last n (m ∷ places) less all = (omega (arith, less, all.0), all-before last n places less all.1)
+
+up-to-all : (n : ℕ) (places : List ℕ) → Each (λ m. m < n) places → Each (λ m. m ≤ n) (places ++ n ∷ [])
+up-to-all n [] all = (omega arith, all)
+up-to-all n (m ∷ places) all = (omega (arith, all.0), up-to-all n places all.1)
+
+before-place : (last : Option ℕ) (n : ℕ) (places : List ℕ) → is_behind last (Some n) ≡ true → IsLast last places → Each (λ m. m < n) places
+before-place None n places behind is = subst (λ (ps : List ℕ). Each (λ m. m < n) ps) (sym is) tt
+before-place (Some last) n places behind is = all-before last n places (ltb-true last n behind) is
+
+put-last : (last place : Option ℕ) (places : List ℕ) → is_behind last place ≡ true → IsLast last places
+    → (with_place place places ≡ places ++ cons_option place []) × IsLast (last_with last place) (places ++ cons_option place [])
+put-last last None places behind is = (sym (append-nil places), subst (λ (ps : List ℕ). IsLast last ps) (sym (append-nil places)) is)
+put-last last (Some n) places behind is =
+    let before : Each (λ m. m < n) places = before-place last n places behind is in
+    (behind-all n places before, up-to-all n places before)
+
+found-next : (ds : List Recorded) (place : Option ℕ) → found ds (cons_option place []) ≡ cons_option (option_and_then (slice_get ds) place) []
+found-next ds None = refl
+found-next ds (Some n) = refl
+
+-- one id more whose document isn't in front of the last one
+pub order_next : (ds : List Recorded) (ids : List DocId) (at : ℕ) (id : DocId) (place last later : Option ℕ) (o : Option Recorded)
+    (some more : List Recorded) → AreApart ds → at < length ids → id ≡ get_or ids at id → place ≡ place_in (ids_of ds) id.raw
+    → is_behind last place ≡ true → later ≡ last_with last place → o ≡ option_and_then (slice_get ds) place → more ≡ some ++ cons_option o []
+    → (some ≡ found ds (places_from (is_one_of (take at ids)) 0 ds)) × IsLast last (places_from (is_one_of (take at ids)) 0 ds)
+    → (more ≡ found ds (places_from (is_one_of (take (at + 1) ids)) 0 ds)) × IsLast later (places_from (is_one_of (take (at + 1) ids)) 0 ds)
+order_next ds ids at id place last later o some more apart within this place_is behind later_is there next so_far =
+    let places : List ℕ = places_from (is_one_of (take at ids)) 0 ds in
+    let put = put-last last place places behind so_far.1 in
+    let all : places ++ cons_option place [] ≡ places_from (is_one_of (take (at + 1) ids)) 0 ds =
+    sym put.0 ∙ place_next ds ids at id place apart within this place_is in
+    let read : more ≡ found ds (places ++ cons_option place []) =
+    next ∙ ap (λ (xs : List Recorded). xs ++ cons_option o []) so_far.0
+    ∙ ap (λ (own : Option Recorded). found ds places ++ cons_option own []) there
+    ∙ ap (λ (xs : List Recorded). found ds places ++ xs) (sym (found-next ds place))
+    ∙ sym (filter_map-append (λ k. slice_get ds k) places (cons_option place [])) in (
+      read ∙ ap (found ds) all,
+      subst (λ (o : Option ℕ). IsLast o (places_from (is_one_of (take (at + 1) ids)) 0 ds)) (sym later_is)
+          (subst (λ (ps : List ℕ). IsLast (last_with last place) ps) all put.1),
+    )
+
+pub order_start : (ds : List Recorded) (all : List Recorded) → all ≡ []
+    → (all ≡ found ds (places_from (is_one_of []) 0 ds)) × IsLast None (places_from (is_one_of []) 0 ds)
+order_start ds all none = (none ∙ ap (found ds) (none-asked ds 0), sym (none-asked ds 0))
 
 -- ---- the same as drafts
 

@@ -1,5 +1,5 @@
 -- The place of an id among others: that of the first equal one, counted from 0.
-use Rattle.std.specs.Prelude.{◌≡◌, ℕ, ◌+◌, ◌==◌, List, [], ◌∷◌, Option, Some, None, option_map, map, if◌then◌else◌}
+use Rattle.std.specs.Prelude.{◌≡◌, ℕ, ◌+◌, ◌==◌, Bool, true, nat_lt, List, [], ◌∷◌, Option, Some, None, option_map, map, if◌then◌else◌}
 use Rattle.std.specs.declared.cmp.Ordering.{Ordering}
 use Rattle.std.specs.Ordering.{nat_cmp}
 use Rattle.std.specs.Map.{lookup}
@@ -33,3 +33,15 @@ with_place (Some at) places = with_position at places
 abbrev pub put_place : Option ℕ → List (ℕ × ℕ) → List (ℕ × ℕ)
 put_place None places = places
 put_place (Some at) places = insert_entry nat_cmp places at at
+
+-- ---- places one behind another
+
+-- whether a place is behind the last one, if there are both
+abbrev pub is_behind : Option ℕ → Option ℕ → Bool
+is_behind (Some last) (Some place) = nat_lt last place
+is_behind _ _ = true
+
+-- the last place, with this one behind it
+abbrev pub last_with : Option ℕ → Option ℕ → Option ℕ
+last_with last None = last
+last_with last (Some place) = Some place

@@ -1,24 +1,22 @@
 //! The latest revision of each document.
-ghost use Rattle.std.specs.Prelude.{◌≡◌, [], ◌∷◌, ◌++◌, length, map, slice_set, slice_get, Some, None, IfOk, OnOk};
-ghost use Rattle.std.specs.BTreeMap.{insert_entry};
+ghost use Rattle.std.specs.Prelude.{◌≡◌, [], ◌∷◌, ◌++◌, length, map, slice_set, slice_get, Some, None, option_and_then, IfOk, OnOk};
 ghost use Rattle.std.specs.List.{cons_option, filter, filter_map};
 ghost use Rattle.std.specs.Map.{keys_of};
-ghost use Rattle.std.specs.Option.{option_copied};
-ghost use Rattle.std.specs.Ordering.{nat_cmp};
+ghost use Rattle.std.specs.Option.{IfSome, option_copied};
 ghost use Rattle.std.specs.Arc.{arc_value};
 ghost use Rattle.versions.specs.Filing.{IsSpot, places_from};
 ghost use Rattle.versions.specs.Lookups.{AreApart, document_in, is_one_of};
 ghost use Rattle.versions.specs.Newest.{id_of, put};
-ghost use Rattle.versions.specs.Places.{ids_of, place_in, put_place};
+ghost use Rattle.versions.specs.Places.{ids_of, is_behind, last_with, place_in, put_place};
 
 use crate::recorded::Recorded;
 use containers::Sequence;
-use index_post::Positions;
 use ion_values::OutOfMemory;
 use pmap::PMap;
 use pvec::PVec;
 use ql_types::{DocId, Steps};
 use std::alloc::Global;
+use std::collections::BTreeMap;
 use std::marker::Model;
 use std::sync::Arc;
 
@@ -30,7 +28,7 @@ pub(crate) struct Spot<'a> {
 }
 
 /// Places of documents, each of which leads to itself.
-type Places = PMap<u64, u64>;
+type Places = BTreeMap<u64, u64>;
 
 /// The latest revision of each document, in order of first insertion, and the place of each document among them.
 #[derive(Drop)]
@@ -104,16 +102,49 @@ impl Latest {
     /// The places of these documents. An id of none of them has no place.
     fn places_of(&self, ids: &[DocId]) -> Result<Places, OutOfMemory>
         requires { AreApart self.now }
-        ensures { IfOk result (λ places. keys_of places ≡ places_from (is_one_of ids.now) 0 self.now) }
+        ensures { IfOk result (λ places. keys_of places.entries ≡ places_from (is_one_of ids.now) 0 self.now) }
     {
-        let mut places = PMap::new(self.alloc);
+        let mut places = BTreeMap::new(self.alloc);
         'ids: for id in ids {
-            places = with_place(self.alloc, places, self.place_of(*id))?;
+            put_place(&mut places, self.place_of(*id))?;
         }
         Ok(places)
     }
 
+    /// The latest revision of the document at a place, if there is a place.
+    fn get_at(&self, at: Option<u64>) -> Option<&Recorded>
+        ensures { option_copied result ≡ option_and_then (slice_get self.now) at }
+    {
+        self.get(at?)
+    }
+
+    /// The revisions of these documents in order, lent, if the ids are in this order too. An id of none of them counts
+    /// for nothing.
+    fn in_order(
+        &self,
+        alloc: Global,
+        ids: &[DocId],
+    ) -> Result<Option<Sequence<&Recorded>>, OutOfMemory>
+        requires { AreApart self.now }
+        ensures { IfOk result (λ found. IfSome found (λ all.
+            map (λ r. r.now) all ≡ filter (is_one_of ids.now) self.now)) }
+    {
+        let mut all = Sequence::new(alloc);
+        let mut last = None;
+        'ids: for id in ids {
+            let place = self.place_of(*id);
+            if !is_behind(last, place) {
+                return Ok(None);
+            }
+            push_some(&mut all, self.get_at(place))?;
+            last = last_with(last, place);
+        }
+        Ok(Some(all))
+    }
+
     /// The revisions of these documents in order, lent. An id of none of them counts for nothing.
+    ///
+    /// It is quickest if the ids are in order.
     pub(crate) fn among(
         &self,
         alloc: Global,
@@ -122,8 +153,11 @@ impl Latest {
         requires { AreApart self.now }
         ensures { IfOk result (λ all. map (λ r. r.now) all ≡ filter (is_one_of ids.now) self.now) }
     {
+        if let Some(found) = self.in_order(alloc, ids)? {
+            return Ok(found);
+        }
         let set = self.places_of(ids)?;
-        let all = lent_at(alloc, &self.documents, Positions::of_pairs(set.pairs()))?;
+        let all = lent_at(alloc, &self.documents, set)?;
         Ok(all)
     }
 
@@ -216,37 +250,50 @@ fn all_lent(alloc: Global, documents: &PVec<Recorded>) -> Result<Sequence<&Recor
     Ok(all)
 }
 
-/// The places with this one, if there is one.
-fn with_place(alloc: Global, places: Places, at: Option<u64>) -> Result<Places, OutOfMemory>
-    ensures { IfOk result (λ new. new ≡ put_place at places) }
+/// Whether the place is behind the last one, if there are both.
+fn is_behind(last: Option<u64>, place: Option<u64>) -> bool
+    ensures { result ≡ is_behind last place }
 {
-    match at {
-        None => Ok(places),
-        Some(at) => place_more(alloc, &places, at),
+    match (last, place) {
+        (Some(last), Some(place)) => last < place,
+        _ => true,
     }
 }
 
-/// The places with this one.
-fn place_more(alloc: Global, places: &Places, at: u64) -> Result<Places, OutOfMemory>
-    ensures { IfOk result (λ new. new ≡ insert_entry nat_cmp places.now at at) }
+/// The last place, with this one behind it.
+fn last_with(last: Option<u64>, place: Option<u64>) -> Option<u64>
+    ensures { result ≡ last_with last place }
 {
-    let place = Arc::new(alloc, at)?;
-    let shared = Arc::try_clone(&place)?;
-    let new = places.insert(place, shared)?;
-    Ok(new)
+    match place {
+        None => last,
+        Some(place) => Some(place),
+    }
+}
+
+/// Puts this place among the others, if there is one.
+fn put_place(places: &mut Places, at: Option<u64>) -> Result<(), OutOfMemory>
+    ensures { OnOk result (places.new.entries ≡ put_place at places.old.entries) }
+{
+    match at {
+        None => Ok(()),
+        Some(at) => {
+            places.insert(at, at)?;
+            Ok(())
+        }
+    }
 }
 
 /// The documents at the places, in their order, lent.
-fn lent_at<'a>(
+fn lent_at(
     alloc: Global,
-    documents: &'a PVec<Recorded>,
-    places: Positions<'_>,
-) -> Result<Sequence<&'a Recorded>, OutOfMemory>
-    ensures { IfOk result (λ all. map (λ r. r.now) all ≡ filter_map (λ at. slice_get documents.now at) places.entry) }
+    documents: &PVec<Recorded>,
+    places: Places,
+) -> Result<Sequence<&Recorded>, OutOfMemory>
+    ensures { IfOk result (λ all.
+        map (λ r. r.now) all ≡ filter_map (λ at. slice_get documents.now at) (keys_of places.entries)) }
 {
-    let mut places = places;
     let mut all = Sequence::new(alloc);
-    'places: while let Some(at) = places.next() {
+    'places: for at in places.into_keys() {
         push_some(&mut all, documents.get(at))?;
     }
     Ok(all)

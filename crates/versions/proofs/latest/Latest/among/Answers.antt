@@ -1,5 +1,4 @@
 use Rattle.std.proofs.Common.{List, ap, ◌∙◌}
-use Rattle.std.specs.Map.{keys_of}
 use Rattle.versions.specs.declared.recorded.Recorded.{Recorded}
 use Rattle.versions.specs.Filing.{places_from}
 use Rattle.versions.specs.Lookups.{is_one_of}
@@ -10,6 +9,6 @@ use Rattle.versions.proofs.latest.Latest.among.Goals as goal
 pub returns : goal.returns
 returns c =
     c.in_ok-all.ensures
-    ∙ ap (found c.self.inside.documents) (c.of_pairs.ensures ∙ ap keys_of c.pairs.ensures.pairs ∙ c.in_ok-set.ensures)
+    ∙ ap (found c.self.inside.documents) c.in_ok-set.ensures
     ∙ ap (λ (ds : List Recorded). found ds (places_from (is_one_of c.args.ids.now) 0 c.args.self.now)) c.self.view_is
     ∙ members_at (is_one_of c.args.ids.now) c.args.self.now

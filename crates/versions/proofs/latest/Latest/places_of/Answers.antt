@@ -4,11 +4,11 @@ use Rattle.std.proofs.lemmas.List.{take_all}
 use Rattle.ql_types.specs.declared.DocId.{DocId}
 use Rattle.versions.specs.Filing.{places_from}
 use Rattle.versions.specs.Lookups.{is_one_of}
-use Rattle.versions.proofs.Among.{place_next, places_start}
+use Rattle.versions.proofs.Among.{place_put, places_start}
 use Rattle.versions.proofs.latest.Latest.places_of.Goals as goal
 
 pub ids-init : goal.ids-init
-ids-init c = places_start c.args.self.now c.new-places.result c.new-places.ensures
+ids-init c = places_start c.args.self.now c.new-places.result.entries c.new-places.ensures.empty
 
 pub ids-preserved : goal.ids-preserved
 ids-preserved c =
@@ -16,8 +16,8 @@ ids-preserved c =
     let id = get_or c.args.ids.now c.ids.id-index none in
     let there : id ≡ get_or c.args.ids.now c.ids.id-index id =
     sym (get_or_from_slice_get c.args.ids.now c.ids.id-index id id (slice_get-get_or c.args.ids.now c.ids.id-index none c.ids-test.true)) in
-    place_next c.args.self.now c.args.ids.now c.ids.id-index id c.place_of.result c.ids.places c.in_ok-places.places c.requires
-    c.ids-test.true there c.place_of.ensures c.in_ok-places.ensures c.ids.invariant
+    place_put c.args.self.now c.args.ids.now c.ids.id-index id c.place_of.result c.ids.places.entries c.put_place.new.places.entries c.requires
+    c.ids-test.true there c.place_of.ensures c.in_ok-put_place.ensures c.ids.invariant
 
 pub returns : goal.returns
 returns c =

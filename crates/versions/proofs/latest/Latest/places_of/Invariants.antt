@@ -6,4 +6,4 @@ use Rattle.versions.proofs.latest.Latest.places_of.Given as goal
 
 -- the places of the ids so far
 abbrev pub invariant-ids : goal.invariant-ids
-invariant-ids l = keys_of l.places ≡ places_from (is_one_of (take l.id-index l.ids)) 0 l.self
+invariant-ids l = keys_of l.places.entries ≡ places_from (is_one_of (take l.id-index l.ids)) 0 l.self
