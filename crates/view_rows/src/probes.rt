@@ -1,12 +1,13 @@
 //! Which rows a probe asks for.
-ghost use Rattle.std.specs.Prelude.{◌≡◌, ◌==◌, IfOk};
+ghost use Rattle.std.specs.Prelude.{◌≡◌, ◌==◌, Some, IfOk, IfSome};
 ghost use Rattle.std.specs.List.{list_any};
+ghost use Rattle.ion_values.specs.declared.value.Key.TheVariants as index;
 ghost use Rattle.pql_model.specs.Steps.{field_of};
 ghost use Rattle.pql_model.specs.Tables as spec;
 ghost use Rattle.ql_types.specs.declared.DocId as spec_id;
 
-use ion_values::{Key, OutOfMemory, Value};
-use pql_model::{Probe, has_key, key_in};
+use ion_values::{Body, Key, OutOfMemory, Text, Value};
+use pql_model::{Probe, field_of, has_key, key_in};
 use ql_types::DocId;
 use std::alloc::Global;
 
@@ -40,13 +41,48 @@ fn is_one_of(ids: &[DocId], id: DocId) -> bool
     false
 }
 
-/// Whether the value has a field of this name with one of the keys.
+/// Whether the value has a field of this name with one of the keys. It takes memory only if the field is no text.
 fn has_one(alloc: Global, keys: &[Key], name: &str, value: &Value) -> Result<bool, OutOfMemory>
     ensures { IfOk result (λ has. has ≡ spec.has_one keys.now (spec.key_in (field_of name.now value.now))) }
 {
+    if let Some(text) = text_in(name, value) {
+        return Ok(has_text(keys, text));
+    }
     match key_in(alloc, name, value)? {
         Some(found) => Ok(is_found(keys, &found)),
         None => Ok(false),
+    }
+}
+
+/// The text in the value's first field of that name, if it is one.
+fn text_in<'a>(name: &str, value: &'a Value) -> Option<&'a Text>
+    ensures { IfSome result (λ text.
+        spec.key_in (field_of name.now value.now) ≡ Some (index.Text text.now)) }
+{
+    match &field_of(name, value)?.body {
+        Body::Symbol(text) | Body::String(text) => Some(text),
+        _ => None,
+    }
+}
+
+/// Whether one of the keys is this text.
+fn has_text(keys: &[Key], text: &Text) -> bool
+    ensures { result ≡ spec.has_one keys.now (Some (index.Text text.now)) }
+{
+    'keys: for key in keys {
+        if is_text(key, text) {
+            return true;
+        }
+    }
+    false
+}
+
+fn is_text(key: &Key, text: &Text) -> bool
+    ensures { result ≡ spec.is_same_key (index.Text text.now) key.now }
+{
+    match key {
+        Key::Text(own) => text.as_str() == own.as_str(),
+        _ => false,
     }
 }
 
