@@ -7,7 +7,7 @@ use ledger_model::{Content, Schema};
 use pql_model::{DocIds, Probe, Tables, View};
 use ql_types::{DocId, TableId};
 use std::alloc::Global;
-use txn_core::TableViews;
+use txn_core::{Log, TableViews};
 use versions::{
     Indexed, Table, Versions, active_table, change_all, copy_content, copy_indexes, copy_tables,
     has_index, index_all,
@@ -149,7 +149,8 @@ fn are_shown(alloc: Global, version: &Version) -> bool {
 /// How many rows a transaction without changes sees of the table of this name.
 fn seen(alloc: Global, version: &Version, name: &str, view: &View) -> Option<usize> {
     let version = version.get();
-    let views = TableViews::new(version.tables(), version, &[]);
+    let log = Log::new(alloc);
+    let views = TableViews::new(version.tables(), version, &log);
     let name = Text::from_text(alloc, name).ok()?;
     match views.rows(alloc, &name, view, &Probe::All) {
         Ok(rows) => Some(rows.len()),

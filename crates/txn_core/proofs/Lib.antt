@@ -3,6 +3,7 @@ pub mod RowsBehind
 pub mod InRange
 pub mod Inserted
 pub mod Joined
+pub mod Logged
 pub mod Narrowing
 pub mod ReadSources
 pub mod Redactions

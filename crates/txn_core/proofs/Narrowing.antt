@@ -1,5 +1,5 @@
 -- The documents that may meet a probe, and those that pend, are enough for the rows of a view that meet it.
-use Rattle.std.proofs.Common.{◌≡◌, ◌∙◌, ℕ, ◌+◌, ◌<◌, ◌^◌, ◌==◌, Bool, true, false, List, [], ◌∷◌, ◌++◌, length, get_or, drop, map, refl, sym, ap, subst, Option, Some, None}
+use Rattle.std.proofs.Common.{◌≡◌, ◌∙◌, ℕ, ◌+◌, ◌<◌, ◌^◌, ◌==◌, ◌||◌, Bool, true, false, List, [], ◌∷◌, ◌++◌, length, get_or, drop, map, refl, sym, ap, subst, Option, Some, None}
 use Rattle.std.specs.Prelude.{if◌then◌else◌}
 use Rattle.std.specs.Option.{IfSome}
 use Rattle.std.specs.List.{cons_option, filter_map, flat_map}
@@ -172,6 +172,21 @@ all_behind : (front more : List DocId) (ds : List Draft) → AllAmong more ds �
 all_behind front more [] all = tt
 all_behind front more (d ∷ ds) all = (among_behind front more d.id.raw all.0, all_behind front more ds all.1)
 
+abbrev ids_of : List Draft → List DocId
+ids_of ds = map (λ (d : Draft). d.id) ds
+
+or-none : (a : Bool) → (a || false) ≡ a
+or-none true = refl
+or-none false = refl
+
+or-again : (a b : Bool) → (a || b) ≡ ((a || b) || a)
+or-again true b = refl
+or-again false b = sym (or-none b)
+
+or-assoc : (a b c : Bool) → (a || (b || c)) ≡ ((a || b) || c)
+or-assoc true b c = refl
+or-assoc false b c = refl
+
 own_among : (ds : List Draft) → AllAmong (map (λ (d : Draft). d.id) ds) ds
 own_among [] = tt
 own_among (d ∷ ds) = (
@@ -179,11 +194,38 @@ own_among (d ∷ ds) = (
   all_behind (d.id ∷ []) (map (λ (x : Draft). x.id) ds) ds (own_among ds),
 )
 
+-- the documents of the last revisions are those of all
+put_among-by : (b : Bool) (d r : Draft) (ds : List Draft) (n : ℕ) → (d.id.raw == r.id.raw) ≡ b
+    → is_among (ids_of (put ds r)) n ≡ (is_among (ids_of ds) n || (n == r.id.raw))
+    → is_among (ids_of (if b then r ∷ ds else d ∷ put ds r)) n ≡ (((n == d.id.raw) || is_among (ids_of ds) n) || (n == r.id.raw))
+put_among-by true d r ds n same ih =
+    or-again (n == r.id.raw) (is_among (ids_of ds) n)
+    ∙ ap (λ (k : ℕ). ((n == k) || is_among (ids_of ds) n) || (n == r.id.raw)) (sym (eqb-true d.id.raw r.id.raw same))
+put_among-by false d r ds n same ih =
+    ap (λ (b : Bool). (n == d.id.raw) || b) ih ∙ or-assoc (n == d.id.raw) (is_among (ids_of ds) n) (n == r.id.raw)
+
+put_among : (ds : List Draft) (r : Draft) (n : ℕ) → is_among (ids_of (put ds r)) n ≡ (is_among (ids_of ds) n || (n == r.id.raw))
+put_among [] r n = or-none (n == r.id.raw)
+put_among (d ∷ ds) r n = put_among-by (d.id.raw == r.id.raw) d r ds n refl (put_among ds r n)
+
+from_among : (rs ds : List Draft) (n : ℕ) → is_among (ids_of (latest_from ds rs)) n ≡ (is_among (ids_of ds) n || is_among (ids_of rs) n)
+from_among [] ds n = sym (or-none (is_among (ids_of ds) n))
+from_among (r ∷ rs) ds n =
+    from_among rs (put ds r) n ∙ ap (λ (b : Bool). b || is_among (ids_of rs) n) (put_among ds r n)
+    ∙ sym (or-assoc (is_among (ids_of ds) n) (n == r.id.raw) (is_among (ids_of rs) n))
+
+all_of : (ids more : List DocId) (ds : List Draft) → ((n : ℕ) → is_among more n ≡ is_among ids n) → AllAmong ids ds → AllAmong more ds
+all_of ids more [] same all = tt
+all_of ids more (d ∷ ds) same all = (same d.id.raw ∙ all.0, all_of ids more ds same all.1)
+
+last_among : (log : List Draft) → AllAmong (ids_of (latest log)) log
+last_among log = all_of (ids_of log) (ids_of (latest log)) log (from_among log []) (own_among log)
+
 pub narrow_is : (base : State) (log : List Draft) (table : TableId) (p : Probe) (ids all : List DocId) → MeetAlone base table p ids
-    → all ≡ ids ++ map (λ (d : Draft). d.id) log → IsNarrow base log table p (Some all)
+    → all ≡ ids ++ ids_of (latest log) → IsNarrow base log table p (Some all)
 narrow_is base log table p ids all alone is = (
-  subst (λ (xs : List DocId). AllAmong xs log) (sym is) (all_behind ids (map (λ (d : Draft). d.id) log) log (own_among log)),
-  subst (MeetAlone base table p) (sym is) (named_front ids (map (λ (d : Draft). d.id) log) (meets p) (rows_standing base table) alone),
+  subst (λ (xs : List DocId). AllAmong xs log) (sym is) (all_behind ids (ids_of (latest log)) log (last_among log)),
+  subst (MeetAlone base table p) (sym is) (named_front ids (ids_of (latest log)) (meets p) (rows_standing base table) alone),
 )
 
 -- ---- the rows that meet the probe

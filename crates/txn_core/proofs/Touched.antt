@@ -26,6 +26,7 @@ use Rattle.txn_core.specs.Inserts.{so_far}
 use Rattle.txn_core.specs.Opened.{Opened}
 use Rattle.txn_core.specs.Writes.{Stands, Touches, again_by, has_room_in, mark_of, marked, marks_of, not_ended}
 use Rattle.txn_core.proofs.Inserted.{nothing-last}
+use Rattle.txn_core.proofs.Logged.{latest_again}
 use Rattle.txn_core.proofs.Overlaid.{latest_last}
 
 -- ---- equal ids
@@ -62,6 +63,9 @@ pub marks_next : (log : List Draft) (i : ℕ) (d : Draft) (before after : List (
 marks_next log i d before after m within is before_is m_is after_is =
     let more : take (i + 1) log ≡ take i log ++ d ∷ [] = take_more log i d within ∙ ap (λ (x : Draft). take i log ++ x ∷ []) (sym is) in
     after_is ∙ ap₂ (λ (es : List (ℕ × Mark)) (x : Mark). insert_entry nat_eq es d.id.raw x) before_is m_is ∙ marks_more (take i log) d ∙ ap marks_of (sym more)
+
+pub marks_newest : (log newest : List Draft) → newest ≡ latest log → marks_of newest ≡ marks_of log
+marks_newest log newest are = ap marks_of are ∙ ap (map marked) (latest_again [] log)
 
 -- ---- a document that was touched before
 

@@ -19,7 +19,7 @@ abbrev pub progress_of : kept.Progress → Progress
 progress_of p = record {
   said = p.said.items;
   schema = p.schema.items;
-  log = p.log.items;
+  log = p.log;
   made = p.made;
   footprint = p.footprint.items;
 }

@@ -1,5 +1,6 @@
 pub mod Effects
 pub mod Inserts
+pub mod Logs
 pub mod Narrow
 pub mod Opened
 pub mod Reader

@@ -74,8 +74,13 @@ impl Txn {
         ensures { IfOk result (λ cause.
             cause ≡ first_absent_in (tables_now self.now.base self.now.done) from.now.sources) }
     {
+        let sources = from.sources.as_slice();
+        if self.done.schema.is_empty() {
+            let cause = first_absent(alloc, self.base.tables(), sources)?;
+            return Ok(cause);
+        }
         let tables = self.tables_now(alloc)?;
-        let cause = first_absent(alloc, tables.as_slice(), from.sources.as_slice())?;
+        let cause = first_absent(alloc, tables.as_slice(), sources)?;
         Ok(cause)
     }
 

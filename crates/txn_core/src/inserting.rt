@@ -112,12 +112,7 @@ impl Txn {
     ) -> Result<(), ExecuteFault>
         ensures { Stores self.now table value (effect_of effect.old) result (effect_of effect.new) }
     {
-        if let Some(cause) = not_stored(
-            alloc,
-            self.done.log.as_slice(),
-            effect.log.as_slice(),
-            &value,
-        )? {
+        if let Some(cause) = not_stored(alloc, &self.done.log, effect.log.as_slice(), &value)? {
             return Err(ExecuteFault::Refused(cause));
         }
         let raw = self.next_id(effect.made)?;

@@ -13,6 +13,7 @@ mod folding;
 mod indexing;
 mod inserting;
 mod limits;
+mod log;
 mod narrow;
 mod progress;
 mod ranges;
@@ -32,6 +33,7 @@ mod transaction;
 mod values;
 mod views;
 
+pub use log::Log;
 pub use runs::Ran;
 pub use statements::Statements;
 pub use stopped::ExecuteFault;

@@ -6,6 +6,7 @@ ghost use Rattle.ledger_model.specs.Run.{created_count, first_deep, no_table_mor
 ghost use Rattle.versions.specs.Held.{table_of};
 ghost use Rattle.txn_core.specs.Statements.{cause_for, creates};
 
+use crate::log::Log;
 use crate::values::{is_struct, kind_of};
 use crate::views::count_touched;
 use ion_text::write;
@@ -93,7 +94,7 @@ pub(crate) fn first_deep(values: &[Value]) -> Option<u32>
 /// Why the value isn't stored as one document more behind the revisions so far, those of the second list counted.
 pub(crate) fn not_stored(
     alloc: Global,
-    log: &[Draft],
+    log: &Log,
     more: &[Draft],
     value: &Value,
 ) -> Result<Option<Refusal>, OutOfMemory>

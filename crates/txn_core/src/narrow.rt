@@ -1,8 +1,10 @@
 //! The documents that a probe needs of a table.
 ghost use Rattle.std.specs.Prelude.{◌≡◌, ◌<◌, ◌^◌, [], ◌∷◌, ◌++◌, map, IfOk, OnOk};
 ghost use Rattle.std.specs.Option.{IfSome};
+ghost use Rattle.ledger_model.specs.Views.{latest};
 ghost use Rattle.txn_core.specs.Narrow.{DraftsFit, HaveKeys, IsNarrow, MeetAlone};
 
+use crate::log::{Log, Touched};
 use containers::{Sequence, Text};
 use ion_values::{Key, OutOfMemory};
 use ledger_model::Draft;
@@ -74,12 +76,19 @@ fn copied(alloc: Global, ids: &[DocId]) -> Result<DocIds, OutOfMemory>
 }
 
 /// The ids, and those of the documents that pend.
-fn with_pending(ids: DocIds, log: &[Draft]) -> Result<DocIds, OutOfMemory>
-    ensures { IfOk result (λ all. all ≡ ids ++ map (λ d. d.id) log.now) }
+fn with_pending(ids: DocIds, log: &Log) -> Result<DocIds, OutOfMemory>
+    ensures { IfOk result (λ all. all ≡ ids ++ map (λ d. d.id) (latest log.now)) }
+{
+    let more = with_touched(ids, log.touched())?;
+    Ok(more)
+}
+
+fn with_touched(ids: DocIds, touched: &[Touched]) -> Result<DocIds, OutOfMemory>
+    ensures { IfOk result (λ all. all ≡ ids ++ map (λ t. t.id) touched.now) }
 {
     let mut all = ids;
-    'log: for draft in log {
-        all.push(draft.id)?;
+    'touched: for document in touched {
+        all.push(document.id)?;
     }
     Ok(all)
 }
@@ -88,7 +97,7 @@ fn with_pending(ids: DocIds, log: &[Draft]) -> Result<DocIds, OutOfMemory>
 pub(crate) fn narrowed(
     alloc: Global,
     base: &Versions,
-    log: &[Draft],
+    log: &Log,
     table: TableId,
     probe: &Probe,
 ) -> Result<Option<DocIds>, OutOfMemory>

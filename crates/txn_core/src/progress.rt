@@ -4,6 +4,7 @@ ghost use Rattle.std.specs.Vec.{vec_len, vec_capacity};
 ghost use Rattle.ledger_model.specs.Run.{start};
 ghost use Rattle.txn_core.specs.Effects.{progress_of};
 
+use crate::log::Log;
 use ion_values::OutOfMemory;
 use ledger_model::{Draft, Item, Said, Schema};
 use std::alloc::Global;
@@ -14,7 +15,7 @@ use std::alloc::Global;
 pub(crate) struct Progress {
     pub said: Vec<Said>,
     pub schema: Vec<Schema>,
-    pub log: Vec<Draft>,
+    pub log: Log,
     pub made: u32,
     pub footprint: Vec<Item>,
 }
@@ -27,7 +28,7 @@ impl Progress {
         Progress {
             said: Vec::new(alloc),
             schema: Vec::new(alloc),
-            log: Vec::new(alloc),
+            log: Log::new(alloc),
             made: 0,
             footprint: Vec::new(alloc),
         }
@@ -44,38 +45,31 @@ impl Progress {
     ) -> Result<(), OutOfMemory>
         ensures said { OnOk result (self.new.said.items ≡ self.old.said.items ++ said ∷ []) }
         ensures schema { OnOk result (self.new.schema.items ≡ self.old.schema.items ++ schema.items) }
-        ensures log { OnOk result (self.new.log.items ≡ self.old.log.items ++ log.items) }
+        ensures log { OnOk result (self.new.log ≡ self.old.log ++ log.items) }
         ensures made { OnOk result (self.new.made ≡ self.old.made + made) }
         ensures footprint { OnOk result (self.new.footprint.items ≡ self.old.footprint.items ++ footprint.items) }
         ensures same { OnErr result (progress_of self.new ≡ progress_of self.old) }
     {
-        let (mut schema, mut log, mut footprint) = (schema, log, footprint);
+        let (mut schema, mut footprint) = (schema, footprint);
         let sum = self.made.checked_add(made).ok_or(OutOfMemory)?;
-        self.make_room(schema.len(), log.len(), footprint.len())?;
+        self.make_room(schema.len(), footprint.len())?;
+        self.log.append(log)?;
         self.said.push_reserved(said);
         self.schema.append(&mut schema).unwrap();
-        self.log.append(&mut log).unwrap();
         self.footprint.append(&mut footprint).unwrap();
         self.made = sum;
         Ok(())
     }
 
-    /// Makes room for one statement more, and for its changes, revisions and items.
-    fn make_room(
-        &mut self,
-        changes: usize,
-        revisions: usize,
-        items: usize,
-    ) -> Result<(), OutOfMemory>
+    /// Makes room for one statement more, and for its changes and items.
+    fn make_room(&mut self, changes: usize, items: usize) -> Result<(), OutOfMemory>
         ensures same { progress_of self.new ≡ progress_of self.old }
         ensures said { OnOk result (vec_len self.new.said + 1 ≤ vec_capacity self.new.said) }
         ensures schema { OnOk result (vec_len self.new.schema + changes ≤ vec_capacity self.new.schema) }
-        ensures log { OnOk result (vec_len self.new.log + revisions ≤ vec_capacity self.new.log) }
         ensures footprint { OnOk result (vec_len self.new.footprint + items ≤ vec_capacity self.new.footprint) }
     {
         self.said.reserve(1)?;
         self.schema.reserve(changes)?;
-        self.log.reserve(revisions)?;
         self.footprint.reserve(items)?;
         Ok(())
     }

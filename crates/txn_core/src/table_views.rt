@@ -4,11 +4,11 @@ ghost use Rattle.pql_model.specs.Tables.{meeting};
 ghost use Rattle.ledger_model.specs.State.{draft_of};
 ghost use Rattle.ledger_model.specs.Views.{user_view};
 
+use crate::log::Log;
 use crate::narrow::narrowed;
 use crate::views::latest_read;
 use containers::{Sequence, Text};
 use ion_values::OutOfMemory;
-use ledger_model::Draft;
 use pql_model::{Probe, Rows, Tables, View};
 use ql_types::TableId;
 use std::alloc::Global;
@@ -21,12 +21,12 @@ use view_rows::{user_rows, view_rows};
 pub struct TableViews<'a> {
     tables: &'a [Table],
     base: &'a Versions,
-    log: &'a [Draft],
+    log: &'a Log,
 }
 
 impl<'a> TableViews<'a> {
     /// The views of these tables, over the version and the pending revisions. It takes no memory.
-    pub fn new(tables: &'a [Table], base: &'a Versions, log: &'a [Draft]) -> TableViews<'a>
+    pub fn new(tables: &'a [Table], base: &'a Versions, log: &'a Log) -> TableViews<'a>
         ensures tables { result.tables.now ≡ tables.now }
         ensures base { result.base.now ≡ base.now }
         ensures log { result.log.now ≡ log.now }
@@ -70,7 +70,7 @@ impl Tables for TableViews<'_> {
 fn rows_pending(
     alloc: Global,
     base: &Versions,
-    log: &[Draft],
+    log: &Log,
     table: TableId,
     probe: &Probe,
 ) -> Result<Rows, OutOfMemory>

@@ -13,6 +13,7 @@ ghost use Rattle.txn_core.specs.Writes.{Stands, Touches, again_by, has_room_in, 
 use crate::answers::named_id;
 use crate::effect::Effect;
 use crate::limits::MOST_TOUCHED;
+use crate::log::Log;
 use crate::transaction::Txn;
 use indexmap::IndexMap;
 use ion_values::OutOfMemory;
@@ -86,11 +87,20 @@ fn is_kept(content: &Content) -> bool
 }
 
 /// The documents that the pending revisions are of.
-fn marks_of(alloc: Global, log: &[Draft]) -> Result<Marks, OutOfMemory>
+#[tactic(auto, using(crate::proofs::Touched::marks_newest))]
+fn marks_of(alloc: Global, log: &Log) -> Result<Marks, OutOfMemory>
     ensures { IfOk result (λ marks. marks.entries ≡ marks_of log.now) }
 {
+    let newest = log.newest(alloc)?;
+    let marks = marks_lent(alloc, newest.as_slice())?;
+    Ok(marks)
+}
+
+fn marks_lent(alloc: Global, newest: &[&Draft]) -> Result<Marks, OutOfMemory>
+    ensures { IfOk result (λ marks. marks.entries ≡ marks_of (map (λ d. d.now) newest.now)) }
+{
     let mut marks = IndexMap::new(alloc);
-    'drafts: for draft in log {
+    'drafts: for draft in newest {
         marks.insert(draft.id.raw, mark_of(draft))?;
     }
     Ok(marks)
@@ -103,7 +113,7 @@ impl Txn {
         ensures nothing { IfOk result (λ now. effect_of now.effect ≡ nothing) }
     {
         let tables = self.tables_now(alloc)?;
-        let marks = marks_of(alloc, self.done.log.as_slice())?;
+        let marks = marks_of(alloc, &self.done.log)?;
         let effect = Effect::new(alloc);
         Ok(Touching {
             tables,

@@ -159,7 +159,7 @@ impl Txn {
             log,
             ..
         } = done;
-        let drafts = left_of(alloc, log)?;
+        let drafts = left_of(alloc, log.into_vec())?;
         Ok(Finished {
             mask,
             number,

@@ -8,6 +8,7 @@ ghost use Rattle.txn_core.specs.Seen.{place_in};
 ghost use Rattle.versions.specs.Lookups.{those_among};
 ghost use Rattle.view_rows.specs.Seen.{drafts_seen, draft_seen};
 
+use crate::log::Log;
 use containers::Sequence;
 use ion_values::OutOfMemory;
 use ledger_model::{Content, Draft, Drafts};
@@ -52,34 +53,55 @@ fn put_all<'a>(documents: &mut Sequence<Seen<'a>>, log: &'a [Draft]) -> Result<(
     Ok(())
 }
 
-/// How many documents the revisions are of, those of the second list counted.
-pub(crate) fn count_touched(
+/// Puts revisions in that are lent one by one, one after another.
+fn put_lent<'a>(documents: &mut Sequence<Seen<'a>>, newest: &[&'a Draft]) -> Result<(), OutOfMemory>
+    ensures { OnOk result (drafts_seen documents.new
+        ≡ latest_from (drafts_seen documents.old) (map (λ d. d.now) newest.now)) }
+{
+    'newest: for draft in newest {
+        put(documents, pending(draft))?;
+    }
+    Ok(())
+}
+
+/// Puts pending revisions in, one after another, of each document the last one alone.
+fn put_log<'a>(
     alloc: Global,
-    log: &[Draft],
-    more: &[Draft],
-) -> Result<usize, OutOfMemory>
+    documents: &mut Sequence<Seen<'a>>,
+    log: &'a Log,
+) -> Result<(), OutOfMemory>
+    ensures { OnOk result (drafts_seen documents.new ≡ latest_from (drafts_seen documents.old) log.now) }
+{
+    let newest = log.newest(alloc)?;
+    put_lent(documents, newest.as_slice())?;
+    Ok(())
+}
+
+/// How many documents the revisions are of, those of the second list counted.
+pub(crate) fn count_touched(alloc: Global, log: &Log, more: &[Draft]) -> Result<usize, OutOfMemory>
     ensures { IfOk result (λ count. count ≡ length (latest (log.now ++ more.now))) }
 {
     let mut documents = Sequence::new(alloc);
-    put_all(&mut documents, log)?;
+    put_log(alloc, &mut documents, log)?;
     put_all(&mut documents, more)?;
     Ok(documents.len())
 }
 
 /// The documents, each with its latest revision, in order of first insertion: those of the version under the pending
 /// revisions.
-/// It looks through the documents for each pending revision.
+///
+/// It looks through the documents for each one that pends.
 #[tactic(auto, using(crate::proofs::Overlaid::latest_both))]
 pub(crate) fn latest_over<'a>(
     alloc: Global,
     base: &'a Versions,
-    log: &'a [Draft],
+    log: &'a Log,
 ) -> Result<Sequence<Seen<'a>>, OutOfMemory>
     ensures { IfOk result (λ documents. drafts_seen documents ≡ latest (map draft_of base.now.revisions ++ log.now)) }
 {
     let recorded = base.newest(alloc)?;
     let mut documents = all_committed(alloc, recorded.as_slice())?;
-    put_all(&mut documents, log)?;
+    put_log(alloc, &mut documents, log)?;
     Ok(documents)
 }
 
@@ -88,7 +110,7 @@ fn latest_among<'a>(
     alloc: Global,
     base: &'a Versions,
     ids: &[DocId],
-    log: &'a [Draft],
+    log: &'a Log,
 ) -> Result<Sequence<Seen<'a>>, OutOfMemory>
     requires { AllAmong ids.now log.now }
     ensures { IfOk result (λ documents. drafts_seen documents ≡
@@ -96,7 +118,7 @@ fn latest_among<'a>(
 {
     let recorded = base.newest_among(alloc, ids)?;
     let mut documents = all_committed(alloc, recorded.as_slice())?;
-    put_all(&mut documents, log)?;
+    put_log(alloc, &mut documents, log)?;
     Ok(documents)
 }
 
@@ -105,7 +127,7 @@ pub(crate) fn latest_read<'a>(
     alloc: Global,
     base: &'a Versions,
     read: &Option<DocIds>,
-    log: &'a [Draft],
+    log: &'a Log,
 ) -> Result<Sequence<Seen<'a>>, OutOfMemory>
     requires { PendAmong read.now log.now }
     ensures { IfOk result (λ documents. drafts_seen documents ≡
