@@ -1,6 +1,5 @@
-use Rattle.std.proofs.Common.{◌≡◌, Some, None, List, Option, ℕ, sym, ap, ◌∙◌}
+use Rattle.std.proofs.Common.{◌≡◌, Some, None, Option, ℕ, sym, ap, ◌∙◌}
 use Rattle.std.proofs.lemmas.Result.{on_ok_weaker}
-use Rattle.txn_core.specs.declared.log.Touched.{Touched}
 use Rattle.txn_core.specs.Logs.{place_touched, put_at}
 use Rattle.txn_core.proofs.Logged.{touched_within}
 use Rattle.txn_core.proofs.log.put.Goals as goal

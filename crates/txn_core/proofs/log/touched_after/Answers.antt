@@ -1,6 +1,5 @@
-use Rattle.std.proofs.Common.{◌≡◌, ◌≤◌, ◌+◌, ◌++◌, length, take, ap, sym, subst, ◌∙◌, refl, append-nil, arith}
+use Rattle.std.proofs.Common.{◌≤◌, length, subst, arith}
 use Rattle.std.proofs.lemmas.List.{take_all}
-use Rattle.txn_core.specs.Logs.{AreTouched}
 use Rattle.txn_core.proofs.Logged.{AreAfter, after_next}
 use Rattle.txn_core.proofs.log.touched_after.Goals as goal
 

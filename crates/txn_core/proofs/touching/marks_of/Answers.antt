@@ -1,5 +1,4 @@
 use Rattle.std.proofs.Common.{map, ap, ◌∙◌}
-use Rattle.txn_core.specs.Writes.{marks_of}
 use Rattle.txn_core.proofs.Touched.{marks_newest}
 use Rattle.txn_core.proofs.touching.marks_of.Goals as goal
 

@@ -1,5 +1,4 @@
-use Rattle.std.proofs.Common.{List, map, ap, ◌∙◌}
-use Rattle.ledger_model.specs.declared.block.Draft.{Draft}
+use Rattle.std.proofs.Common.{map, ap, ◌∙◌}
 use Rattle.ledger_model.specs.Views.{latest_from}
 use Rattle.view_rows.specs.Seen.{drafts_seen}
 use Rattle.txn_core.proofs.Logged.{latest_again}
