@@ -1,5 +1,4 @@
 ghost use Rattle.std.specs.Prelude.{◌≡◌};
-ghost use Rattle.std.specs.Map.{keys_of};
 ghost use Rattle.index_post.specs.Positions.{left_of};
 ghost use Rattle.std.specs.Iterator.{YieldsFirst, item_count};
 
@@ -26,13 +25,6 @@ impl<'a> Positions<'a> {
         ensures { result ≡ left_of pairs.entry }
     {
         Positions { pairs }
-    }
-
-    /// The positions that lead to something, in ascending order. It takes no memory.
-    pub fn of_pairs(pairs: Range<'a, u64, u64>) -> Positions<'a>
-        ensures { result ≡ keys_of pairs.entry }
-    {
-        Positions { pairs: Some(pairs) }
     }
 }
 

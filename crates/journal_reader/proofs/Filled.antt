@@ -6,7 +6,7 @@ use Rattle.std.proofs.lemmas.List.{drop-drop}
 use Rattle.outside.specs.Store.{Content, ReadsAt}
 use borrow.Rule.Slice.PartMut.{put_mid, post_of}
 
--- the piece begins with so many of the bytes from this place on
+-- the piece begins with `filled` of the bytes from `place` on
 pub record IsFilled (held : List ℕ) (place : ℕ) (piece : List ℕ) (filled : ℕ) : Type 0 where
   pub front : take filled piece ≡ take filled (drop place held)
   pub within : filled ≤ length held - place

@@ -111,7 +111,8 @@ impl<S: JournalStore, C: Clock> Ledger<S, C> {
         self.commit_with(rt, alloc, pass, txn, Some(digest))
     }
 
-    /// Commits with the digest that is sent, if one is. What hangs on no earlier block is made before the turn is taken.
+    /// Commits with the digest that is sent, if one is. What hangs on no earlier block is made before the
+    /// turn is taken.
     pub(crate) fn commit_with<R: Wait>(
         &self,
         rt: &R,

@@ -69,7 +69,7 @@ touched-more log ts t d own at are =
 
 -- ---- one revision after another
 
--- the places after more revisions, where there were so many
+-- the places after more revisions, where there were `count`
 abbrev pub AreAfter : ℕ → List Touched → List Draft → List Touched → Type 0
 AreAfter count before more after = (log : List Draft) → length log ≡ count → AreTouched log before → AreTouched (log ++ more) after
 

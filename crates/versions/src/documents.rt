@@ -64,7 +64,7 @@ impl Documents {
         }
     }
 
-    /// The same once more.
+    /// These documents once more. One more owner of them may be refused.
     pub(crate) fn share(&self) -> Result<Documents, OutOfMemory>
         ensures { IfOk result (λ same. same ≡ self.now) }
     {

@@ -53,7 +53,7 @@ impl<T: Drop> Kept<T> {
         })
     }
 
-    /// The same list once more.
+    /// This list once more. One more owner of it may be refused.
     pub(crate) fn share(&self) -> Result<Kept<T>, OutOfMemory>
         ensures { IfOk result (λ same. same ≡ self.now) }
     {

@@ -66,7 +66,7 @@ impl Latest {
         }
     }
 
-    /// The same once more.
+    /// This list once more. One more owner of it may be refused.
     pub(crate) fn share(&self) -> Result<Latest, OutOfMemory>
         ensures { IfOk result (λ same. same ≡ self.now) }
     {

@@ -74,7 +74,7 @@ impl Shelf {
         }
     }
 
-    /// The same once more.
+    /// This shelf once more. One more owner of it may be refused.
     pub(crate) fn share(&self) -> Result<Shelf, OutOfMemory>
         ensures { IfOk result (λ same. same ≡ self.now) }
     {
