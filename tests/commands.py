@@ -58,6 +58,8 @@ CONTENDED = "\n".join(
     '{statements:["UPDATE t SET a = a + 1 WHERE a = %d"],retries:100}]' % (session, session)
     for session in range(9)
 )
+# what there is no proof of for the tip 2 of four blocks, of which the third one has one revision: a block, an index, and why
+EARLIER = [(1, 0, "NoSuchRevision,index:0,count:0"), (2, 1, "NoSuchRevision,index:1,count:1"), (4, 0, "NoSuchBlock,sequence:4,blocks:4")]
 WORKERS = [["run", "--workers", "1"], ["run", "--workers", "3"], ["run"], ["run", "--workers", "64"]]
 
 
@@ -69,8 +71,18 @@ def check(holds, what):
 class Texts:
     """The texts that have names."""
 
-    def __init__(self):
+    def __init__(self, lines=()):
         self.named = {"LINE_FEED": "\n"}
+        for line in lines:
+            self.take(line)
+
+    def take(self, line):
+        """Whether the line gives a text its name."""
+        word, _, rest = line.partition(" ")
+        if word == "let":
+            name, _, text = rest.partition(" = ")
+            self.named[name] = self.spelled(text)
+        return word == "let"
 
     def spelled(self, told):
         """The text in which each part between two `@` names another one."""
@@ -183,10 +195,9 @@ def all_rows(program, texts, lines):
     held, rules = [], ""
     for line in lines:
         word, _, rest = line.partition(" ")
-        if word == "let":
-            name, _, text = rest.partition(" = ")
-            texts.named[name] = texts.spelled(text)
-        elif word == "rules":
+        if texts.take(line):
+            continue
+        if word == "rules":
             rules = rest
         elif line.startswith("denied|"):
             held.append(is_denied(program, rules, line))
@@ -205,6 +216,18 @@ def registered(program, texts):
     _, digest = program.run("registered", ["digest"])
     check(status == 0 and digest and bundle.startswith(digest), "the proof of a change begins with the digest")
     check(program.run("none", ["verify"], bundle) == (0, b"{verified:true}\n"), "the proof of a change is accepted")
+
+
+def earlier(program, texts):
+    """With a block more, the proofs for the tip before it are those of the journal without it, and so are the refusals."""
+    for blocks, bundle, last in [("ONE_BLOCK", "ONE_BUNDLE", 0), ("THREE_BLOCKS", "THREE_BUNDLE", 2)]:
+        program.put("earlier", texts.named[blocks].encode())
+        check(program.run("earlier", RUN, b"[{statements:[]}]")[0] == 0, f"a block behind {blocks}")
+        told = program.run("earlier", ["prove", str(last), "0", "--tip", str(last)])
+        check(told == (0, texts.named[bundle].encode()), f"the proof behind {blocks}: {told}")
+    for sequence, index, kind in EARLIER:
+        told = program.run("earlier", ["prove", str(sequence), str(index), "--tip", "2"])
+        check(told == (2, b"{status:2,fault:{kind:%s}}\n" % kind.encode()), f"revision {index} of block {sequence}: {told}")
 
 
 def contended(program):
@@ -229,16 +252,23 @@ def cuts(program, texts):
         check(program.run("cut", RUN) == (0, b"") and program.left("cut") == two, f"{end} bytes are cut")
 
 
-def main():
+def lines_of_rows():
+    """The lines of tests/commands.txt."""
     with open(os.path.join(HERE, "commands.txt"), encoding="utf-8") as file:
-        lines = file.read().splitlines()
+        return file.read().splitlines()
+
+
+def main():
+    lines = lines_of_rows()
     with tempfile.TemporaryDirectory() as folder:
         program, texts = Program(os.path.abspath(sys.argv[1] if len(sys.argv) > 1 else PROGRAM), folder), Texts()
         count = all_rows(program, texts, lines)
         registered(program, texts)
+        earlier(program, texts)
         contended(program)
         cuts(program, texts)
     print(f"{count} rows of commands, and what they leave: all as they should be")
 
 
-main()
+if __name__ == "__main__":
+    main()

@@ -16,7 +16,7 @@ from ledger import Statement, Transaction, ion
 from ledger.hashing import commit_digest, dot, hash_value, root
 from ledger.ion import IonError, Symbol, Timestamp
 
-MADE_DIGESTS = os.path.join(ROOT, "crates", "test_session_driver", "vectors", "make.py")
+MADE_DIGESTS = os.path.join(ROOT, "crates", "test_workers", "vectors", "make.py")
 REFUSED = [  # the text, the place of its first fault, and its kind
     (b"\xff", 0, "NotUtf8"), (b'"\xc3\xa9" \xc3\xa9', 5, "BadToken"), ("[1, 2e0]", 4, "FloatRefused"), ("(+inf)", 1, "FloatRefused"),
     ("nan", 0, "FloatRefused"), ("null.float", 0, "FloatRefused"), ("$10", 0, "SymbolIdRefused"),

@@ -1,3 +1,4 @@
+pub mod OfContents
 pub mod Documents
 pub mod Counted
 pub mod Tables

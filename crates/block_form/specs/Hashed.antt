@@ -6,19 +6,23 @@ use Rattle.hash_model.specs.Serialize.{field_hash, hash_of, struct_hash}
 use Rattle.ion_values.specs.declared.value.Value.{Value}
 use Rattle.ion_values.specs.declared.value.Field.{Field}
 use Rattle.ql_types.specs.declared.Hash32.{Hash32}
+use Rattle.hash_model.specs.PairHash.{dot32}
+use Rattle.ledger_model.specs.declared.block.Content.{Content}
+use Rattle.ledger_model.specs.declared.block.Content.TheVariants.{Deleted, Kept, Redacted}
 use Rattle.ledger_model.specs.declared.block.Revision.{Revision}
 use Rattle.ledger_model.specs.declared.block.Said.{Said}
 use Rattle.ledger_model.specs.declared.block.Told.{Told}
 use Rattle.ledger_model.specs.declared.block.Told.TheVariants as told
 use Rattle.ledger_model.specs.declared.block.Block.{Block}
-use Rattle.ledger_model.specs.Values.{list_in, fields_in}
+use Rattle.ledger_model.specs.Values.{field, list_in, fields_in}
 use Rattle.ledger_model.specs.Script.{and_then, each}
-use Rattle.ledger_model.specs.Journal.{metadata_value, told_field, block_value}
+use Rattle.ledger_model.specs.Journal.{metadata_value, hash_value, told_field, block_value}
 use Rattle.ledger_model.specs.Seals.{info_hash, told_hash}
 use Rattle.ledger_model.specs.Whole.{IsWhole}
 use Rattle.ledger_model.specs.Damages as damages
 use Rattle.block_form.specs.declared.part_hashes.PartHashes.{PartHashes}
 use Rattle.block_form.specs.declared.checked.CheckedBlock.{CheckedBlock}
+use Rattle.block_form.specs.declared.contents.HashedContent.{HashedContent}
 use Rattle.block_form.specs.declared.told.HashedField.{HashedField}
 use Rattle.value_codec.specs.ReadParts.{hash_in}
 use Rattle.block_form.specs.ReadBack.{IsReadAs}
@@ -30,6 +34,27 @@ metadata_hash r = hash_of (metadata_value r.metadata)
 
 abbrev pub part_hashes : Block → PartHashes
 part_hashes b = record { said = info_hash b.info b.revisions; metadata = map metadata_hash b.revisions }
+
+-- the field of a revision's data, or of the hash that stands for them; a delete has none
+abbrev pub data_field : Content → Option Field
+data_field Deleted = None
+data_field (Kept v) = Some (field (codes "data") v)
+data_field (Redacted hash) = Some (field (codes "dataHash") (hash_value hash))
+
+-- the hash of the data, or the one that stands for them
+abbrev pub data_hash : Content → Option Hash32
+data_hash Deleted = None
+data_hash (Kept v) = Some (hash_of v)
+data_hash (Redacted hash) = Some hash
+
+-- what a revision's value has of this content, with its hash
+abbrev pub hashed_content : Content → HashedContent
+hashed_content c = record { field = data_field c; hash = data_hash c }
+
+-- a revision's hash, by that of its metadata and that of its data
+abbrev pub joined_hash : Hash32 → Option Hash32 → Hash32
+joined_hash metadata None = metadata
+joined_hash metadata (Some content) = dot32 metadata content
 
 -- the field of what it tells of its statements, with its hash or the one that stands in its place
 abbrev pub hashed_told : Told → HashedField

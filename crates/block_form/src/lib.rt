@@ -2,6 +2,7 @@
 #![tactic(auto)]
 
 mod checked;
+mod contents;
 mod hash_checks;
 mod part_hashes;
 mod read_blocks;
@@ -14,6 +15,7 @@ mod told;
 mod values;
 
 pub use checked::{CheckedBlock, checked_from_ion};
+pub use contents::{HashedContent, hash_content};
 pub use read_blocks::{from_ion, header_with, is_shallow, values_tell_blocks};
 pub use read_info::place_in;
 pub use read_revisions::revision_in;

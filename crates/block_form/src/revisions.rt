@@ -1,10 +1,13 @@
 //! Revisions as values.
-ghost use Rattle.std.specs.Prelude.{◌≡◌, ◌++◌, map, IfOk, OnOk};
-ghost use Rattle.ledger_model.specs.Journal.{metadata_value, data_fields, revision_value};
+ghost use Rattle.std.specs.Prelude.{◌≡◌, [], ◌++◌, map, IfOk, OnOk};
+ghost use Rattle.std.specs.List.{cons_option};
+ghost use Rattle.ledger_model.specs.Journal.{metadata_value, revision_value};
+ghost use Rattle.block_form.specs.Hashed.{data_field};
 
+use crate::contents::data_field;
 use containers::Sequence;
-use ion_values::{Fields, OutOfMemory, Value, Values, copy};
-use ledger_model::{Content, Metadata, Revision};
+use ion_values::{Field, Fields, OutOfMemory, Value, Values};
+use ledger_model::{Metadata, Revision};
 use std::alloc::Global;
 use value_codec::parts::{address_value, hash_value, id_value, moment, number, put, structure};
 
@@ -30,14 +33,16 @@ pub fn metadata_value(alloc: Global, metadata: &Metadata) -> Result<Value, OutOf
     Ok(structure(alloc, fields))
 }
 
-/// Puts the field `data`, which a delete has not, or `dataHash` where the data's hash stands for them.
-fn put_data(alloc: Global, fields: &mut Fields, content: &Content) -> Result<(), OutOfMemory>
-    ensures { OnOk result (fields.new ≡ fields.old ++ data_fields content.now) }
+/// Puts the field, if there is one.
+fn put_some(fields: &mut Fields, field: Option<Field>) -> Result<(), OutOfMemory>
+    ensures { OnOk result (fields.new ≡ fields.old ++ cons_option field []) }
 {
-    match content {
-        Content::Deleted => Ok(()),
-        Content::Kept(value) => put(alloc, fields, "data", copy(alloc, value)?),
-        Content::Redacted(hash) => put(alloc, fields, "dataHash", hash_value(alloc, hash)?),
+    match field {
+        None => Ok(()),
+        Some(field) => {
+            fields.push(field)?;
+            Ok(())
+        }
     }
 }
 
@@ -45,18 +50,21 @@ fn put_data(alloc: Global, fields: &mut Fields, content: &Content) -> Result<(),
 pub fn revision_value(alloc: Global, revision: &Revision) -> Result<Value, OutOfMemory>
     ensures { IfOk result (λ v. v ≡ revision_value revision.now) }
 {
+    let field = data_field(alloc, &revision.content)?;
     let metadata = metadata_value(alloc, &revision.metadata)?;
-    let value = revision_with(alloc, revision, metadata)?;
+    let value = revision_with(alloc, revision, field, metadata)?;
     Ok(value)
 }
 
-/// The revision as a value, of the value of its metadata.
+/// The revision as a value, of the field of its data and the value of its metadata.
 pub(crate) fn revision_with(
     alloc: Global,
     revision: &Revision,
+    field: Option<Field>,
     metadata: Value,
 ) -> Result<Value, OutOfMemory>
-    requires { metadata ≡ metadata_value revision.now.metadata }
+    requires field { field ≡ data_field revision.now.content }
+    requires metadata { metadata ≡ metadata_value revision.now.metadata }
     ensures { IfOk result (λ v. v ≡ revision_value revision.now) }
 {
     let mut fields = Sequence::new(alloc);
@@ -72,7 +80,7 @@ pub(crate) fn revision_with(
         "hash",
         hash_value(alloc, &revision.hash)?,
     )?;
-    put_data(alloc, &mut fields, &revision.content)?;
+    put_some(&mut fields, field)?;
     put(alloc, &mut fields, "metadata", metadata)?;
     Ok(structure(alloc, fields))
 }

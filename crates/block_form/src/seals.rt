@@ -5,6 +5,7 @@ ghost use Rattle.ledger_model.specs.Journal.{block_value, header_value, info_fie
 ghost use Rattle.ledger_model.specs.Seals.{revision_hash, entries_hash, info_hash, info_hashes, revisions_root, sealed, strand_hash};
 ghost use Rattle.block_form.specs.Hashed as spec;
 
+use crate::contents::{HashedContent, data_hash, joined_hash};
 use crate::revisions::{metadata_value, revision_with};
 use crate::said::info_fields;
 use crate::told::{HashedField, hash_told};
@@ -28,35 +29,21 @@ pub fn revision_hash(
 ) -> Result<Hash32, OutOfMemory>
     ensures { IfOk result (λ h. h ≡ revision_hash content.now metadata.now) }
 {
-    let (hash, _value) = hash_and_value(alloc, content, metadata)?;
-    Ok(hash)
+    let metadata = hash(alloc, &metadata_value(alloc, metadata)?)?;
+    let data = data_hash(alloc, content)?;
+    Ok(joined_hash(&metadata, &data))
 }
 
-/// The hash of a revision, and the value of its metadata.
-fn hash_and_value(
-    alloc: Global,
-    content: &Content,
-    metadata: &Metadata,
-) -> Result<(Hash32, Value), OutOfMemory>
-    ensures hash { IfOk result (λ made. made.0 ≡ revision_hash content.now metadata.now) }
-    ensures value { IfOk result (λ made. made.1 ≡ metadata_value metadata.now) }
-{
-    let value = metadata_value(alloc, metadata)?;
-    let metadata = hash(alloc, &value)?;
-    match content {
-        Content::Deleted => Ok((metadata, value)),
-        Content::Kept(data) => Ok((dot_full(&metadata, &hash(alloc, data)?), value)),
-        Content::Redacted(data) => Ok((dot_full(&metadata, data), value)),
-    }
-}
-
-/// The revision of these parts, with its hash, and its value. The value of the metadata is built once for both.
+/// The revision of these parts, with its hash, and its value. `hashed` is what the value has of the content. The value
+/// of the metadata is built once for both.
 pub fn seal_revision(
     alloc: Global,
     address: BlockAddress,
     content: Content,
+    hashed: HashedContent,
     metadata: Metadata,
 ) -> Result<(Revision, Value), OutOfMemory>
+    requires { hashed ≡ spec.hashed_content content }
     ensures revision { IfOk result (λ made. made.0 ≡ record {
       address = address;
       hash = revision_hash content metadata;
@@ -65,14 +52,15 @@ pub fn seal_revision(
     }) }
     ensures value { IfOk result (λ made. made.1 ≡ revision_value made.0) }
 {
-    let (hash, told) = hash_and_value(alloc, &content, &metadata)?;
+    let HashedContent { field, hash: data } = hashed;
+    let told = metadata_value(alloc, &metadata)?;
     let revision = Revision {
         address,
-        hash,
+        hash: joined_hash(&hash(alloc, &told)?, &data),
         content,
         metadata,
     };
-    let value = revision_with(alloc, &revision, told)?;
+    let value = revision_with(alloc, &revision, field, told)?;
     Ok((revision, value))
 }
 

@@ -22,7 +22,7 @@ pub struct HashedField {
 }
 
 /// A field of this name.
-fn field(alloc: Global, name: &str, value: Value) -> Result<Field, OutOfMemory>
+pub(crate) fn field(alloc: Global, name: &str, value: Value) -> Result<Field, OutOfMemory>
     ensures { IfOk result (λ f. f ≡ field name.now value) }
 {
     let name = Text::from_text(alloc, name)?;

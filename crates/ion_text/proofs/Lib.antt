@@ -1,4 +1,6 @@
 pub mod Passed
+pub mod Compared
+pub mod Grouped
 pub mod Escaped
 pub mod WrittenTexts
 pub mod WrittenSymbols

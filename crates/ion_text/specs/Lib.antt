@@ -1,3 +1,4 @@
+pub mod Comparing
 pub mod Escapes
 pub mod RoundTrip
 pub mod Stream

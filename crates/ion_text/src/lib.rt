@@ -8,4 +8,4 @@ mod writing;
 pub use ion_values::{IonFault, IonKind};
 pub use laws::{read_is_within, written_is_read};
 pub use stream::{ReadFault, Reader, Refused, read_stream};
-pub use writing::write;
+pub use writing::{is_text_of, write};

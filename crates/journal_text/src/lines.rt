@@ -1,11 +1,10 @@
 //! One line of a journal, read back.
-ghost use Rattle.std.specs.Prelude.{◌≡◌, ◌≢◌, [], ◌∷◌, ◌++◌, IfOk, IsTrue, ◌↔◌, MatchOption};
+ghost use Rattle.std.specs.Prelude.{◌≡◌, ◌≢◌, [], ◌∷◌, ◌++◌, IfOk, MatchOption};
 ghost use Rattle.ion_values.specs.declared.value.Value.{Value};
-ghost use Rattle.ion_model.specs.Write.{value_text};
 ghost use Rattle.journal_text.specs.Lines.{GivesOne, IsLineRead};
 
 use block_form::{CheckedBlock, checked_from_ion};
-use ion_text::{ReadFault, read_is_within, read_stream, write, written_is_read};
+use ion_text::{ReadFault, is_text_of, read_is_within, read_stream, written_is_read};
 use ion_values::{OutOfMemory, Value, Values};
 use std::alloc::Global;
 
@@ -34,14 +33,6 @@ fn only_value(alloc: Global, text: &[u8]) -> Result<Option<Value>, OutOfMemory>
     }
 }
 
-/// Whether this is the text that is written of the value.
-fn is_written(alloc: Global, value: &Value, text: &[u8]) -> Result<bool, OutOfMemory>
-    ensures { IfOk result (λ b. IsTrue b ↔ (text.now ≡ value_text value.now)) }
-{
-    let written = write(alloc, value)?;
-    Ok(written.as_str().as_bytes() == text)
-}
-
 /// The whole block whose line this text is, with a line feed behind it, and whether its hashes hold. None comes exactly
 /// where it is that of no whole block.
 pub(crate) fn block_of(alloc: Global, text: &[u8]) -> Result<Option<CheckedBlock>, OutOfMemory>
@@ -52,7 +43,7 @@ pub(crate) fn block_of(alloc: Global, text: &[u8]) -> Result<Option<CheckedBlock
     let Some(value) = only_value(alloc, text)? else {
         return Ok(None);
     };
-    if is_written(alloc, &value, text)? {
+    if is_text_of(&value, text) {
         let found = checked_from_ion(alloc, value)?;
         Ok(found)
     } else {

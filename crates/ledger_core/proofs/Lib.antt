@@ -8,6 +8,7 @@ mod Joined
 mod Kept
 pub mod LastBlock
 pub mod Openings
+pub mod OfDrafts
 mod Others
 mod Standings
 mod Steps

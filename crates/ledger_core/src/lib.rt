@@ -4,6 +4,7 @@
 mod appending;
 mod begin;
 mod commit;
+mod hashed_drafts;
 mod laws;
 mod outcomes;
 mod prepared;

@@ -3,10 +3,10 @@ ghost use Rattle.std.specs.Prelude.{◌≡◌, IfOk, IfSome, IsTrue};
 ghost use Rattle.ql_types.specs.Ids.{raw_id};
 ghost use Rattle.ledger_model.specs.Whole.{place_fits};
 ghost use Rattle.laws_validity.specs.Makes.{IsWithinAll};
-ghost use Rattle.block_form.specs.Hashed.{hashed_said};
 ghost use Rattle.txn_core.specs.Effects.{finished_of};
+ghost use Rattle.ledger_core.specs.NextBlock.{hashed_of};
 
-use block_form::{HashedField, hash_said};
+use crate::hashed_drafts::{Hashed, hash_txn};
 use ion_values::OutOfMemory;
 use ledger_model::{Item, Said};
 use ql_types::{Place, TxId};
@@ -15,17 +15,17 @@ use std::marker::Model;
 use txn_core::{Finished, Txn};
 
 /// A transaction that is to be committed. With it comes what its block has wherever that stands: the field of the
-/// statements, with its hash. Contracts see the transaction.
+/// statements, and what the revisions have of their contents, with the hashes. Contracts see the transaction.
 #[derive(Drop)]
 pub struct Prepared {
     txn: Txn,
     /// None if it is still to be made.
-    told: Option<HashedField>,
+    hashed: Option<Hashed>,
 }
 
 impl Model for Prepared {
     ghost use Rattle.std.specs.Prelude.{◌≡◌, IfSome};
-    ghost use Rattle.block_form.specs.Hashed.{hashed_said};
+    ghost use Rattle.ledger_core.specs.NextBlock.{hashed_of};
     ghost use Rattle.txn_core.specs.Opened.{Opened, opened_code};
 
     ghost Value = { Opened };
@@ -34,16 +34,16 @@ impl Model for Prepared {
 
     ghost view = { λ p. p.txn };
 
-    ghost invariant = { λ p. IfSome p.told (λ made. made ≡ hashed_said p.txn.done.said) };
+    ghost invariant = { λ p. IfSome p.hashed (λ made. made ≡ hashed_of p.txn.done) };
 }
 
 /// The transaction with what can be made of its block before its turn. It changes nothing that the commit returns: if
-/// memory runs out, the rest is made at the commit.
+/// memory runs out, all of it is made at the commit.
 pub fn prepare(alloc: Global, txn: Txn) -> Prepared
     ensures { result ≡ txn }
 {
-    let told = hash_said(alloc, txn.said()).ok();
-    Prepared { txn, told }
+    let hashed = hash_txn(alloc, &txn).ok();
+    Prepared { txn, hashed }
 }
 
 impl Prepared {
@@ -51,7 +51,7 @@ impl Prepared {
     pub(crate) fn unmade(txn: Txn) -> Prepared
         ensures { result ≡ txn }
     {
-        Prepared { txn, told: None }
+        Prepared { txn, hashed: None }
     }
 
     /// The transaction's id.
@@ -98,30 +98,26 @@ impl Prepared {
         self.txn.is_within();
     }
 
-    /// What the transaction becomes a block of, and the field of its statements.
-    pub(crate) fn finish(self, alloc: Global) -> Result<(Finished, HashedField), OutOfMemory>
+    /// What the transaction becomes a block of, and what of it is hashed.
+    pub(crate) fn finish(self, alloc: Global) -> Result<(Finished, Hashed), OutOfMemory>
         ensures finished { IfOk result (λ made. made.0 ≡ finished_of self) }
-        ensures told { IfOk result (λ made. made.1 ≡ hashed_said self.done.said) }
+        ensures hashed { IfOk result (λ made. made.1 ≡ hashed_of self.done) }
     {
-        let Prepared { txn, told } = self;
-        let told = told_of(alloc, told, txn.said())?;
+        let Prepared { txn, hashed } = self;
+        let hashed = hashed_of(alloc, hashed, &txn)?;
         let finished = txn.finish(alloc)?;
-        Ok((finished, told))
+        Ok((finished, hashed))
     }
 }
 
-/// The field of these statements: the one that is made, or else a new one.
-fn told_of(
-    alloc: Global,
-    made: Option<HashedField>,
-    said: &[Said],
-) -> Result<HashedField, OutOfMemory>
-    requires { IfSome made (λ made. made ≡ hashed_said said.now) }
-    ensures { IfOk result (λ made. made ≡ hashed_said said.now) }
+/// What the transaction's block has hashed: what is made, or else new.
+fn hashed_of(alloc: Global, made: Option<Hashed>, txn: &Txn) -> Result<Hashed, OutOfMemory>
+    requires { IfSome made (λ made. made ≡ hashed_of txn.now.done) }
+    ensures { IfOk result (λ made. made ≡ hashed_of txn.now.done) }
 {
     match made {
         Some(made) => Ok(made),
-        None => hash_said(alloc, said),
+        None => hash_txn(alloc, txn),
     }
 }
 

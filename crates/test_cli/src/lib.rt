@@ -1,20 +1,10 @@
-//! Commands on journals in memory whose sources, sinks and stores fail, and workers that wait for each other.
-//! tests/commands.py has commands that end well, or are refused.
+//! Runs on journals in memory at a gate, where workers wait for each other, and at a set clock. tests/commands.py has
+//! commands that end well, or are refused, and tests/store_faults.py those whose calls fail.
 #![tactic(auto)]
 
 #[cfg(test)]
+mod clocks;
+#[cfg(test)]
 mod commands;
 #[cfg(test)]
-mod failing;
-#[cfg(test)]
 mod gates;
-#[cfg(test)]
-mod registration;
-#[cfg(test)]
-mod rows;
-#[cfg(test)]
-mod runs;
-#[cfg(test)]
-mod texts;
-#[cfg(test)]
-mod wanting;

@@ -1,8 +1,14 @@
 //! Blocks: their hashes, and blocks as values.
-ghost use Rattle.std.specs.Prelude.{◌≡◌, true, IfOk};
+ghost use Rattle.std.specs.Prelude.{◌≡◌, true, map, IfOk};
+ghost use Rattle.ledger_model.specs.declared.block.Told.TheVariants as told;
+ghost use Rattle.ledger_model.specs.Journal.{revision_value};
 ghost use Rattle.ledger_model.specs.Seals.{IsSealed};
+ghost use Rattle.block_form.specs.Hashed.{hashed_told};
 
-use block_form::{from_ion, revision_hash, seal, strand_hash, to_ion};
+use block_form::{
+    Telling, Valued, from_ion, hash_content, hash_said, revision_hash, seal, seal_revision,
+    seal_with_value, strand_hash, to_ion,
+};
 use containers::Sequence;
 use ion_text::read_stream;
 use ion_values::{Body, IonTime, Kind, OutOfMemory, Text, Value};
@@ -70,15 +76,17 @@ fn said(alloc: Global) -> Result<SaidList, OutOfMemory> {
     Ok(said)
 }
 
-/// What the transaction said and did: one statement.
-fn info(alloc: Global) -> Result<Info, OutOfMemory> {
+/// What the transaction said and did: these statements.
+fn info(alloc: Global, said: SaidList) -> Result<Info, OutOfMemory>
+    ensures { IfOk result (λ info. info.said ≡ told.Said said) }
+{
     let tables = Sequence::from_slice(alloc, &[TableId { raw: (1 << 24) + 1 }])?;
     Ok(Info {
         place: Place {
             session: 1,
             transaction: 1,
         },
-        said: Told::Said(said(alloc)?),
+        said: Told::Said(said),
         schema: Sequence::new(alloc),
         tables,
     })
@@ -96,13 +104,17 @@ fn header(time: IonTime) -> Header {
     }
 }
 
-fn revision(alloc: Global, header: &Header, content: Content) -> Result<Revision, OutOfMemory> {
-    let metadata = Metadata {
+fn metadata(header: &Header) -> Metadata {
+    Metadata {
         id: DocId { raw: (1 << 24) + 2 },
         version: 0,
         time: header.time,
         tx: header.tx,
-    };
+    }
+}
+
+fn revision(alloc: Global, header: &Header, content: Content) -> Result<Revision, OutOfMemory> {
+    let metadata = metadata(header);
     let hash = revision_hash(alloc, &content, &metadata)?;
     Ok(Revision {
         address: header.address,
@@ -124,7 +136,50 @@ fn block(alloc: Global, time: IonTime, previous: Hash32) -> Result<Block, OutOfM
 {
     let header = header(time);
     let revisions = revisions(alloc, &header, content(alloc))?;
-    seal(alloc, previous, header, info(alloc)?, revisions)
+    let info = info(alloc, said(alloc)?)?;
+    seal(alloc, previous, header, info, revisions)
+}
+
+/// The block's statement, hashed before.
+fn telling(alloc: Global) -> Result<Telling, OutOfMemory>
+    ensures { IfOk result (λ telling. telling.told ≡ hashed_told telling.info.said) }
+{
+    let said = said(alloc)?;
+    let told = hash_said(alloc, said.as_slice())?;
+    let info = info(alloc, said)?;
+    Ok(Telling { info, told })
+}
+
+/// The block's revision, of a content that is hashed before.
+fn valued(alloc: Global, header: &Header, content: Content) -> Result<Valued, OutOfMemory>
+    ensures { IfOk result (λ valued. valued.values ≡ map revision_value valued.revisions) }
+{
+    let hashed = hash_content(alloc, &content)?;
+    let metadata = metadata(header);
+    let (revision, value) = seal_revision(alloc, header.address, content, hashed, metadata)?;
+    let revisions = Sequence::from_vec(vec![in alloc; revision]?);
+    let values = Sequence::from_vec(vec![in alloc; value]?);
+    Ok(Valued { revisions, values })
+}
+
+/// The hash of the block whose parts are hashed before it is sealed.
+fn hash_of_parts(
+    alloc: Global,
+    time: IonTime,
+    previous: Hash32,
+    content: Content,
+) -> Result<Hash32, OutOfMemory> {
+    let header = header(time);
+    let valued = valued(alloc, &header, content)?;
+    let telling = telling(alloc)?;
+    let (block, _value) = seal_with_value(alloc, previous, header, telling, valued)?;
+    Ok(block.hash)
+}
+
+/// That content with the hash of its data in their place.
+fn redacted(alloc: Global) -> Option<Content> {
+    let hashed = hash_content(alloc, &content(alloc)).ok()?;
+    Some(Content::Redacted(hashed.hash?))
 }
 
 #[test]
@@ -137,6 +192,20 @@ fn a_block_has_its_hash(rt: HostRuntime) -> Result<(), Fail> {
     assert!(rt; first.hash.bytes == BLOCK_HASH);
     assert!(rt; has_hash_of_its_list(&first));
     Ok(())
+}
+
+/// Whether the block of parts that are hashed before has its hash, the data standing there or their hash alone.
+fn has_hash_by_parts(alloc: Global) -> Option<bool> {
+    let time = year(alloc)?;
+    let strand = strand_hash(alloc, StrandId { raw: 0 }).ok()?;
+    let kept = hash_of_parts(alloc, time, strand, content(alloc)).ok()?;
+    let stood_for = hash_of_parts(alloc, time, strand, redacted(alloc)?).ok()?;
+    Some(kept.bytes == BLOCK_HASH && stood_for.bytes == BLOCK_HASH)
+}
+
+#[test]
+fn a_block_has_its_hash_by_parts(rt: HostRuntime) {
+    assert!(rt; has_hash_by_parts(rt.alloc()) == Some(true));
 }
 
 /// Whether a value is read as the block.

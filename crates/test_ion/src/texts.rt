@@ -1,7 +1,7 @@
 //! What texts give.
 use ion_lexer::lex_number;
 use ion_model::Lexed;
-use ion_text::{ReadFault, read_stream};
+use ion_text::{ReadFault, is_text_of, read_stream};
 use ion_values::{Body, Field, IonFault, IonKind, OutOfMemory, Text, Value, Values};
 use std::alloc::Global;
 use test_rows::{named, number_in, put_number, put_values, spelled, text_in};
@@ -81,6 +81,13 @@ pub fn put_lexed(given: &Value, out: &mut Text) -> Option<()> {
         Lexed::Refused(kind) => out.push_str(name_of(kind)).ok(),
         _ => out.push_str("not refused").ok(),
     }
+}
+
+/// Puts whether a text is the one that is written of a value.
+pub fn put_is_written(alloc: Global, given: &Value, more: &[Field], out: &mut Text) -> Option<()> {
+    let text = spelled(alloc, named(more, "text")?)?;
+    let is_written = is_text_of(given, text.as_str().as_bytes());
+    out.push_str(if is_written { "yes" } else { "no" }).ok()
 }
 
 /// Puts the bytes of the one blob of a text.

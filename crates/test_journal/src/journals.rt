@@ -9,6 +9,8 @@ use ledger_model::{Block, Blocks, Damage, Outcome};
 use ql_types::TxId;
 use std::alloc::Global;
 use test_rows::{put_number, put_separator};
+use versions::Versions;
+use workload::{summary_text, totals_of};
 
 /// How many blocks the bytes hold and the offset of the rest, where they are read at once.
 fn read(alloc: Global, bytes: &[u8]) -> Result<(u64, u64), JournalFault> {
@@ -126,4 +128,17 @@ pub fn put_answers(alloc: Global, text: &str, out: &mut Text) -> Option<()> {
         block: 0,
     };
     put_line_of(alloc, &blocks, outcome, out)
+}
+
+/// Puts what the journal's history adds up to, without its line feed.
+pub fn put_sums(alloc: Global, text: &str, out: &mut Text) -> Option<()> {
+    let (blocks, _rest) = read_journal(alloc, text.as_bytes()).ok()?;
+    let sums = sums_of(alloc, blocks.as_slice()).ok()?;
+    out.push_str(sums.as_str().trim_end()).ok()
+}
+
+fn sums_of(alloc: Global, blocks: &[Block]) -> Result<Text, OutOfMemory> {
+    let version = Versions::of(alloc, blocks)?;
+    let totals = totals_of(alloc, blocks.len() as u64, &version)?;
+    summary_text(alloc, &totals)
 }

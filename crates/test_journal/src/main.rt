@@ -6,6 +6,7 @@
 //! - `behind`: what it is read as where its `lines` stand behind those of two blocks (two_blocks.rt),
 //! - `kept`: the numbers of its blocks as they are kept,
 //! - `again`: the lines of its blocks,
+//! - `sums`: what the history of its steps adds up to, as `make` tells it of a made workload,
 //! - `answers`: what a report says of the transaction of its first block,
 //! - `script`: the script that a text spells, or its fault,
 //! - `report`: the line of a report, of an outcome, a cause of a refusal, an item of a conflict or a key of an index's value.
@@ -48,6 +49,7 @@ fn put_of_journal(alloc: Global, word: &str, text: &str, out: &mut Text) -> Opti
         "behind" => journals::put_behind(alloc, text, out),
         "kept" => journals::put_numbers(alloc, text, out),
         "again" => journals::put_lines(alloc, text, out),
+        "sums" => journals::put_sums(alloc, text, out),
         "answers" => journals::put_answers(alloc, text, out),
         _ => None,
     }

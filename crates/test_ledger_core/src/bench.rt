@@ -5,7 +5,7 @@ ghost use Rattle.ledger_core.specs.Committing.{IsOpenOn};
 
 use crate::statements::asked_of;
 use crate::stores::store_of;
-use ledger_core::{CommitFault, LoadFault, Receipt, SettleFault, Tail};
+use ledger_core::{CommitFault, LoadFault, Receipt, Tail};
 use ledger_model::Request;
 use outside::{MemoryStore, SetClock};
 use proof_model::Digest;
@@ -119,11 +119,6 @@ impl Bench {
         asked: &[Request],
     ) -> Option<Result<Receipt, CommitFault>> {
         committed(alloc, &mut *self.tail, asked)
-    }
-
-    /// Cuts what is marked to be cut.
-    pub(crate) fn settle(&mut self) -> Result<(), SettleFault> {
-        self.tail.settle()
     }
 
     /// What the journal comes to.

@@ -1,17 +1,12 @@
-//! Paths, seeds, digests and proofs, against rows that a separate program computed.
+//! Paths and roots of trees, the way down one, proofs of no block, and replays from a later block: what only code can
+//! say of proofs and streams. tests/commands.txt, tests/proofs.py and tests/streams.py have the rows that commands tell.
 #![tactic(auto)]
 
 #[cfg(test)]
-mod forged;
+mod descents;
 #[cfg(test)]
 mod grown;
 #[cfg(test)]
-mod issued;
-#[cfg(test)]
-mod malformed;
-#[cfg(test)]
-mod seeds;
+mod replays;
 #[cfg(test)]
 mod trees;
-#[cfg(test)]
-mod verdicts;

@@ -127,3 +127,18 @@ fn performed(alloc: Global, text: &str) -> Option<(usize, usize)> {
 fn a_statement_is_performed(rt: HostRuntime) {
     assert!(rt; performed(rt.alloc(), "CREATE TABLE t") == Some((1, 0)));
 }
+
+/// How many documents a transaction that performed the statement leaves.
+fn left_by(alloc: Global, text: &str) -> Option<usize> {
+    let version = version_of(alloc, "tables 2")?;
+    let mut open = Open::first(alloc, &version)?;
+    open.perform(alloc, text);
+    let left = open.count_left(alloc);
+    open.finish(alloc)?;
+    left
+}
+
+#[test]
+fn an_inserted_document_is_left(rt: HostRuntime) {
+    assert!(rt; left_by(rt.alloc(), "INSERT INTO t1 {}") == Some(1));
+}

@@ -121,6 +121,14 @@ impl Open {
         self.txn.footprint()
     }
 
+    /// How many documents its block would have a revision of.
+    pub(crate) fn count_left(&self, alloc: Global) -> Option<usize> {
+        match self.txn.left(alloc) {
+            Ok(left) => Some(left.len()),
+            Err(_) => None,
+        }
+    }
+
     pub(crate) fn finish(self, alloc: Global) -> Option<Work> {
         let Open { txn } = self;
         finished(alloc, txn)

@@ -1,14 +1,12 @@
-//! Tests of a ledger that several passes share, and of runs on stores that fail. tests/journal_rows.py has runs by
-//! several workers.
+//! Tests of a ledger that several passes share, of commit digests and of the retries of a job. tests/journal_rows.py has
+//! runs by several workers, and tests/store_faults.py those on files that fail.
 #![tactic(auto)]
 
 #[cfg(test)]
-mod faults;
+mod digests;
 #[cfg(test)]
 mod passes;
 #[cfg(test)]
-mod scripts;
-#[cfg(test)]
-mod stores;
+mod retries;
 #[cfg(test)]
 mod tails;

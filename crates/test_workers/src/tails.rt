@@ -4,7 +4,7 @@ use outside::{JournalStore, MemoryStore, SetClock};
 use ql_types::IdMask;
 use std::alloc::Global;
 
-pub(crate) const MASK: IdMask = IdMask { bits: 0 };
+const MASK: IdMask = IdMask { bits: 0 };
 
 /// The tail of an empty store, with a clock that stands at the beginning of 2020 in UTC.
 pub(crate) fn tail_of<S: JournalStore + Drop>(

@@ -3,6 +3,8 @@ pub mod RowsBehind
 pub mod InRange
 pub mod Inserted
 pub mod Joined
+pub mod KeyedRows
+pub mod Layered
 pub mod Logged
 pub mod Narrowing
 pub mod ReadSources

@@ -23,7 +23,7 @@ use Rattle.versions.specs.Live.{AllFit}
 use Rattle.versions.specs.Lookups.{is_among, those_among}
 use Rattle.view_rows.specs.Named.{AreNamed}
 use Rattle.view_rows.proofs.Naming.{among_those, id_named, ids_named, keys_named, named_alone, or-left, or-right, user_id}
-use Rattle.txn_core.specs.Narrow.{AllAmong, DraftsFit, HaveKeys, IsNarrow, MeetAlone, documents_read, rows_standing}
+use Rattle.txn_core.specs.Narrow.{AllAmong, DraftsFit, HaveKeys, IsNarrow, MeetAlone, rows_standing}
 use Rattle.txn_core.proofs.Overlaid.{latest_both}
 
 -- ---- ids that fit
@@ -241,9 +241,8 @@ narrow_rows base log table p ids among alone =
     ap (meeting p) (among_those (row_of table) (user_id table) ids docs)
     ∙ named_alone ids (meets p) (filter_map (row_of table) docs) named
 
-pub rows_narrowed : (base : State) (log : List Draft) (table : TableId) (p : Probe) (read : Option (List DocId)) (documents : List Draft) (rows : List Row)
-    → IsNarrow base log table p read → documents ≡ documents_read read (latest (map draft_of base.revisions ++ log))
-    → rows ≡ meeting p (filter_map (row_of table) documents) → rows ≡ meeting p (user_view table (map draft_of base.revisions) log)
-rows_narrowed base log table p None documents rows narrow are is = is ∙ ap (λ (ds : List Draft). meeting p (filter_map (row_of table) ds)) are
-rows_narrowed base log table p (Some ids) documents rows narrow are is =
-    is ∙ ap (λ (ds : List Draft). meeting p (filter_map (row_of table) ds)) are ∙ narrow_rows base log table p ids narrow.0 narrow.1
+pub documents_narrowed : (base : State) (log : List Draft) (table : TableId) (p : Probe) (ids : List DocId) (documents : List Draft)
+    → IsNarrow base log table p (Some ids) → documents ≡ those_among ids (latest (map draft_of base.revisions ++ log))
+    → meeting p (filter_map (row_of table) documents) ≡ meeting p (user_view table (map draft_of base.revisions) log)
+documents_narrowed base log table p ids documents narrow are =
+    ap (λ (ds : List Draft). meeting p (filter_map (row_of table) ds)) are ∙ narrow_rows base log table p ids narrow.0 narrow.1

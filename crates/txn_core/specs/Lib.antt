@@ -1,5 +1,7 @@
 pub mod Effects
 pub mod Inserts
+pub mod Keyed
+pub mod Layered
 pub mod Logs
 pub mod Narrow
 pub mod Opened

@@ -11,7 +11,7 @@ use Rattle.pql_model.specs.Tables.{meets}
 use Rattle.ledger_model.specs.declared.block.Draft.{Draft}
 use Rattle.ledger_model.specs.State.{State, draft_of}
 use Rattle.ledger_model.specs.Views.{latest, row_of}
-use Rattle.versions.specs.Lookups.{is_among, those_among}
+use Rattle.versions.specs.Lookups.{is_among}
 use Rattle.view_rows.specs.Named.{AreNamed}
 
 -- the rows of a table where nothing pends
@@ -35,10 +35,6 @@ abbrev pub DraftsFit : List Draft → Type 0
 DraftsFit log = AllByRecursion (λ (d : Draft). d.id.raw < 2 ^ 128) log
 
 -- ---- the documents of some ids, or all
-
-abbrev pub documents_read : Option (List DocId) → List Draft → List Draft
-documents_read None documents = documents
-documents_read (Some ids) documents = those_among ids documents
 
 abbrev pub PendAmong : Option (List DocId) → List Draft → Type 0
 PendAmong None log = Unit {0}

@@ -2,18 +2,22 @@
 ghost use Rattle.std.specs.Prelude.{◌≡◌, ◌++◌, map, IfOk};
 ghost use Rattle.pql_model.specs.Tables.{meeting};
 ghost use Rattle.ledger_model.specs.State.{draft_of};
-ghost use Rattle.ledger_model.specs.Views.{user_view};
+ghost use Rattle.ledger_model.specs.Views.{row_of, user_view};
+ghost use Rattle.std.specs.List.{filter_map};
+ghost use Rattle.view_rows.specs.Seen.{drafts_seen};
 
+use crate::keyed::documents_with;
 use crate::log::Log;
 use crate::narrow::narrowed;
-use crate::views::latest_read;
+use crate::one_table::documents_of;
+use crate::views::latest_among;
 use containers::{Sequence, Text};
 use ion_values::OutOfMemory;
 use pql_model::{Probe, Rows, Tables, View};
 use ql_types::TableId;
 use std::alloc::Global;
 use versions::{Table, Versions, active_table};
-use view_rows::{user_rows, view_rows};
+use view_rows::{Seen, user_rows, view_rows};
 
 /// The tables and documents as a transaction has them: all tables, the version that it stands on, and its pending
 /// revisions. Documents that a probe names are looked up.
@@ -77,8 +81,34 @@ fn rows_pending(
     ensures { IfOk result (λ rows.
         rows ≡ meeting probe.now (user_view table (map draft_of base.now.revisions) log.now)) }
 {
-    let read = narrowed(alloc, base, log, table, probe)?;
-    let documents = latest_read(alloc, base, &read, log)?;
+    let documents = documents_asked(alloc, base, log, table, probe)?;
     let rows = user_rows(alloc, documents.as_slice(), table, probe)?;
     Ok(rows)
+}
+
+/// The documents of which some meet the probe, the pending revisions counted.
+fn documents_asked<'a>(
+    alloc: Global,
+    base: &'a Versions,
+    log: &'a Log,
+    table: TableId,
+    probe: &Probe,
+) -> Result<Sequence<Seen<'a>>, OutOfMemory>
+    ensures { IfOk result (λ documents. meeting probe.now (filter_map (row_of table) (drafts_seen documents))
+        ≡ meeting probe.now (user_view table (map draft_of base.now.revisions) log.now)) }
+{
+    if let Some(found) = documents_with(alloc, base, log, table, probe)? {
+        return Ok(found);
+    }
+    let read = narrowed(alloc, base, log, table, probe)?;
+    match read {
+        None => {
+            let documents = documents_of(alloc, base, log, table)?;
+            Ok(documents)
+        }
+        Some(ids) => {
+            let documents = latest_among(alloc, base, ids.as_slice(), log)?;
+            Ok(documents)
+        }
+    }
 }

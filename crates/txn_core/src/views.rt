@@ -3,7 +3,7 @@ ghost use Rattle.std.specs.Prelude.{◌≡◌, ◌++◌, length, map, IfOk, OnOk
 ghost use Rattle.ledger_model.specs.Run.{is_left, left_of};
 ghost use Rattle.ledger_model.specs.State.{draft_of};
 ghost use Rattle.ledger_model.specs.Views.{put, latest, latest_from};
-ghost use Rattle.txn_core.specs.Narrow.{AllAmong, PendAmong, documents_read};
+ghost use Rattle.txn_core.specs.Narrow.{AllAmong};
 ghost use Rattle.txn_core.specs.Seen.{place_in};
 ghost use Rattle.versions.specs.Lookups.{those_among};
 ghost use Rattle.view_rows.specs.Seen.{drafts_seen, draft_seen};
@@ -31,7 +31,10 @@ fn place_of(documents: &[Seen<'_>], id: DocId) -> Option<usize>
 }
 
 /// Puts a revision in the place of its document's earlier one, or at the end.
-fn put<'a>(documents: &mut Sequence<Seen<'a>>, draft: Seen<'a>) -> Result<(), OutOfMemory>
+pub(crate) fn put<'a>(
+    documents: &mut Sequence<Seen<'a>>,
+    draft: Seen<'a>,
+) -> Result<(), OutOfMemory>
     ensures { OnOk result (drafts_seen documents.new ≡ put (drafts_seen documents.old) (draft_seen draft.entry)) }
 {
     match place_of(documents.as_slice(), draft.id) {
@@ -87,26 +90,9 @@ pub(crate) fn count_touched(alloc: Global, log: &Log, more: &[Draft]) -> Result<
     Ok(documents.len())
 }
 
-/// The documents, each with its latest revision, in order of first insertion: those of the version under the pending
-/// revisions.
-///
-/// It looks through the documents for each one that pends.
-#[tactic(auto, using(crate::proofs::Overlaid::latest_both))]
-pub(crate) fn latest_over<'a>(
-    alloc: Global,
-    base: &'a Versions,
-    log: &'a Log,
-) -> Result<Sequence<Seen<'a>>, OutOfMemory>
-    ensures { IfOk result (λ documents. drafts_seen documents ≡ latest (map draft_of base.now.revisions ++ log.now)) }
-{
-    let recorded = base.newest(alloc)?;
-    let mut documents = all_committed(alloc, recorded.as_slice())?;
-    put_log(alloc, &mut documents, log)?;
-    Ok(documents)
-}
-
-/// The same of these documents alone, among which are all that pend.
-fn latest_among<'a>(
+/// These documents, each with its latest revision, in order of first insertion: those of the version under the pending
+/// revisions, whose documents are all among them.
+pub(crate) fn latest_among<'a>(
     alloc: Global,
     base: &'a Versions,
     ids: &[DocId],
@@ -120,23 +106,6 @@ fn latest_among<'a>(
     let mut documents = all_committed(alloc, recorded.as_slice())?;
     put_log(alloc, &mut documents, log)?;
     Ok(documents)
-}
-
-/// The same of the documents that are read.
-pub(crate) fn latest_read<'a>(
-    alloc: Global,
-    base: &'a Versions,
-    read: &Option<DocIds>,
-    log: &'a Log,
-) -> Result<Sequence<Seen<'a>>, OutOfMemory>
-    requires { PendAmong read.now log.now }
-    ensures { IfOk result (λ documents. drafts_seen documents ≡
-        documents_read read.now (latest (map draft_of base.now.revisions ++ log.now))) }
-{
-    match read {
-        None => latest_over(alloc, base, log),
-        Some(ids) => latest_among(alloc, base, ids.as_slice(), log),
-    }
 }
 
 /// The place of a document among pending ones.
@@ -190,7 +159,7 @@ pub(crate) fn left_of(alloc: Global, log: Vec<Draft>) -> Result<Drafts, OutOfMem
 }
 
 /// Whether the revision is left: it isn't that of a new document that was deleted again.
-fn is_left(draft: &Draft) -> bool
+pub(crate) fn is_left(draft: &Draft) -> bool
     ensures { result ≡ is_left draft.now }
 {
     match draft.content {

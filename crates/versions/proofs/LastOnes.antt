@@ -58,14 +58,14 @@ found-all (d ∷ ds) apart =
 
 -- ---- and is the last one of its document
 
-each-last : (rs ds : List Recorded) → Found (newest rs) ds
+pub each-last : (rs ds : List Recorded) → Found (newest rs) ds
     → map (λ (r : state.Recorded). Some r) (map recorded_of ds) ≡ map (λ (d : Draft). latest_of (map recorded_of rs) d.id.raw) (map draft_of (map recorded_of ds))
 each-last rs [] found = refl
 each-last rs (d ∷ ds) found =
     let last : Some (recorded_of d) ≡ latest_of (map recorded_of rs) (id_of d) = document_last (newest rs) rs (Some d) (id_of d) (sym found.0) refl in
     ap₂ (λ (o : Option state.Recorded) (os : List (Option state.Recorded)). o ∷ os) last (each-last rs ds found.1)
 
-lent-recorded : (all : List (Bor Recorded)) → recorded_lent all ≡ map recorded_of (lent_values all)
+pub lent-recorded : (all : List (Bor Recorded)) → recorded_lent all ≡ map recorded_of (lent_values all)
 lent-recorded [] = refl
 lent-recorded (r ∷ rs) = ap (λ (xs : List state.Recorded). recorded_of r.now ∷ xs) (lent-recorded rs)
 

@@ -9,6 +9,7 @@ pub mod Mapped
 pub mod Members
 pub mod Named
 pub mod Newest
+pub mod OneTable
 pub mod Places
 pub mod Redacting
 pub mod Spots

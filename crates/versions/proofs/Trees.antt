@@ -160,7 +160,7 @@ index_is ds is ps table field p are has some = subst (OnField ds table field) (s
 
 -- ---- the documents with a key
 
-same_test : (key own : Key) → is_eq (compare_keys key own) ≡ is_same_key own key
+pub same_test : (key own : Key) → is_eq (compare_keys key own) ≡ is_same_key own key
 same_test key own = sym (ties_are_same key own) ∙ same_key_equiv.symm key own
 
 with_step : (b : Bool) (d : Recorded) (row : Row) (ds : List Recorded) (rows : List Row) → row.id ≡ doc_of d → ids_in ds ≡ ids_shown rows

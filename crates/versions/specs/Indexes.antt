@@ -9,7 +9,8 @@ use Rattle.ion_values.specs.Keys.{compare_keys, is_same_key}
 use Rattle.pql_model.specs.declared.tables.Probe.TheVariants as probe
 use Rattle.pql_model.specs.declared.tables.Row.{Row}
 use Rattle.pql_model.specs.Steps.{field_of}
-use Rattle.pql_model.specs.Tables.{key_in, meeting}
+use Rattle.pql_model.specs.Tables.{key_in, meeting, meets}
+use Rattle.ledger_model.specs.declared.block.Draft.{Draft}
 use Rattle.ledger_model.specs.State as state
 use Rattle.ledger_model.specs.Views.{latest, row_of}
 use Rattle.versions.specs.declared.recorded.Recorded.{Recorded}
@@ -55,3 +56,12 @@ abbrev pub documents_with : List state.Recorded → TableId → List ℕ → Key
 documents_with revisions table field key =
     map (λ row. row.id) (meeting (probe.Key field key)
     (filter_map (row_of table) (latest (map state.draft_of revisions))))
+
+-- whether a row passes the test, if there is one
+abbrev pub passes : (Row → Bool) → Option Row → Bool
+passes test None = false
+passes test (Some row) = test row
+
+-- whether a document has a row in the table, with the key in its first field of the name
+abbrev pub has_key_in : TableId → List ℕ → Key → Draft → Bool
+has_key_in table field key d = passes (meets (probe.Key field key)) (row_of table d)

@@ -5,6 +5,7 @@ use Rattle.std.specs.Ordering.{nat_cmp}
 use Rattle.std.specs.Map.{lookup}
 use Rattle.std.specs.BTreeMap.{insert_entry, is_at}
 use Rattle.ql_types.specs.declared.DocId.{DocId}
+use Rattle.ledger_model.specs.declared.block.Draft.{Draft}
 use Rattle.index_post.specs.Positions.{with_position}
 use Rattle.versions.specs.declared.recorded.Recorded.{Recorded}
 use Rattle.versions.specs.Newest.{id_of}
@@ -15,6 +16,10 @@ place_in (x ∷ xs) id = if x == id then Some 0 else option_map (λ at. at + 1) 
 
 abbrev pub ids_of : List Recorded → List ℕ
 ids_of documents = map id_of documents
+
+-- the numbers of the documents' ids
+abbrev pub numbers_of : List Draft → List ℕ
+numbers_of documents = map (λ (d : Draft). d.id.raw) documents
 
 -- the order of documents' ids
 abbrev pub by_id : DocId → DocId → Ordering

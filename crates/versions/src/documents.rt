@@ -1,17 +1,20 @@
 //! All revisions and the fields with an index, with the postings of each index beside them.
 ghost use Rattle.std.specs.Prelude.{◌≡◌, [], ◌∷◌, ◌++◌, map, true, IfOk};
 ghost use Rattle.ledger_model.specs.Follows.{has_index};
-ghost use Rattle.ledger_model.specs.State.{all_indexed, indexed, recorded_in, revisions_after};
+ghost use Rattle.ledger_model.specs.State.{all_indexed, draft_of, indexed, recorded_in, revisions_after};
+ghost use Rattle.ledger_model.specs.Views.{latest};
+ghost use Rattle.versions.specs.Filing.{places_from};
 ghost use Rattle.versions.specs.Held.{indexed_of, recorded_of};
-ghost use Rattle.versions.specs.Indexes.{documents_with};
+ghost use Rattle.versions.specs.Indexes.{documents_with, has_key_in};
 ghost use Rattle.versions.specs.Redactions.{IsOfDocument, all_changed};
 
 use crate::indexes::{built, indexes_with, tree_on};
 use crate::kept::Kept;
-use crate::live::ids_at;
+use crate::live::{ids_at, listed};
 use crate::recorded::{Recorded, record};
 use crate::shelf::Shelf;
 use crate::tables::{Indexed, copy_indexes};
+use containers::Sequence;
 use index_post::Postings;
 use ion_values::{Key, OutOfMemory, Text};
 use ledger_model::{Revision, Schema};
@@ -239,6 +242,30 @@ impl Documents {
         };
         let ids = ids_at(self.alloc, self.shelf.latest(), tree.of(key))?;
         Ok(ids)
+    }
+
+    /// The places of these documents among all, in their order.
+    pub(crate) fn places_with(
+        &self,
+        alloc: Global,
+        table: TableId,
+        field: &Text,
+        key: &Key,
+    ) -> Result<Sequence<u64>, OutOfMemory>
+        requires { has_index (map indexed_of self.now.1) table field.now ≡ true }
+        ensures { IfOk result (λ places. places ≡ places_from (has_key_in table field.now key.now) 0
+            (latest (map draft_of (map recorded_of self.now.0)))) }
+    {
+        let Some(tree) = tree_on(
+            self.indexes.as_slice(),
+            self.trees.as_slice(),
+            table,
+            field.as_str(),
+        ) else {
+            unreachable!()
+        };
+        let places = listed(alloc, tree.of(key))?;
+        Ok(places)
     }
 }
 

@@ -99,6 +99,22 @@ impl Latest {
         Ok(all)
     }
 
+    /// The revisions at the places in their order, lent.
+    pub(crate) fn at_places(
+        &self,
+        alloc: Global,
+        places: &[u64],
+    ) -> Result<Sequence<&Recorded>, OutOfMemory>
+        ensures { IfOk result (λ all.
+            map (λ r. r.now) all ≡ filter_map (λ at. slice_get self.now at) places.now) }
+    {
+        let mut all = Sequence::new(alloc);
+        'places: for at in places {
+            push_some(&mut all, self.get(*at))?;
+        }
+        Ok(all)
+    }
+
     /// The places of these documents. An id of none of them has no place.
     fn places_of(&self, ids: &[DocId]) -> Result<Places, OutOfMemory>
         requires { AreApart self.now }

@@ -104,6 +104,18 @@ pub(crate) fn ids_at(
     Ok(ids)
 }
 
+/// The places in their order.
+pub(crate) fn listed(alloc: Global, places: Positions<'_>) -> Result<Sequence<u64>, OutOfMemory>
+    ensures { IfOk result (λ all. all ≡ places.entry) }
+{
+    let mut places = places;
+    let mut all = Sequence::new(alloc);
+    'places: while let Some(at) = places.next() {
+        all.push(at)?;
+    }
+    Ok(all)
+}
+
 /// Puts the id of the revision's document at the end, if there is one.
 fn push_id(ids: &mut DocIds, recorded: Option<&Recorded>) -> Result<(), OutOfMemory>
     ensures { OnOk result (ids.new ≡ ids.old ++ id_in (option_copied recorded.entry)) }

@@ -1,6 +1,7 @@
 //! All revisions, with the latest one of each document and the places of each document's revisions beside them.
 ghost use Rattle.std.specs.Prelude.{◌≡◌, ◌<◌, ◌^◌, [], ◌∷◌, ◌++◌, length, map, slice_get, Some, option_and_then, option_map, IfOk};
 ghost use Rattle.std.specs.Arc.{arc_value};
+ghost use Rattle.std.specs.List.{filter_map};
 ghost use Rattle.std.specs.Option.{option_copied};
 ghost use Rattle.ledger_model.specs.Follows.{latest_of, named_by};
 ghost use Rattle.ledger_model.specs.State.{draft_of};
@@ -8,15 +9,17 @@ ghost use Rattle.ledger_model.specs.Views.{latest};
 ghost use Rattle.versions.specs.Held.{drafts_lent, recorded_lent, recorded_of};
 ghost use Rattle.versions.specs.ByTable.{revisions_in};
 ghost use Rattle.versions.specs.Histories.{revisions_of};
-ghost use Rattle.versions.specs.Live.{AllFit};
+ghost use Rattle.versions.specs.Filing.{places_from};
+ghost use Rattle.versions.specs.Live.{AllFit, AreLast, is_live};
 ghost use Rattle.versions.specs.Lookups.{documents_of, last_among, last_of_each, those_among};
 ghost use Rattle.versions.specs.Newest.{id_of, newest};
+ghost use Rattle.versions.specs.Places.{numbers_of, place_in};
 ghost use Rattle.versions.specs.Redactions.{IsOfDocument, all_changed};
 
 use crate::by_table::{ByTable, place_of, table_entered};
 use crate::histories::{Histories, entered, history_at, place_at};
 use crate::latest::Latest;
-use crate::live::{Live, ids_at, live_after};
+use crate::live::{Live, ids_at, listed, live_after};
 use crate::recorded::Recorded;
 use crate::redactions::{changed_in, named_in};
 use containers::Sequence;
@@ -166,6 +169,41 @@ impl Shelf {
     {
         let all = self.latest.among(alloc, ids)?;
         Ok(all)
+    }
+
+    /// The latest revisions at these places among those of all documents, lent.
+    #[tactic(auto, using(crate::proofs::OneTable::lent_places, crate::proofs::OneTable::lent_last_at))]
+    pub(crate) fn newest_at(
+        &self,
+        alloc: Global,
+        places: &[u64],
+    ) -> Result<Sequence<&Recorded>, OutOfMemory>
+        ensures drafts { IfOk result (λ all. drafts_lent all ≡ filter_map (λ at.
+            slice_get (latest (map draft_of (map recorded_of self.now))) at) places.now) }
+        ensures last { IfOk result (AreLast (map recorded_of self.now)) }
+    {
+        let all = self.latest.at_places(alloc, places)?;
+        Ok(all)
+    }
+
+    /// The places of the table's documents that aren't deleted, in their order.
+    pub(crate) fn places_of(
+        &self,
+        alloc: Global,
+        table: TableId,
+    ) -> Result<Sequence<u64>, OutOfMemory>
+        ensures { IfOk result (λ places. places
+            ≡ places_from (is_live table) 0 (latest (map draft_of (map recorded_of self.now)))) }
+    {
+        let places = listed(alloc, self.live.of(&table))?;
+        Ok(places)
+    }
+
+    /// The place of a document, or None where there is no revision of it.
+    pub(crate) fn place(&self, id: DocId) -> Option<u64>
+        ensures { result ≡ place_in (numbers_of (latest (map draft_of (map recorded_of self.now)))) id.raw }
+    {
+        self.latest.place_of(id)
     }
 
     /// The numbers of all ids are within their range. It does nothing.

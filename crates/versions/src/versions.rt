@@ -1,5 +1,6 @@
 //! A version of the state after a list of blocks.
 ghost use Rattle.std.specs.Prelude.{◌≡◌, length, map, slice_get, true, Some, option_map, IfOk};
+ghost use Rattle.std.specs.List.{filter, filter_map};
 ghost use Rattle.std.specs.Option.{option_copied};
 ghost use Rattle.ledger_model.specs.Follows.{has_index, latest_of, named_by};
 ghost use Rattle.ledger_model.specs.Run.{active_count};
@@ -8,9 +9,11 @@ ghost use Rattle.ledger_model.specs.State.{active_table, after, draft_of, empty,
 ghost use Rattle.ledger_model.specs.Views.{latest};
 ghost use Rattle.versions.specs.ByTable.{revisions_in};
 ghost use Rattle.versions.specs.Held.{drafts_lent, indexed_of, recorded_lent, recorded_of, table_of};
-ghost use Rattle.versions.specs.Indexes.{documents_with};
-ghost use Rattle.versions.specs.Live.{AllFit};
+ghost use Rattle.versions.specs.Filing.{places_from};
+ghost use Rattle.versions.specs.Indexes.{documents_with, has_key_in};
+ghost use Rattle.versions.specs.Live.{AllFit, AreLast, is_live, live_of};
 ghost use Rattle.versions.specs.Lookups.{documents_of, last_among, last_of_each, name_of, those_among};
+ghost use Rattle.versions.specs.Places.{numbers_of, place_in};
 ghost use Rattle.versions.specs.Histories.{revisions_of};
 
 use crate::documents::Documents;
@@ -257,6 +260,86 @@ impl Versions {
             ≡ last_among ids.now self.now.revisions) }
     {
         let all = self.documents.shelf().newest_among(alloc, ids)?;
+        Ok(all)
+    }
+
+    /// The place of a document among all, in order of first insertion, or None if no revision has the id.
+    pub fn place(&self, id: DocId) -> Option<u64>
+        ensures { result ≡ place_in (numbers_of (latest (map draft_of self.now.revisions))) id.raw }
+    {
+        self.documents.shelf().place(id)
+    }
+
+    /// The places of the table's documents that aren't deleted, in their order.
+    pub fn places_of(&self, alloc: Global, table: TableId) -> Result<Sequence<u64>, OutOfMemory>
+        ensures { IfOk result (λ places. places
+            ≡ places_from (is_live table) 0 (latest (map draft_of self.now.revisions))) }
+    {
+        let places = self.documents.shelf().places_of(alloc, table)?;
+        Ok(places)
+    }
+
+    /// The places of the documents of which `with_key` gives the ids, in their order.
+    pub fn places_with(
+        &self,
+        alloc: Global,
+        table: TableId,
+        field: &Text,
+        key: &Key,
+    ) -> Result<Sequence<u64>, OutOfMemory>
+        requires { has_index self.now.indexes table field.now ≡ true }
+        ensures { IfOk result (λ places. places ≡ places_from (has_key_in table field.now key.now) 0
+            (latest (map draft_of self.now.revisions))) }
+    {
+        let places = self.documents.places_with(alloc, table, field, key)?;
+        Ok(places)
+    }
+
+    /// The latest revisions at these places, in the same order, lent.
+    pub fn newest_at(
+        &self,
+        alloc: Global,
+        places: &[u64],
+    ) -> Result<Sequence<&Recorded>, OutOfMemory>
+        ensures drafts { IfOk result (λ all. drafts_lent all
+            ≡ filter_map (λ at. slice_get (latest (map draft_of self.now.revisions)) at) places.now) }
+        ensures last { IfOk result (AreLast self.now.revisions) }
+    {
+        let all = self.documents.shelf().newest_at(alloc, places)?;
+        Ok(all)
+    }
+
+    /// The latest revisions of the table's documents that aren't deleted, in order of first insertion, lent.
+    ///
+    /// It goes over these documents alone.
+    pub fn newest_of(
+        &self,
+        alloc: Global,
+        table: TableId,
+    ) -> Result<Sequence<&Recorded>, OutOfMemory>
+        ensures drafts { IfOk result (λ all.
+            drafts_lent all ≡ live_of table (latest (map draft_of self.now.revisions))) }
+        ensures last { IfOk result (AreLast self.now.revisions) }
+    {
+        let places = self.places_of(alloc, table)?;
+        let all = self.newest_at(alloc, places.as_slice())?;
+        Ok(all)
+    }
+
+    /// The latest revisions of the documents of which `with_key` gives the ids, in the same order, lent.
+    pub fn newest_with(
+        &self,
+        alloc: Global,
+        table: TableId,
+        field: &Text,
+        key: &Key,
+    ) -> Result<Sequence<&Recorded>, OutOfMemory>
+        requires { has_index self.now.indexes table field.now ≡ true }
+        ensures { IfOk result (λ all. drafts_lent all
+            ≡ filter (has_key_in table field.now key.now) (latest (map draft_of self.now.revisions))) }
+    {
+        let places = self.places_with(alloc, table, field, key)?;
+        let all = self.newest_at(alloc, places.as_slice())?;
         Ok(all)
     }
 

@@ -16,9 +16,11 @@ use Rattle.ledger_model.specs.State.{Recorded, draft_of}
 use Rattle.ledger_model.specs.Views.{latest, live, row_of}
 use Rattle.versions.specs.declared.recorded.Recorded as held
 use Rattle.versions.specs.Held.{drafts_lent, recorded_lent, recorded_of}
-use Rattle.versions.specs.Lookups.{last_among, last_of_each, those_among}
+use Rattle.versions.specs.Live.{AreLast, live_of}
+use Rattle.versions.specs.Lookups.{last_among, those_among}
 use Rattle.view_rows.specs.Named.{rows_among}
 use Rattle.view_rows.specs.Shown.{live_rows}
+use Rattle.view_rows.proofs.Live.{committed_live}
 use Rattle.view_rows.proofs.Naming.{committed_among}
 
 -- a row is of its document
@@ -60,13 +62,15 @@ drafts-of [] = refl
 drafts-of (r ∷ rs) = ap (λ (ds : List Draft). draft_of (recorded_of r.now) ∷ ds) (drafts-of rs)
 
 pub rows_committed : (table : TableId) (revisions : List Recorded) (lent : List (Bor held.Recorded)) (probe : Probe) (rows : List Row)
-    → drafts_lent lent ≡ latest (map draft_of revisions) → map (λ (r : Recorded). Some r) (recorded_lent lent) ≡ last_of_each revisions
+    → drafts_lent lent ≡ live_of table (latest (map draft_of revisions)) → AreLast revisions lent
     → rows ≡ meeting probe (live_rows table (recorded_lent lent)) → rows ≡ meeting probe (committed_view table revisions)
 rows_committed table revisions lent probe rows drafts last is =
-    let documents : map draft_of (recorded_lent lent) ≡ latest (map draft_of revisions) = sym (drafts-of lent) ∙ drafts in
+    let documents : map draft_of (recorded_lent lent) ≡ live_of table (latest (map draft_of revisions)) = sym (drafts-of lent) ∙ drafts in
     let found : map (λ (r : Recorded). Some r) (recorded_lent lent) ≡ map (λ (d : Draft). latest_of revisions d.id.raw) (map draft_of (recorded_lent lent)) =
-    last ∙ ap (map (λ (d : Draft). latest_of revisions d.id.raw)) (sym documents) in
-    is ∙ ap (meeting probe) (sym (each-shown table revisions (recorded_lent lent) found) ∙ ap (filter_map (committed_row table revisions)) documents)
+    last ∙ ap (map (λ (d : Draft). latest_of revisions d.id.raw)) (drafts-of lent) in
+    is
+    ∙ ap (meeting probe) (sym (each-shown table revisions (recorded_lent lent) found) ∙ ap (filter_map (committed_row table revisions)) documents
+    ∙ committed_live table revisions (latest (map draft_of revisions)))
 
 -- the same of some documents
 pub rows_committed_among : (table : TableId) (revisions : List Recorded) (ids : List DocId) (lent : List (Bor held.Recorded)) (probe : Probe) (rows : List Row)

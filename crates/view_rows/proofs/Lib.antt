@@ -1,3 +1,4 @@
 pub mod Latest
+pub mod Live
 pub mod Naming
 pub mod Shown

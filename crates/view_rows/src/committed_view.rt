@@ -60,7 +60,8 @@ fn live_rows(
     Ok(rows)
 }
 
-/// The rows of the table's committed view that meet the probe, in order of first insertion.
+/// The rows of the table's committed view that meet the probe, in order of first insertion. It goes over the
+/// table's documents alone.
 #[tactic(auto, using(crate::proofs::Latest::rows_committed))]
 pub(crate) fn committed_rows(
     alloc: Global,
@@ -70,7 +71,7 @@ pub(crate) fn committed_rows(
 ) -> Result<Rows, OutOfMemory>
     ensures { IfOk result (λ rows. rows ≡ meeting probe.now (committed_view table version.now.revisions)) }
 {
-    let latest = version.newest(alloc)?;
+    let latest = version.newest_of(alloc, table)?;
     let rows = live_rows(alloc, latest.as_slice(), table, probe)?;
     Ok(rows)
 }

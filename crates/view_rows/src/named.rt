@@ -6,6 +6,7 @@ ghost use Rattle.pql_model.specs.Tables.{meeting, meets};
 ghost use Rattle.ledger_model.specs.CommittedViews.{committed_view};
 ghost use Rattle.ledger_model.specs.State.{draft_of};
 ghost use Rattle.ledger_model.specs.Views.{latest, row_of, user_view};
+ghost use Rattle.versions.specs.Held.{drafts_lent};
 ghost use Rattle.versions.specs.Indexes.{documents_with};
 ghost use Rattle.view_rows.specs.Named.{AreNamed};
 
@@ -18,10 +19,24 @@ use pql_model::{DocIds, Probe, Rows};
 use ql_types::{DocId, TableId};
 use std::alloc::Global;
 use std::slice;
-use versions::Versions;
+use versions::{Recorded, Versions};
 
-/// The rows of the table's user view that meet the probe, where nothing pends. It goes once over all documents.
-#[tactic(auto, using(crate::proofs::Shown::rows_latest))]
+/// The rows of the table that meet the probe, among committed revisions that are lent.
+fn rows_among(
+    alloc: Global,
+    recorded: &[&Recorded],
+    table: TableId,
+    probe: &Probe,
+) -> Result<Rows, OutOfMemory>
+    ensures { IfOk result (λ rows. rows ≡ meeting probe.now (filter_map (row_of table) (drafts_lent recorded.now))) }
+{
+    let documents = all_committed(alloc, recorded)?;
+    let rows = user_rows(alloc, documents.as_slice(), table, probe)?;
+    Ok(rows)
+}
+
+/// The rows of the table's user view that meet the probe, where nothing pends. It goes once over the table's documents.
+#[tactic(auto, using(crate::proofs::Live::rows_live))]
 fn latest_rows(
     alloc: Global,
     version: &Versions,
@@ -30,9 +45,9 @@ fn latest_rows(
 ) -> Result<Rows, OutOfMemory>
     ensures { IfOk result (λ rows. rows ≡ meeting probe.now (user_view table (map draft_of version.now.revisions) [])) }
 {
-    let latest = version.newest(alloc)?;
-    let documents = all_committed(alloc, latest.as_slice())?;
-    user_rows(alloc, documents.as_slice(), table, probe)
+    let latest = version.newest_of(alloc, table)?;
+    let rows = rows_among(alloc, latest.as_slice(), table, probe)?;
+    Ok(rows)
 }
 
 /// The rows of the table's user view that meet the probe, if only these documents do. It looks each of them up.
@@ -49,13 +64,12 @@ fn rows_of(
     ensures { IfOk result (λ rows. rows ≡ meeting probe.now (user_view table (map draft_of version.now.revisions) [])) }
 {
     let latest = version.newest_among(alloc, ids)?;
-    let documents = all_committed(alloc, latest.as_slice())?;
-    let rows = user_rows(alloc, documents.as_slice(), table, probe)?;
+    let rows = rows_among(alloc, latest.as_slice(), table, probe)?;
     Ok(rows)
 }
 
 /// The same by what the probe names: documents, or keys of a field with an index.
-#[tactic(auto, using(crate::proofs::Naming::id_asked, crate::proofs::Naming::key_asked, crate::proofs::Naming::ids_asked, crate::proofs::Naming::keys_asked))]
+#[tactic(auto, using(crate::proofs::Naming::id_asked, crate::proofs::Naming::ids_asked, crate::proofs::Naming::keys_asked))]
 pub(crate) fn latest_named(
     alloc: Global,
     version: &Versions,
@@ -71,8 +85,9 @@ pub(crate) fn latest_named(
             if !version.has_index(table, field) {
                 return latest_rows(alloc, version, table, probe);
             }
-            let ids = version.with_key(table, field, key)?;
-            rows_of(alloc, version, ids.as_slice(), table, probe)
+            let latest = version.newest_with(alloc, table, field, key)?;
+            let rows = rows_among(alloc, latest.as_slice(), table, probe)?;
+            Ok(rows)
         }
         Probe::Ids { ids } => rows_of(alloc, version, ids.as_slice(), table, probe),
         Probe::Keys { field, keys } => {
@@ -115,7 +130,7 @@ fn append(ids: &mut DocIds, more: &[DocId]) -> Result<(), OutOfMemory>
 }
 
 /// The rows of the table's committed view that meet the probe. It looks a document up that the probe names, and goes
-/// over all documents otherwise.
+/// over the table's documents otherwise.
 #[tactic(auto, using(crate::proofs::Naming::committed_alone, crate::proofs::Naming::committed_some))]
 pub(crate) fn committed_named(
     alloc: Global,

@@ -13,7 +13,7 @@ use std::alloc::Global;
 use versions::Versions;
 
 /// The rows of the table's view that meet the probe, with no changes that pend, in the view's order. Documents that the
-/// probe names are looked up; otherwise it goes once over all documents, and of a history once over all revisions.
+/// probe names are looked up; otherwise it goes once over the table's documents, and of a history once over all revisions.
 pub fn view_rows(
     alloc: Global,
     version: &Versions,

@@ -1,8 +1,7 @@
 //! The text that values are written to.
-ghost use Rattle.std.specs.Prelude.{◌≡◌, [], ◌++◌, true, encode_utf8, IfOk, OnOk};
-ghost use Rattle.base64.specs.Rfc4648.{encode};
-ghost use Rattle.ion_model.specs.Write.{base64_digits};
+ghost use Rattle.std.specs.Prelude.{◌≡◌, [], ◌∷◌, ◌++◌, IfOk};
 
+use super::sink::TextSink;
 use base64::engine::general_purpose::STANDARD;
 use containers::{OutOfMemory, Text};
 use std::alloc::Global;
@@ -35,35 +34,34 @@ impl Output {
         })
     }
 
-    /// Puts a character at the end.
-    pub fn push(&mut self, character: char) -> Result<(), OutOfMemory>
-        ensures { OnOk result (self.new ≡ self.old ++ encode_utf8 character) }
-    {
-        self.text.push(character)?;
-        Ok(())
-    }
-
-    /// Puts a text at the end.
-    pub fn push_str(&mut self, more: &str) -> Result<(), OutOfMemory>
-        ensures { OnOk result (self.new ≡ self.old ++ more.now) }
-    {
-        self.text.push_str(more)?;
-        Ok(())
-    }
-
-    /// Puts bytes in base64 at the end, with padding.
-    pub fn push_base64(&mut self, bytes: &[u8]) -> Result<(), OutOfMemory>
-        ensures { OnOk result (self.new ≡ self.old ++ encode base64_digits 61 true bytes.now) }
-    {
-        STANDARD.encode_string(bytes, &mut self.text)?;
-        Ok(())
-    }
-
     /// The text. It takes no memory.
     pub fn into_text(self) -> Text
         ensures { result ≡ self }
     {
         let Output { text } = self;
         Text::from_string(text)
+    }
+}
+
+impl TextSink for Output {
+    type Fault = OutOfMemory;
+
+    ghost with_byte = { λ bytes b. bytes ++ b ∷ [] };
+
+    #[tactic(auto, using(crate::proofs::Compared::appended))]
+    fn push(&mut self, character: char) -> Result<(), OutOfMemory> {
+        self.text.push(character)?;
+        Ok(())
+    }
+
+    #[tactic(auto, using(crate::proofs::Compared::appended))]
+    fn push_str(&mut self, more: &str) -> Result<(), OutOfMemory> {
+        self.text.push_str(more)?;
+        Ok(())
+    }
+
+    fn push_base64(&mut self, bytes: &[u8]) -> Result<(), OutOfMemory> {
+        STANDARD.encode_string(bytes, &mut self.text)?;
+        Ok(())
     }
 }

@@ -1,24 +1,23 @@
 //! Texts between quotes, symbols and clobs.
-ghost use Rattle.std.specs.Prelude.{◌≡◌, ◌++◌, ◌∷◌, [], ◌<◌, ◌≤◌, encode_utf8, OnOk};
+ghost use Rattle.std.specs.Prelude.{◌≡◌, ◌∷◌, [], ◌<◌, ◌≤◌, encode_utf8, fold, OnOk};
 ghost use Rattle.std.specs.Char.{digit_char};
 ghost use Rattle.std.specs.List.{flat_map, list_all, list_any};
 ghost use Rattle.ion_model.specs.Quoted.{begins_name, clob_escape, clob_text, continues_name, escape, hex_escape, is_bare, is_control, is_identifier, is_keyword, quoted, string_text, symbol_text};
 ghost use Rattle.ion_text.specs.Escapes.{has_escape};
 
-use super::output::Output;
-use containers::OutOfMemory;
+use super::sink::TextSink;
 
 /// Puts an ASCII character.
-pub fn put_ascii(out: &mut Output, byte: u8) -> Result<(), OutOfMemory>
+pub fn put_ascii<S: TextSink>(out: &mut S, byte: u8) -> Result<(), S::Fault>
     requires { byte < 128 }
-    ensures { OnOk result (out.new ≡ out.old ++ byte ∷ []) }
+    ensures { OnOk result (out.new ≡ fold S.with_byte out.old (byte ∷ [])) }
 {
     out.push(char::from(byte))
 }
 
-fn put_hex_digit(out: &mut Output, digit: u8) -> Result<(), OutOfMemory>
+fn put_hex_digit<S: TextSink>(out: &mut S, digit: u8) -> Result<(), S::Fault>
     requires { digit < 16 }
-    ensures { OnOk result (out.new ≡ out.old ++ digit_char digit ∷ []) }
+    ensures { OnOk result (out.new ≡ fold S.with_byte out.old (digit_char digit ∷ [])) }
 {
     if digit < 10 {
         put_ascii(out, b'0' + digit)
@@ -27,8 +26,8 @@ fn put_hex_digit(out: &mut Output, digit: u8) -> Result<(), OutOfMemory>
     }
 }
 
-fn put_hex(out: &mut Output, byte: u8) -> Result<(), OutOfMemory>
-    ensures { OnOk result (out.new ≡ out.old ++ hex_escape byte) }
+fn put_hex<S: TextSink>(out: &mut S, byte: u8) -> Result<(), S::Fault>
+    ensures { OnOk result (out.new ≡ fold S.with_byte out.old (hex_escape byte)) }
 {
     out.push_str("\\x")?;
     put_hex_digit(out, byte / 16)?;
@@ -36,9 +35,9 @@ fn put_hex(out: &mut Output, byte: u8) -> Result<(), OutOfMemory>
 }
 
 // An ASCII character of a text between the quotes.
-fn put_escaped_ascii(out: &mut Output, quote: u8, byte: u8) -> Result<(), OutOfMemory>
+fn put_escaped_ascii<S: TextSink>(out: &mut S, quote: u8, byte: u8) -> Result<(), S::Fault>
     requires { byte < 128 }
-    ensures { OnOk result (out.new ≡ out.old ++ escape quote byte) }
+    ensures { OnOk result (out.new ≡ fold S.with_byte out.old (escape quote byte)) }
 {
     if byte == quote || byte == b'\\' {
         out.push_str("\\")?;
@@ -54,9 +53,9 @@ fn put_escaped_ascii(out: &mut Output, quote: u8, byte: u8) -> Result<(), OutOfM
 }
 
 // A character of a text between the quotes.
-fn put_escaped(out: &mut Output, quote: u8, character: char) -> Result<(), OutOfMemory>
+fn put_escaped<S: TextSink>(out: &mut S, quote: u8, character: char) -> Result<(), S::Fault>
     requires { quote < 128 }
-    ensures { OnOk result (out.new ≡ out.old ++ flat_map (escape quote) (encode_utf8 character)) }
+    ensures { OnOk result (out.new ≡ fold S.with_byte out.old (flat_map (escape quote) (encode_utf8 character))) }
 {
     if character.is_ascii() {
         put_escaped_ascii(out, quote, character as u8)
@@ -65,9 +64,9 @@ fn put_escaped(out: &mut Output, quote: u8, character: char) -> Result<(), OutOf
     }
 }
 
-fn put_each(out: &mut Output, quote: u8, text: &str) -> Result<(), OutOfMemory>
+fn put_each<S: TextSink>(out: &mut S, quote: u8, text: &str) -> Result<(), S::Fault>
     requires { quote < 128 }
-    ensures { OnOk result (out.new ≡ out.old ++ flat_map (escape quote) text.now) }
+    ensures { OnOk result (out.new ≡ fold S.with_byte out.old (flat_map (escape quote) text.now)) }
 {
     for character in text.chars() {
         put_escaped(out, quote, character)?;
@@ -94,9 +93,9 @@ fn have_escapes(quote: u8, bytes: &[u8]) -> bool
 }
 
 // What stands between the quotes, at once where no byte of it is escaped.
-fn put_inner(out: &mut Output, quote: u8, text: &str) -> Result<(), OutOfMemory>
+fn put_inner<S: TextSink>(out: &mut S, quote: u8, text: &str) -> Result<(), S::Fault>
     requires { quote < 128 }
-    ensures { OnOk result (out.new ≡ out.old ++ flat_map (escape quote) text.now) }
+    ensures { OnOk result (out.new ≡ fold S.with_byte out.old (flat_map (escape quote) text.now)) }
 {
     if have_escapes(quote, text.as_bytes()) {
         put_each(out, quote, text)
@@ -105,9 +104,9 @@ fn put_inner(out: &mut Output, quote: u8, text: &str) -> Result<(), OutOfMemory>
     }
 }
 
-fn put_quoted(out: &mut Output, quote: u8, text: &str) -> Result<(), OutOfMemory>
+fn put_quoted<S: TextSink>(out: &mut S, quote: u8, text: &str) -> Result<(), S::Fault>
     requires { quote < 128 }
-    ensures { OnOk result (out.new ≡ out.old ++ quoted quote text.now) }
+    ensures { OnOk result (out.new ≡ fold S.with_byte out.old (quoted quote text.now)) }
 {
     put_ascii(out, quote)?;
     put_inner(out, quote, text)?;
@@ -115,8 +114,8 @@ fn put_quoted(out: &mut Output, quote: u8, text: &str) -> Result<(), OutOfMemory
 }
 
 /// Puts the text of a string.
-pub fn put_string(out: &mut Output, text: &str) -> Result<(), OutOfMemory>
-    ensures { OnOk result (out.new ≡ out.old ++ string_text text.now) }
+pub fn put_string<S: TextSink>(out: &mut S, text: &str) -> Result<(), S::Fault>
+    ensures { OnOk result (out.new ≡ fold S.with_byte out.old (string_text text.now)) }
 {
     put_quoted(out, b'"', text)
 }
@@ -161,8 +160,8 @@ fn is_keyword_text(text: &str) -> bool
 }
 
 /// Puts the text of a symbol, which has quotes only where it needs them.
-pub fn put_symbol(out: &mut Output, text: &str) -> Result<(), OutOfMemory>
-    ensures { OnOk result (out.new ≡ out.old ++ symbol_text text.now) }
+pub fn put_symbol<S: TextSink>(out: &mut S, text: &str) -> Result<(), S::Fault>
+    ensures { OnOk result (out.new ≡ fold S.with_byte out.old (symbol_text text.now)) }
 {
     if stands_bare(text) {
         out.push_str(text)
@@ -171,8 +170,8 @@ pub fn put_symbol(out: &mut Output, text: &str) -> Result<(), OutOfMemory>
     }
 }
 
-fn put_clob_byte(out: &mut Output, byte: u8) -> Result<(), OutOfMemory>
-    ensures { OnOk result (out.new ≡ out.old ++ clob_escape byte) }
+fn put_clob_byte<S: TextSink>(out: &mut S, byte: u8) -> Result<(), S::Fault>
+    ensures { OnOk result (out.new ≡ fold S.with_byte out.old (clob_escape byte)) }
 {
     if byte == b'"' || byte == b'\\' {
         out.push_str("\\")?;
@@ -186,8 +185,8 @@ fn put_clob_byte(out: &mut Output, byte: u8) -> Result<(), OutOfMemory>
 }
 
 /// Puts the text of a clob.
-pub fn put_clob(out: &mut Output, bytes: &[u8]) -> Result<(), OutOfMemory>
-    ensures { OnOk result (out.new ≡ out.old ++ clob_text bytes.now) }
+pub fn put_clob<S: TextSink>(out: &mut S, bytes: &[u8]) -> Result<(), S::Fault>
+    ensures { OnOk result (out.new ≡ fold S.with_byte out.old (clob_text bytes.now)) }
 {
     out.push_str("{{\"")?;
     for byte in bytes {

@@ -1,18 +1,16 @@
 //! Nulls, truths, numbers and blobs.
-ghost use Rattle.std.specs.Prelude.{◌≡◌, ◌++◌, OnOk};
+ghost use Rattle.std.specs.Prelude.{◌≡◌, fold, OnOk};
 ghost use Rattle.std.specs.Fmt.{signed_decimal};
 ghost use Rattle.ion_model.specs.Write.{blob_text, bool_text, decimal_text, null_text};
 
-use super::output::Output;
-use containers::OutOfMemory;
+use super::sink::TextSink;
 use ion_values::{Decimal, Kind};
 use itoa::Buffer;
 
-/// Puts the text of a null.
-pub fn put_null(out: &mut Output, kind: Kind) -> Result<(), OutOfMemory>
-    ensures { OnOk result (out.new ≡ out.old ++ null_text kind) }
+fn null_word(kind: Kind) -> &'static str
+    ensures { result.now ≡ null_text kind }
 {
-    out.push_str(match kind {
+    match kind {
         Kind::Null => "null",
         Kind::Bool => "null.bool",
         Kind::Int => "null.int",
@@ -25,27 +23,34 @@ pub fn put_null(out: &mut Output, kind: Kind) -> Result<(), OutOfMemory>
         Kind::List => "null.list",
         Kind::Sexp => "null.sexp",
         Kind::Struct => "null.struct",
-    })
+    }
+}
+
+/// Puts the text of a null.
+pub fn put_null<S: TextSink>(out: &mut S, kind: Kind) -> Result<(), S::Fault>
+    ensures { OnOk result (out.new ≡ fold S.with_byte out.old (null_text kind)) }
+{
+    out.push_str(null_word(kind))
 }
 
 /// Puts the text of a truth.
-pub fn put_bool(out: &mut Output, truth: bool) -> Result<(), OutOfMemory>
-    ensures { OnOk result (out.new ≡ out.old ++ bool_text truth) }
+pub fn put_bool<S: TextSink>(out: &mut S, truth: bool) -> Result<(), S::Fault>
+    ensures { OnOk result (out.new ≡ fold S.with_byte out.old (bool_text truth)) }
 {
     out.push_str(if truth { "true" } else { "false" })
 }
 
 /// Puts an int in decimal.
-pub fn put_int(out: &mut Output, number: i128) -> Result<(), OutOfMemory>
-    ensures { OnOk result (out.new ≡ out.old ++ signed_decimal number) }
+pub fn put_int<S: TextSink>(out: &mut S, number: i128) -> Result<(), S::Fault>
+    ensures { OnOk result (out.new ≡ fold S.with_byte out.old (signed_decimal number)) }
 {
     let mut buffer = Buffer::new();
     out.push_str(buffer.format(number))
 }
 
 /// Puts the text of a decimal.
-pub fn put_decimal(out: &mut Output, number: &Decimal) -> Result<(), OutOfMemory>
-    ensures { OnOk result (out.new ≡ out.old ++ decimal_text number.now) }
+pub fn put_decimal<S: TextSink>(out: &mut S, number: &Decimal) -> Result<(), S::Fault>
+    ensures { OnOk result (out.new ≡ fold S.with_byte out.old (decimal_text number.now)) }
 {
     if number.negative_zero {
         out.push_str("-0")?;
@@ -57,8 +62,8 @@ pub fn put_decimal(out: &mut Output, number: &Decimal) -> Result<(), OutOfMemory
 }
 
 /// Puts the text of a blob.
-pub fn put_blob(out: &mut Output, bytes: &[u8]) -> Result<(), OutOfMemory>
-    ensures { OnOk result (out.new ≡ out.old ++ blob_text bytes.now) }
+pub fn put_blob<S: TextSink>(out: &mut S, bytes: &[u8]) -> Result<(), S::Fault>
+    ensures { OnOk result (out.new ≡ fold S.with_byte out.old (blob_text bytes.now)) }
 {
     out.push_str("{{")?;
     out.push_base64(bytes)?;

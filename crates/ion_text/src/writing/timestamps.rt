@@ -1,30 +1,29 @@
 //! Timestamps.
-ghost use Rattle.std.specs.Prelude.{◌≡◌, ◌++◌, ◌∷◌, [], OnOk};
+ghost use Rattle.std.specs.Prelude.{◌≡◌, ◌∷◌, [], fold, OnOk};
 ghost use Rattle.ion_model.specs.Timestamp.{clock_text, day_text, digit, first_digits, four_digits, fraction_text, minute_text, month_text, offset_text, second_text, timestamp_text, two_digits};
 
-use super::output::Output;
 use super::quoted::put_ascii;
-use containers::OutOfMemory;
+use super::sink::TextSink;
 use ion_values::{IonTime, Precision, TimeParts};
 
 // The last digit of the number.
-fn put_digit(out: &mut Output, number: u32) -> Result<(), OutOfMemory>
-    ensures { OnOk result (out.new ≡ out.old ++ digit number ∷ []) }
+fn put_digit<S: TextSink>(out: &mut S, number: u32) -> Result<(), S::Fault>
+    ensures { OnOk result (out.new ≡ fold S.with_byte out.old (digit number ∷ [])) }
 {
     put_ascii(out, b'0' + (number % 10) as u8)
 }
 
 // The last two digits of the number.
-fn put_two(out: &mut Output, number: u32) -> Result<(), OutOfMemory>
-    ensures { OnOk result (out.new ≡ out.old ++ two_digits number) }
+fn put_two<S: TextSink>(out: &mut S, number: u32) -> Result<(), S::Fault>
+    ensures { OnOk result (out.new ≡ fold S.with_byte out.old (two_digits number)) }
 {
     put_digit(out, number / 10)?;
     put_digit(out, number)
 }
 
 // As many of nine digits as are counted.
-fn put_first(out: &mut Output, count: u8, nanos: u32) -> Result<(), OutOfMemory>
-    ensures { OnOk result (out.new ≡ out.old ++ first_digits count nanos) }
+fn put_first<S: TextSink>(out: &mut S, count: u8, nanos: u32) -> Result<(), S::Fault>
+    ensures { OnOk result (out.new ≡ fold S.with_byte out.old (first_digits count nanos)) }
 {
     let mut left = count;
     let mut rest = nanos;
@@ -36,8 +35,8 @@ fn put_first(out: &mut Output, count: u8, nanos: u32) -> Result<(), OutOfMemory>
     Ok(())
 }
 
-fn put_fraction(out: &mut Output, count: u8, nanos: u32) -> Result<(), OutOfMemory>
-    ensures { OnOk result (out.new ≡ out.old ++ fraction_text count nanos) }
+fn put_fraction<S: TextSink>(out: &mut S, count: u8, nanos: u32) -> Result<(), S::Fault>
+    ensures { OnOk result (out.new ≡ fold S.with_byte out.old (fraction_text count nanos)) }
 {
     if count == 0 {
         return Ok(());
@@ -47,16 +46,16 @@ fn put_fraction(out: &mut Output, count: u8, nanos: u32) -> Result<(), OutOfMemo
 }
 
 // `hh:mm` of the minutes.
-fn put_clock(out: &mut Output, minutes: u32) -> Result<(), OutOfMemory>
-    ensures { OnOk result (out.new ≡ out.old ++ clock_text minutes) }
+fn put_clock<S: TextSink>(out: &mut S, minutes: u32) -> Result<(), S::Fault>
+    ensures { OnOk result (out.new ≡ fold S.with_byte out.old (clock_text minutes)) }
 {
     put_two(out, minutes / 60)?;
     out.push_str(":")?;
     put_two(out, minutes % 60)
 }
 
-fn put_offset(out: &mut Output, offset: Option<i16>) -> Result<(), OutOfMemory>
-    ensures { OnOk result (out.new ≡ out.old ++ offset_text offset) }
+fn put_offset<S: TextSink>(out: &mut S, offset: Option<i16>) -> Result<(), S::Fault>
+    ensures { OnOk result (out.new ≡ fold S.with_byte out.old (offset_text offset)) }
 {
     match offset {
         None => out.push_str("-00:00"),
@@ -68,31 +67,31 @@ fn put_offset(out: &mut Output, offset: Option<i16>) -> Result<(), OutOfMemory>
     }
 }
 
-fn put_month(out: &mut Output, t: &TimeParts) -> Result<(), OutOfMemory>
-    ensures { OnOk result (out.new ≡ out.old ++ month_text t.now) }
+fn put_month<S: TextSink>(out: &mut S, t: &TimeParts) -> Result<(), S::Fault>
+    ensures { OnOk result (out.new ≡ fold S.with_byte out.old (month_text t.now)) }
 {
     put_year(out, t.year)?;
     out.push_str("-")?;
     put_two(out, t.month as u32)
 }
 
-fn put_year(out: &mut Output, year: u16) -> Result<(), OutOfMemory>
-    ensures { OnOk result (out.new ≡ out.old ++ four_digits year) }
+fn put_year<S: TextSink>(out: &mut S, year: u16) -> Result<(), S::Fault>
+    ensures { OnOk result (out.new ≡ fold S.with_byte out.old (four_digits year)) }
 {
     put_two(out, year as u32 / 100)?;
     put_two(out, year as u32)
 }
 
-fn put_day(out: &mut Output, t: &TimeParts) -> Result<(), OutOfMemory>
-    ensures { OnOk result (out.new ≡ out.old ++ day_text t.now) }
+fn put_day<S: TextSink>(out: &mut S, t: &TimeParts) -> Result<(), S::Fault>
+    ensures { OnOk result (out.new ≡ fold S.with_byte out.old (day_text t.now)) }
 {
     put_month(out, t)?;
     out.push_str("-")?;
     put_two(out, t.day as u32)
 }
 
-fn put_minute(out: &mut Output, t: &TimeParts) -> Result<(), OutOfMemory>
-    ensures { OnOk result (out.new ≡ out.old ++ minute_text t.now) }
+fn put_minute<S: TextSink>(out: &mut S, t: &TimeParts) -> Result<(), S::Fault>
+    ensures { OnOk result (out.new ≡ fold S.with_byte out.old (minute_text t.now)) }
 {
     put_day(out, t)?;
     out.push_str("T")?;
@@ -101,8 +100,8 @@ fn put_minute(out: &mut Output, t: &TimeParts) -> Result<(), OutOfMemory>
     put_two(out, t.minute as u32)
 }
 
-fn put_second(out: &mut Output, t: &TimeParts) -> Result<(), OutOfMemory>
-    ensures { OnOk result (out.new ≡ out.old ++ second_text t.now) }
+fn put_second<S: TextSink>(out: &mut S, t: &TimeParts) -> Result<(), S::Fault>
+    ensures { OnOk result (out.new ≡ fold S.with_byte out.old (second_text t.now)) }
 {
     put_minute(out, t)?;
     out.push_str(":")?;
@@ -111,8 +110,8 @@ fn put_second(out: &mut Output, t: &TimeParts) -> Result<(), OutOfMemory>
 }
 
 /// Puts the text of a timestamp, as far as its precision goes.
-pub fn put_timestamp(out: &mut Output, time: &IonTime) -> Result<(), OutOfMemory>
-    ensures { OnOk result (out.new ≡ out.old ++ timestamp_text time.now) }
+pub fn put_timestamp<S: TextSink>(out: &mut S, time: &IonTime) -> Result<(), S::Fault>
+    ensures { OnOk result (out.new ≡ fold S.with_byte out.old (timestamp_text time.now)) }
 {
     let parts = time.parts();
     match parts.precision {

@@ -1,17 +1,20 @@
 //! Values with all that is in them.
-ghost use Rattle.std.specs.Prelude.{◌≡◌, ◌++◌, ◌<◌, map, IfOk, OnOk};
+ghost use Rattle.std.specs.Prelude.{◌≡◌, ◌<◌, fold, map, IfOk, IsTrue, OnOk, ◌↔◌};
 ghost use Rattle.std.specs.List.{flat_map};
 ghost use Rattle.ion_model.specs.Write.{annotation_text, body_text, field_text, joined, parted, value_text};
 
+use super::comparison::Comparison;
 use super::output::Output;
 use super::quoted::{put_ascii, put_clob, put_string, put_symbol};
 use super::scalars::{put_blob, put_bool, put_decimal, put_int, put_null};
+use super::sink::TextSink;
 use super::timestamps::put_timestamp;
 use containers::{OutOfMemory, Text};
 use ion_values::{Body, Field, Names, Value};
 use std::alloc::Global;
 
 /// The value's text, in the one spelling that values have when they are written.
+#[tactic(auto, using(crate::proofs::Compared::appended))]
 pub fn write(alloc: Global, v: &Value) -> Result<Text, OutOfMemory>
     ensures { IfOk result (λ text. text ≡ value_text v.now) }
 {
@@ -20,16 +23,27 @@ pub fn write(alloc: Global, v: &Value) -> Result<Text, OutOfMemory>
     Ok(out.into_text())
 }
 
+/// Whether the text is the one that is written of the value. It takes no memory.
+pub fn is_text_of(value: &Value, text: &[u8]) -> bool
+    ensures { IsTrue result ↔ (text.now ≡ value_text value.now) }
+{
+    let mut rest = Comparison::new(text);
+    match put_value(&mut rest, value) {
+        Ok(()) => rest.is_at_end(),
+        Err(never) => match never {},
+    }
+}
+
 #[cycle(write)]
-fn put_value(out: &mut Output, value: &Value) -> Result<(), OutOfMemory>
-    ensures { OnOk result (out.new ≡ out.old ++ value_text value.now) }
+fn put_value<S: TextSink>(out: &mut S, value: &Value) -> Result<(), S::Fault>
+    ensures { OnOk result (out.new ≡ fold S.with_byte out.old (value_text value.now)) }
 {
     put_annotations(out, &value.annotations)?;
     put_body(out, &value.body)
 }
 
-fn put_annotations(out: &mut Output, names: &Names) -> Result<(), OutOfMemory>
-    ensures { OnOk result (out.new ≡ out.old ++ flat_map annotation_text names.now) }
+fn put_annotations<S: TextSink>(out: &mut S, names: &Names) -> Result<(), S::Fault>
+    ensures { OnOk result (out.new ≡ fold S.with_byte out.old (flat_map annotation_text names.now)) }
 {
     for name in names.as_slice() {
         put_symbol(out, name.as_str())?;
@@ -39,8 +53,8 @@ fn put_annotations(out: &mut Output, names: &Names) -> Result<(), OutOfMemory>
 }
 
 #[cycle(write)]
-fn put_body(out: &mut Output, body: &Body) -> Result<(), OutOfMemory>
-    ensures { OnOk result (out.new ≡ out.old ++ body_text body.now) }
+fn put_body<S: TextSink>(out: &mut S, body: &Body) -> Result<(), S::Fault>
+    ensures { OnOk result (out.new ≡ fold S.with_byte out.old (body_text body.now)) }
 {
     match body {
         Body::Null(kind) => put_null(out, *kind),
@@ -71,9 +85,9 @@ fn put_body(out: &mut Output, body: &Body) -> Result<(), OutOfMemory>
 }
 
 #[cycle(write)]
-fn put_values(out: &mut Output, separator: u8, values: &[Value]) -> Result<(), OutOfMemory>
+fn put_values<S: TextSink>(out: &mut S, separator: u8, values: &[Value]) -> Result<(), S::Fault>
     requires { separator < 128 }
-    ensures { OnOk result (out.new ≡ out.old ++ parted separator (map value_text values.now)) }
+    ensures { OnOk result (out.new ≡ fold S.with_byte out.old (parted separator (map value_text values.now))) }
 {
     let [first, more @ ..] = values else {
         return Ok(());
@@ -87,8 +101,8 @@ fn put_values(out: &mut Output, separator: u8, values: &[Value]) -> Result<(), O
 }
 
 #[cycle(write)]
-fn put_field(out: &mut Output, field: &Field) -> Result<(), OutOfMemory>
-    ensures { OnOk result (out.new ≡ out.old ++ field_text field.now) }
+fn put_field<S: TextSink>(out: &mut S, field: &Field) -> Result<(), S::Fault>
+    ensures { OnOk result (out.new ≡ fold S.with_byte out.old (field_text field.now)) }
 {
     put_symbol(out, field.name.as_str())?;
     put_ascii(out, b':')?;
@@ -96,8 +110,8 @@ fn put_field(out: &mut Output, field: &Field) -> Result<(), OutOfMemory>
 }
 
 #[cycle(write)]
-fn put_fields(out: &mut Output, fields: &[Field]) -> Result<(), OutOfMemory>
-    ensures { OnOk result (out.new ≡ out.old ++ joined (map field_text fields.now)) }
+fn put_fields<S: TextSink>(out: &mut S, fields: &[Field]) -> Result<(), S::Fault>
+    ensures { OnOk result (out.new ≡ fold S.with_byte out.old (joined (map field_text fields.now))) }
 {
     let [first, more @ ..] = fields else {
         return Ok(());

@@ -15,10 +15,10 @@ returns-in_ok-found c =
     let text = c.args.text.now in
     let reads = subst (λ (x : Option Value). GivesOne text x) c.in-Some.is c.in_ok-value.ensures in
     line_read c.written_is_read.ensures c.read_is_within.ensures text c.in-Some.value c.in_ok-found.found reads
-    (c.in_ok-is_written.ensures.0 c.if-branch.true) c.in_ok-found.ensures
+    (c.is_text_of.ensures.0 c.if-is_text_of.true) c.in_ok-found.ensures
 
-pub returns-else-branch : goal.returns-else-branch
-returns-else-branch c =
+pub returns-else-is_text_of : goal.returns-else-is_text_of
+returns-else-is_text_of c =
     let text = c.args.text.now in
     let reads = subst (λ (x : Option Value). GivesOne text x) c.in-Some.is c.in_ok-value.ensures in
-    not_written c.written_is_read.ensures text c.in-Some.value reads (λ e. never c.in_ok-is_written.field-0 (c.in_ok-is_written.ensures.1 e) c.if-branch.false)
+    not_written c.written_is_read.ensures text c.in-Some.value reads (λ e. never c.is_text_of.result (c.is_text_of.ensures.1 e) c.if-is_text_of.false)

@@ -4,4 +4,5 @@ use Rattle.ledger_model.specs.Making.{revision_of}
 use Rattle.ledger_core.proofs.sealing.revisions_of.Given as goal
 
 abbrev pub invariant-drafts : goal.invariant-drafts
-invariant-drafts l = (l.revisions ≡ map (revision_of l.header) l.yielded) × (l.values ≡ map revision_value l.revisions)
+invariant-drafts l =
+    (l.valued.revisions ≡ map (revision_of l.header) (map (λ p. p.0) l.yielded)) × (l.valued.values ≡ map revision_value l.valued.revisions)

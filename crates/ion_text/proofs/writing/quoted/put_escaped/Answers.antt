@@ -8,5 +8,5 @@ high_of : (c : ℕ) (r : Bool) → r ≡ is_ascii c → r ≡ false → 128 ≤ 
 high_of c r is above = grind (arith, nat_tests)
 
 pub returns-else-is_ascii : goal.returns-else-is_ascii
-returns-else-is_ascii c =
+returns-else-is_ascii g c =
     rw (escapes-encode c.args.quote c.args.character c.requires (high_of c.args.character _ c.is_ascii.ensures c.if-is_ascii.false)) c.push.ensures

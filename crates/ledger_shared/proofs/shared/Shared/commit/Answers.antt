@@ -1,4 +1,5 @@
-use Rattle.std.proofs.Common.{◌≡◌, ◌∙◌, ◌∷◌, [], ◌++◌, List, Err, Result, ap, refl, rules, subst, sym}
+use Rattle.std.proofs.Common.{◌≡◌, ◌∙◌, ◌∷◌, [], ◌++◌, List, Err, Result, ap, refl, subst, sym}
+use Rattle.std.proofs.lemmas.Result.{err_from_is_err_and}
 use Rattle.std.specs.Prelude.{option_map}
 use Rattle.ledger_shared.specs.declared.entry.Entry as kept
 use Rattle.ledger_shared.specs.Behind.{SharedHeld, opening_of}
@@ -125,7 +126,8 @@ returns-in_err-make_room-clause-commits g c =
     let more = c.make_room.new.self.items.items in
     let o = opening_of told c.self.inside.opened.value in
     let es = all_told tail.standing.mask items in
-    let is : c.from_residual.result ≡ Err fault.OutOfMemory = search rules in
+    let told_by = err_from_is_err_and c.from_residual.result c.from_residual.ensures.1 in
+    let is : c.from_residual.result ≡ Err fault.OutOfMemory = rw (told_by.1, told_by.2) refl in
     rw (← c.self.view_is)
     (subst (λ (r : Result Receipt CommitFault). Extends es (all_told tail.standing.mask more) (Commits o es c.args.txn c.args.sent r)) (sym is)
     (commit_nothing told g.C.Clock.answers g.C.Clock.always c.self.inside.opened.value tail items more c.make_room.ensures.items c.args.txn c.args.sent))
